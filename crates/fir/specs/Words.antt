@@ -1,0 +1,22 @@
+-- What an exported function answers, as one 64-bit number. Definitions only.
+use Prim.Native.Nat.{ℕ, _+_, _*_}
+use mathlib.Core.Bool.{Bool, not}
+use lib.Dec.{eqb}
+use mir.Syntax.{w32}
+use mir.Val.{ofZ}
+use Rattle.refusal.specs.Answer.{Answer, given, refused}
+use Rattle.tap.specs.Rounding.{Coefficient, wholeOf}
+
+-- document 01: "refusal number (0 for none) in the upper half, N's 32-bit pattern in the lower (0 when turned down)"
+abbrev pub tapWord : Answer Coefficient → ℕ
+tapWord (given c) = ofZ w32 (wholeOf c)
+tapWord (refused number place) = number * 4294967296
+
+-- the refusal number in the upper half and its place in the lower; 0 for none
+abbrev pub refusalWord : {A : Type 0} → Answer A → ℕ
+refusalWord (given a) = 0
+refusalWord (refused number place) = number * 4294967296 + place
+
+-- a flag that C hands over: 0 is no, any other number is yes
+abbrev pub isSet : ℕ → Bool
+isSet n = not (eqb n 0)

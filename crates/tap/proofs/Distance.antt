@@ -1,0 +1,241 @@
+-- How far whole numbers are from the fraction ±a / d: `signed s (nearestWhole a d)` is nearest, and of two that are as near it is the larger in size. Assumes nothing.
+use mathlib.Core.Path.{_≡_, refl, sym, ap, _∙_, subst}
+use mathlib.Core.Logic.{_⊎_, inl, inr}
+use mathlib.Core.Bool.{Bool, true, false, not, cond}
+use Prim.Native.Nat.{ℕ, zero, suc, _+_, _-_, _*_, _≤_, _<_}
+use native.Mathlib.Nat.{le-trans, le-of-eq, add-mul, one-mul, zero-mul, mul-le-mul-right, le-antisymm}
+use native.Mathlib.Omega.{arith}
+use lib.IntN.{ℤ, pos, negsuc, negℤ, natAbs, subℕ, _+ℤ_, _-ℤ_, _*ℤ_, negℤ-negℤ, negℤ-+ℤ}
+use lib.Dec.{T, ltb, leb, ltb→lt, nltb→le}
+use borrow.Author.Tests.{lt-ltb, le-ltb, lt-leb, le-leb}
+use Rattle.tap.specs.Rounding.{nearestWhole, signed}
+use Rattle.tap.proofs.Whole.{nearest-near}
+use Rattle.tap.proofs.Rule.{nearest-within}
+use Rattle.tap.proofs.Exact.{apart, side, apart-le}
+
+-- ---- sizes of sums and differences
+order : (a b : ℕ) → (a < b) ⊎ (b ≤ a)
+order a b = go (ltb a b) (ltb→lt a b) (nltb→le a b)
+  where
+    go : (t : Bool) → (T t → a < b) → (T (not t) → b ≤ a) → (a < b) ⊎ (b ≤ a)
+    go true p q = inl (p tt)
+    go false p q = inr (q tt)
+
+pub size-neg : (z : ℤ) → natAbs (negℤ z) ≡ natAbs z
+size-neg (pos zero) = refl
+size-neg (pos (suc n)) = refl
+size-neg (negsuc n) = refl
+
+pub size-signed : (s : Bool) (n : ℕ) → natAbs (signed s n) ≡ n
+size-signed true n = size-neg (pos n)
+size-signed false n = refl
+
+size-less : (a x : ℕ) → natAbs (pos a +ℤ negℤ (pos x)) ≡ apart a x
+size-less a zero = go a
+  where
+    go : (a : ℕ) → a + 0 ≡ apart a 0
+    go a = omega arith
+size-less a (suc y) = go (order a (suc y))
+  where
+    less : (a y : ℕ) → a < suc y → suc (suc y - suc a) ≡ apart a (suc y)
+    less a y h = omega arith
+
+    more : (a y : ℕ) → suc y ≤ a → a - suc y ≡ apart a (suc y)
+    more a y h = omega arith
+
+    go : (a < suc y) ⊎ (suc y ≤ a) → natAbs (subℕ a (suc y)) ≡ apart a (suc y)
+    go (inl h) = ap (λ (b : Bool). natAbs (cond b (negsuc (suc y - suc a)) (pos (a - suc y)))) (lt-ltb a (suc y) h) ∙ less a y h
+    go (inr h) = ap (λ (b : Bool). natAbs (cond b (negsuc (suc y - suc a)) (pos (a - suc y)))) (le-ltb a (suc y) h) ∙ more a y h
+
+pub signed-mul : (s : Bool) (n d : ℕ) → signed s n *ℤ pos d ≡ signed s (n * d)
+signed-mul false n d = refl
+signed-mul true zero d = ap pos (zero-mul d) ∙ ap (λ (x : ℕ). negℤ (pos x)) (sym (zero-mul d))
+signed-mul true (suc n) d = refl
+
+-- a whole number as far from ±a / d as `distance` parts of d
+abbrev pub distance : Bool → ℕ → ℕ → ℤ → ℕ
+distance s a d z = natAbs (signed s a -ℤ z *ℤ pos d)
+
+-- on the same side of zero, and on the other
+same-side : (s : Bool) (a d k : ℕ) → distance s a d (signed s k) ≡ apart a (k * d)
+same-side false a d k = size-less a (k * d)
+same-side true a d k =
+    ap (λ (z : ℤ). natAbs (negℤ (pos a) -ℤ z)) (signed-mul true k d)
+    ∙ ap natAbs (sym (negℤ-+ℤ (pos a) (negℤ (pos (k * d)))))
+    ∙ size-neg (pos a +ℤ negℤ (pos (k * d)))
+    ∙ size-less a (k * d)
+
+other-side : (s : Bool) (a d k : ℕ) → distance s a d (signed (not s) k) ≡ a + k * d
+other-side false a d k =
+    ap (λ (z : ℤ). natAbs (pos a -ℤ z)) (signed-mul true k d) ∙ ap (λ (z : ℤ). natAbs (pos a +ℤ z)) (negℤ-negℤ (pos (k * d)))
+other-side true a d k = ap natAbs (sym (negℤ-+ℤ (pos a) (pos (k * d)))) ∙ size-neg (pos (a + k * d))
+
+-- every whole number is on one of the two
+abbrev Sided : Bool → ℤ → Type 0
+Sided s z = ((k : ℕ) × (signed s k ≡ z)) ⊎ ((k : ℕ) × (signed (not s) k ≡ z))
+
+sided : (s : Bool) (z : ℤ) → Sided s z
+sided false (pos k) = inl (k, refl)
+sided false (negsuc k) = inr (suc k, refl)
+sided true (pos k) = inr (k, refl)
+sided true (negsuc k) = inl (suc k, refl)
+
+-- ---- multiples of d
+next : (k n d : ℕ) → k < n → k * d + d ≤ n * d
+next k n d h = le-trans (le-of-eq (sym (add-mul k 1 d ∙ ap (λ (x : ℕ). k * d + x) (one-mul d)))) (mul-le-mul-right d (go k n h))
+  where
+    go : (k n : ℕ) → k < n → k + 1 ≤ n
+    go k n h = omega arith
+
+-- x is the multiple n * d within half of d of a, and y another one, k * d
+nearer : (a d x y : ℕ) → x * 2 ≤ a * 2 + d → a * 2 ≤ x * 2 + d → (y ≡ x) ⊎ ((y + d ≤ x) ⊎ (x + d ≤ y)) → apart a x ≤ apart a y
+nearer a d x y h k (inl e) = le-of-eq (ap (apart a) (sym e))
+nearer a d x y h k (inr (inl l)) = omega arith
+nearer a d x y h k (inr (inr l)) = omega arith
+
+beyond : (a d x y : ℕ) → 0 < d → a * 2 < x * 2 + d → x + d ≤ y → apart a x < apart a y
+beyond a d x y D h l = omega arith
+
+compared : (k n d : ℕ) → (k * d ≡ n * d) ⊎ ((k * d + d ≤ n * d) ⊎ (n * d + d ≤ k * d))
+compared k n d = go (order k n) (order n k)
+  where
+    go : (k < n) ⊎ (n ≤ k) → (n < k) ⊎ (k ≤ n) → (k * d ≡ n * d) ⊎ ((k * d + d ≤ n * d) ⊎ (n * d + d ≤ k * d))
+    go (inl h) q = inr (inl (next k n d h))
+    go (inr h) (inl g) = inr (inr (next n k d g))
+    go (inr h) (inr g) = inl (ap (λ (x : ℕ). x * d) (le-antisymm g h))
+
+-- ---- the number that `nearestWhole` gives
+module _ (s : Bool) (a d : ℕ) (D : 0 < d) where
+  abbrev N : ℤ
+  N = signed s (nearestWhole a d)
+
+  is-near : distance s a d N ≡ apart a (nearestWhole a d * d)
+  is-near = same-side s a d (nearestWhole a d)
+
+  pub none-nearer : (z : ℤ) → distance s a d N ≤ distance s a d z
+  none-nearer z = go (sided s z)
+    where
+      go : Sided s z → distance s a d N ≤ distance s a d z
+      go (inl w) =
+          let p = nearest-near a d D in
+          let l : apart a (nearestWhole a d * d) ≤ apart a (w .0 * d) = nearer a d (nearestWhole a d * d) (w .0 * d) (p .0) (p .1) (compared (w .0) (nearestWhole a d) d) in
+          le-trans (le-of-eq is-near) (le-trans l (le-of-eq (sym (same-side s a d (w .0)) ∙ ap (distance s a d) (w .1))))
+      go (inr w) =
+          let l : apart a (nearestWhole a d * d) ≤ a + w .0 * d = le-trans (apart-le a d D) (low a (w .0 * d)) in
+          le-trans (le-of-eq is-near) (le-trans l (le-of-eq (sym (other-side s a d (w .0)) ∙ ap (distance s a d) (w .1))))
+        where
+          low : (a y : ℕ) → a ≤ a + y
+          low a y = omega arith
+
+  pub none-larger : (z : ℤ) → distance s a d z ≡ distance s a d N → natAbs z ≤ natAbs N
+  none-larger z e = go (sided s z)
+    where
+      size : natAbs N ≡ nearestWhole a d
+      size = size-signed s (nearestWhole a d)
+
+      go : Sided s z → natAbs z ≤ natAbs N
+      go (inl w) = le-trans (le-of-eq (ap natAbs (sym (w .1)) ∙ size-signed s (w .0))) (le-trans (at-most (order (nearestWhole a d) (w .0))) (le-of-eq (sym size)))
+        where
+          irr : (x y : ℕ) → x ≡ y → y < x → ⊥
+          irr x y p q = omega arith
+
+          at-most : (nearestWhole a d < w .0) ⊎ (w .0 ≤ nearestWhole a d) → w .0 ≤ nearestWhole a d
+          at-most (inr h) = h
+          at-most (inl h) =
+              absurd
+              (irr (apart a (w .0 * d)) (apart a (nearestWhole a d * d)) (sym (same-side s a d (w .0)) ∙ ap (distance s a d) (w .1) ∙ e ∙ is-near)
+              (beyond a d (nearestWhole a d * d) (w .0 * d) D (nearest-within a d D .1) (next (nearestWhole a d) (w .0) d h)))
+      go (inr w) = le-trans (le-of-eq (ap natAbs (sym (w .1)) ∙ size-signed (not s) (w .0))) (le-trans (none (w .0) far) (low (natAbs N)))
+        where
+          far : a + w .0 * d ≤ a
+          far = le-trans (le-of-eq (sym (other-side s a d (w .0)) ∙ ap (distance s a d) (w .1) ∙ e ∙ is-near)) (apart-le a d D)
+
+          none : (k : ℕ) → a + k * d ≤ a → k ≤ 0
+          none zero h = le-of-eq refl
+          none (suc k) h = absurd (more a (suc k * d) d D (next 0 (suc k) d (pos-suc k)) h)
+            where
+              pos-suc : (k : ℕ) → 0 < suc k
+              pos-suc k = omega arith
+
+              more : (a y d : ℕ) → 0 < d → 0 * d + d ≤ y → a + y ≤ a → ⊥
+              more a y d D h l = omega (arith, zero-mul d)
+
+          low : (n : ℕ) → 0 ≤ n
+          low n = omega arith
+
+  -- no other number is both
+  pub no-other : (z : ℤ) → ((y : ℤ) → distance s a d z ≤ distance s a d y) → ((y : ℤ) → distance s a d y ≡ distance s a d z → natAbs y ≤ natAbs z) → z ≡ N
+  no-other z near large = go (sided s z)
+    where
+      e : distance s a d z ≡ distance s a d N
+      e = le-antisymm (near N) (none-nearer z)
+
+      size : natAbs z ≡ nearestWhole a d
+      size = le-antisymm (none-larger z e) (large N (sym e)) ∙ size-signed s (nearestWhole a d)
+
+      go : Sided s z → z ≡ N
+      go (inl w) = sym (w .1) ∙ ap (signed s) (sym (size-signed s (w .0)) ∙ ap natAbs (w .1) ∙ size)
+      go (inr w) =
+          let k : w .0 ≡ nearestWhole a d = sym (size-signed (not s) (w .0)) ∙ ap natAbs (w .1) ∙ size in
+          sym (w .1) ∙ ap (signed (not s)) k ∙ same (nearestWhole a d) (le-trans (le-of-eq (ap (λ (x : ℕ). a + x * d) (sym k) ∙ sym (other-side s a d (w .0)) ∙ ap (distance s a d) (w .1) ∙ e ∙ is-near)) (apart-le a d D))
+        where
+          zeros : (s : Bool) → signed (not s) 0 ≡ signed s 0
+          zeros true = refl
+          zeros false = refl
+
+          more : (a y : ℕ) → 0 < y → a + y ≤ a → ⊥
+          more a y h l = omega arith
+
+          same : (n : ℕ) → a + n * d ≤ a → signed (not s) n ≡ signed s n
+          same zero h = zeros s
+          same (suc n) h = absurd (more a (suc n * d) (le-trans D (le-trans (le-of-eq (sym (one-mul d))) (mul-le-mul-right d (one-le n)))) h)
+            where
+              one-le : (n : ℕ) → 1 ≤ suc n
+              one-le n = omega arith
+
+-- ---- ±a less ±n * d, with its sign
+order-leb : (x a : ℕ) → ((leb x a ≡ true) × (x ≤ a)) ⊎ ((leb x a ≡ false) × (a < x))
+order-leb x a = go (order a x)
+  where
+    go : (a < x) ⊎ (x ≤ a) → ((leb x a ≡ true) × (x ≤ a)) ⊎ ((leb x a ≡ false) × (a < x))
+    go (inl h) = inr (lt-leb x a h, h)
+    go (inr h) = inl (le-leb x a h, h)
+
+less-is : (a x : ℕ) → pos a +ℤ negℤ (pos x) ≡ signed (cond (leb x a) false true) (apart a x)
+less-is a x = go (order-leb x a)
+  where
+    up-to : (a x : ℕ) → x ≤ a → pos a +ℤ negℤ (pos x) ≡ pos (apart a x)
+    up-to a zero h = ap pos (nil a)
+      where
+        nil : (a : ℕ) → a + 0 ≡ apart a 0
+        nil a = omega arith
+    up-to a (suc y) h = ap (λ (b : Bool). cond b (negsuc (suc y - suc a)) (pos (a - suc y))) (le-ltb a (suc y) h) ∙ ap pos (rest a y h)
+      where
+        rest : (a y : ℕ) → suc y ≤ a → a - suc y ≡ apart a (suc y)
+        rest a y h = omega arith
+
+    over : (a x : ℕ) → a < x → pos a +ℤ negℤ (pos x) ≡ negℤ (pos (apart a x))
+    over a zero h = absurd (none a h)
+      where
+        none : (a : ℕ) → a < 0 → ⊥
+        none a h = omega arith
+    over a (suc y) h = ap (λ (b : Bool). cond b (negsuc (suc y - suc a)) (pos (a - suc y))) (lt-ltb a (suc y) h) ∙ ap (λ (k : ℕ). negℤ (pos k)) (rest a y h)
+      where
+        rest : (a y : ℕ) → a < suc y → suc (suc y - suc a) ≡ apart a (suc y)
+        rest a y h = omega arith
+
+    go : ((leb x a ≡ true) × (x ≤ a)) ⊎ ((leb x a ≡ false) × (a < x)) → pos a +ℤ negℤ (pos x) ≡ signed (cond (leb x a) false true) (apart a x)
+    go (inl h) = up-to a x (h .1) ∙ ap (λ (b : Bool). signed (cond b false true) (apart a x)) (sym (h .0))
+    go (inr h) = over a x (h .1) ∙ ap (λ (b : Bool). signed (cond b false true) (apart a x)) (sym (h .0))
+
+neg-signed : (b : Bool) (k : ℕ) → negℤ (signed (cond b false true) k) ≡ signed (cond b true false) k
+neg-signed true k = refl
+neg-signed false k = negℤ-negℤ (pos k)
+
+pub difference-is : (s : Bool) (a d n : ℕ) → signed s a -ℤ signed s n *ℤ pos d ≡ signed (side s a d n) (apart a (n * d))
+difference-is false a d n = less-is a (n * d)
+difference-is true a d n =
+    ap (λ (z : ℤ). negℤ (pos a) -ℤ z) (signed-mul true n d)
+    ∙ sym (negℤ-+ℤ (pos a) (negℤ (pos (n * d))))
+    ∙ ap negℤ (less-is a (n * d))
+    ∙ neg-signed (leb (n * d) a) (apart a (n * d))

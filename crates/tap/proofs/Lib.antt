@@ -1,0 +1,12 @@
+pub mod Whole
+pub mod Rule
+pub mod Rest
+pub mod Value
+pub mod Steps
+pub mod Bits
+pub mod Sign
+pub mod Answer
+pub mod Exact
+pub mod Distance
+pub mod Theorems
+pub mod Figures

@@ -1,0 +1,165 @@
+-- The answers of `round_quotients` and `round_taps`, by the checks that led to them. Assumes nothing.
+use mathlib.Core.Path.{_≡_, refl, sym, ap, _∙_, subst}
+use mathlib.Core.Bool.{Bool, true, false, not, _&&_, cond, true≢false, false≢true}
+use mathlib.Core.List.{List, [], _∷_, map}
+use Prim.Native.Nat.{ℕ, zero, suc, _+_, _-_, _*_, _/_, _%_, _^_, _≤_, _<_, compare}
+use native.Mathlib.Nat.{lt-irrefl, lt-of-lt-of-le}
+use native.Mathlib.Omega.{arith}
+use lib.IntN.{ℤ, pos, negsuc}
+use lib.Dec.{T, ltb, eqb}
+use lib.ListN.{length}
+use lib.Ieee.{Float, nan, inf, fin, binary64, round, nearest, size, units, odd, div, isNan, up, down, unlike}
+use borrow.Author.Tests.{lt-ltb, le-ltb, eq-eqb, ne-eqb}
+use Rattle.refusal.specs.Answer.{Answer, given, refused, refuseIf, refuseAt, Place, nowhere, at-place, lowestFrom, lowest}
+use Rattle.refusal.proofs.Checks.{check-applies, check-passes, lowest-all, lowest-alike, lowest-within}
+use Rattle.tap.specs.Rounding.{finite}
+use Rattle.tap_set.specs.declared.Report.{Report}
+use Rattle.tap_set.specs.Normalised.{sumOf, unusable, infinite, quotients, used, divisorOf}
+use Rattle.tap_set.specs.Set.{bounded, roundedTaps}
+use Rattle.tap_set.specs.Steps.{placeOr, settled}
+use Rattle.tap_set.proofs.Rounds.{notFinite, unnot}
+
+-- ---- the place that a scan found, or that it found none
+module _ (breaks : Float → Bool) (xs : List Float) (i n : ℕ) (e : i ≡ placeOr (length xs) (lowest breaks xs)) (s : length xs ≡ n) where
+  pub found : i < n → lowest breaks xs ≡ at-place i
+  found h = go (lowest breaks xs) e
+    where
+      go : (p : Place) → i ≡ placeOr (length xs) p → p ≡ at-place i
+      go nowhere q = absurd (same i (length xs) n q s h)
+        where
+          same : (i l n : ℕ) → i ≡ l → l ≡ n → i < n → ⊥
+          same i l n p q h = omega arith
+      go (at-place k) q = ap at-place (sym q)
+
+  pub found-none : n ≤ i → lowest breaks xs ≡ nowhere
+  found-none h = go (lowest breaks xs) refl e
+    where
+      go : (p : Place) → lowest breaks xs ≡ p → i ≡ placeOr (length xs) p → p ≡ nowhere
+      go nowhere w q = refl
+      go (at-place k) w q = absurd (past i k (length xs) n q s (lowest-within breaks 0 k xs w .1) h)
+        where
+          past : (i k l n : ℕ) → i ≡ k → l ≡ n → k < 0 + l → n ≤ i → ⊥
+          past i k l n p q r h = omega arith
+
+-- ---- a quotient of finite numbers is a number: it is infinite where it is not finite
+odd-number : (d : ℕ) (s : Bool) (q k l : ℕ) → isNan (odd d s q k l) ≡ false
+unfolding odd isNan
+odd-number d s zero k l = refl
+odd-number d s (suc q) k l = refl
+
+units-number : (s : Bool) (q k : ℕ) → isNan (units binary64 s q k) ≡ false
+unfolding units isNan
+units-number s q k = go (ltb (q * 2 ^ k) (2 ^ 2098)) (odd-number 54 s q k 1074)
+  where
+    go : (b : Bool) → isNan (odd 54 s q k 1074) ≡ false → isNan (cond b (odd 54 s q k 1074) (inf s)) ≡ false
+    go true h = h
+    go false h = refl
+
+round-number : (s : Bool) (a b : ℕ) → isNan (round binary64 s a b) ≡ false
+unfolding round
+round-number s a b =
+    let n = a * 2 ^ 1074 in
+    let k = size (n / b) - 53 in
+    let u = b * 2 ^ k in
+    units-number s (nearest (n / u) (compare (n % u * 2) u)) k
+
+div-number : (x y : Float) → finite x ≡ true → unusable y ≡ false → isNan (div binary64 x y) ≡ false
+unfolding div
+div-number nan y h u = absurd (false≢true h)
+div-number (inf s) y h u = absurd (false≢true h)
+div-number (fin s m e) nan h u = absurd (true≢false u)
+div-number (fin s m e) (inf t) h u = absurd (true≢false u)
+div-number (fin s m e) (fin t n d) h u =
+    ap (λ (b : Bool). isNan (cond b (cond (eqb m 0) nan (inf (unlike s t))) (round binary64 (unlike s t) (m * up e * down d) (n * up d * down e)))) u
+    ∙ round-number (unlike s t) (m * up e * down d) (n * up d * down e)
+
+infinite-number : (x : Float) → isNan x ≡ false → notFinite x ≡ infinite x
+unfolding isNan
+infinite-number nan h = absurd (true≢false h)
+infinite-number (inf s) h = refl
+infinite-number (fin s m e) h = refl
+
+pub infinite-quotients : (y : Float) (k j : ℕ) (xs : List Float) → unusable y ≡ false → lowestFrom k notFinite xs ≡ nowhere
+    → lowestFrom j notFinite (quotients y xs) ≡ lowestFrom j infinite (quotients y xs)
+unfolding lowestFrom
+infinite-quotients y k j [] u h = refl
+infinite-quotients y k j (x ∷ xs) u h =
+    let w = lowest-all notFinite k x xs h in
+    let n = div-number x y (unnot (finite x) (w .0)) u in
+    lowest-alike notFinite infinite j (div binary64 x y) (quotients y xs) (infinite-number (div binary64 x y) n) (infinite-quotients y (suc k) (suc j) xs u (w .1))
+
+-- ---- `settled`, normalised
+settled-is : (F : ℕ) (taps : List Float) → let S = sumOf taps in
+    settled F true taps ≡ refuseIf (unusable S) 7 (refuseAt (lowest infinite (quotients S taps)) 7 (bounded F S (quotients S taps)))
+unfolding settled
+settled-is F taps = refl
+
+pub sum-stop : (F : ℕ) (taps : List Float) → unusable (sumOf taps) ≡ true → refused 7 0 ≡ settled F true taps
+sum-stop F taps u = sym (settled-is F taps ∙ check-applies (unusable (sumOf taps)) 7 _ u)
+
+module _ (F : ℕ) (taps : List Float) (u : unusable (sumOf taps) ≡ false) (h : lowest notFinite taps ≡ nowhere) where
+  summed : settled F true taps ≡ refuseAt (lowest notFinite (quotients (sumOf taps) taps)) 7 (bounded F (sumOf taps) (quotients (sumOf taps) taps))
+  summed =
+      settled-is F taps
+      ∙ check-passes (unusable (sumOf taps)) 7 _ u
+      ∙ ap (λ (p : Place). refuseAt p 7 (bounded F (sumOf taps) (quotients (sumOf taps) taps))) (sym (infinite-quotients (sumOf taps) 0 0 taps u h))
+
+  pub quotient-stop : (i : ℕ) → lowest notFinite (quotients (sumOf taps) taps) ≡ at-place i → refused 7 i ≡ settled F true taps
+  quotient-stop i p = sym (summed ∙ ap (λ (w : Place). refuseAt w 7 (bounded F (sumOf taps) (quotients (sumOf taps) taps))) p)
+
+  pub quotients-pass : lowest notFinite (quotients (sumOf taps) taps) ≡ nowhere → bounded F (sumOf taps) (quotients (sumOf taps) taps) ≡ settled F true taps
+  quotients-pass p = sym (summed ∙ ap (λ (w : Place). refuseAt w 7 (bounded F (sumOf taps) (quotients (sumOf taps) taps))) p)
+
+-- ---- `settled`, not normalised
+never : (k : ℕ) (xs : List Float) → lowestFrom k (λ (q : Float). false && infinite q) xs ≡ nowhere
+unfolding lowestFrom
+never k [] = refl
+never k (x ∷ xs) = never (suc k) xs
+
+plain-is : (F : ℕ) (taps : List Float) → settled F false taps ≡ refuseAt (lowest (λ (q : Float). false && infinite q) taps) 7 (bounded F (fin false 1 (pos 0)) taps)
+unfolding settled
+plain-is F taps = refl
+
+pub plain-settled : (F : ℕ) (taps : List Float) → bounded F (fin false 1 (pos 0)) taps ≡ settled F false taps
+plain-settled F taps = sym (plain-is F taps ∙ ap (λ (p : Place). refuseAt p 7 (bounded F (fin false 1 (pos 0)) taps)) (never 0 taps))
+
+-- ---- `roundedTaps`
+module _ (F : ℕ) (normalised : Bool) (taps : List Float) (room : ℕ) where
+  all-is : roundedTaps F normalised taps room
+      ≡ refuseIf (eqb (length taps) 0) 1 (refuseIf (ltb 256 (length taps)) 2 (refuseIf (ltb room (length taps)) 3 (refuseIf (ltb 31 F) 4 (refuseAt (lowest notFinite taps) 5 (settled F normalised taps)))))
+  unfolding roundedTaps settled
+  all-is = refl
+
+  pub no-taps : length taps ≡ 0 → refused 1 0 ≡ roundedTaps F normalised taps room
+  no-taps h = sym (all-is ∙ check-applies (eqb (length taps) 0) 1 _ (eq-eqb (length taps) 0 h))
+
+  module _ (a : length taps ≡ 0 → ⊥) where
+    some-taps : roundedTaps F normalised taps room ≡ refuseIf (ltb 256 (length taps)) 2 (refuseIf (ltb room (length taps)) 3 (refuseIf (ltb 31 F) 4 (refuseAt (lowest notFinite taps) 5 (settled F normalised taps))))
+    some-taps = all-is ∙ check-passes (eqb (length taps) 0) 1 _ (ne-eqb (length taps) 0 a)
+
+    pub many-taps : 256 < length taps → refused 2 0 ≡ roundedTaps F normalised taps room
+    many-taps h = sym (some-taps ∙ check-applies (ltb 256 (length taps)) 2 _ (lt-ltb 256 (length taps) h))
+
+    module _ (b : length taps ≤ 256) where
+      few-taps : roundedTaps F normalised taps room ≡ refuseIf (ltb room (length taps)) 3 (refuseIf (ltb 31 F) 4 (refuseAt (lowest notFinite taps) 5 (settled F normalised taps)))
+      few-taps = some-taps ∙ check-passes (ltb 256 (length taps)) 2 _ (le-ltb 256 (length taps) b)
+
+      pub short-table : room < length taps → refused 3 0 ≡ roundedTaps F normalised taps room
+      short-table h = sym (few-taps ∙ check-applies (ltb room (length taps)) 3 _ (lt-ltb room (length taps) h))
+
+      module _ (d : length taps ≤ room) where
+        with-room : roundedTaps F normalised taps room ≡ refuseIf (ltb 31 F) 4 (refuseAt (lowest notFinite taps) 5 (settled F normalised taps))
+        with-room = few-taps ∙ check-passes (ltb room (length taps)) 3 _ (le-ltb room (length taps) d)
+
+        pub many-bits : 31 < F → refused 4 0 ≡ roundedTaps F normalised taps room
+        many-bits h = sym (with-room ∙ check-applies (ltb 31 F) 4 _ (lt-ltb 31 F h))
+
+        module _ (f : F ≤ 31) where
+          few-bits : roundedTaps F normalised taps room ≡ refuseAt (lowest notFinite taps) 5 (settled F normalised taps)
+          few-bits = with-room ∙ check-passes (ltb 31 F) 4 _ (le-ltb 31 F f)
+
+          pub not-finite : (i : ℕ) → lowest notFinite taps ≡ at-place i → refused 5 i ≡ roundedTaps F normalised taps room
+          not-finite i p = sym (few-bits ∙ ap (λ (w : Place). refuseAt w 5 (settled F normalised taps)) p)
+
+          pub all-finite : lowest notFinite taps ≡ nowhere → settled F normalised taps ≡ roundedTaps F normalised taps room
+          all-finite p = sym (few-bits ∙ ap (λ (w : Place). refuseAt w 5 (settled F normalised taps)) p)

@@ -1,0 +1,83 @@
+-- `tap_set::copy` meets its contract. Assumes nothing.
+use borrow.Author.Needs.{needs}
+use mathlib.Core.Path.{_≡_, refl, sym, ap, _∙_}
+use mathlib.Core.List.{List, _++_}
+use Prim.Native.Nat.{ℕ, _-_, _≤_, _<_}
+use native.Mathlib.Omega.{arith}
+use lib.IntN.{ℤ, pos}
+use lib.ListN.{length, length-set, take, drop, set, getD}
+use mir.Syntax.{w32}
+use mir.Val.{toZ, ofZ}
+use mir.ValLaws.{toZ-ofZ}
+use Rattle.refusal.proofs.Tables.{front, front-next, map-same}
+use Rattle.tap_set.proofs.copy.Statement.{statement}
+use Rattle.tap_set.proofs.copy.Tie as tie
+
+abbrev same : ℤ → ℤ
+same z = z
+
+abbrev Inv-loop : tie.InvT-loop
+Inv-loop from n to₀ i₀ to i = (i ≤ n) × (to ≡ front same from to₀ i) × (length to ≡ length to₀)
+
+abbrev μ-loop : tie.MeasureT-loop
+μ-loop from n to₀ i₀ to i = n - i
+
+loop-holds : tie.Need-loop-holds Inv-loop μ-loop
+loop-holds c = (search needs, refl, refl)
+
+mul-to : tie.Need-mul-to Inv-loop μ-loop
+mul-to c = search needs
+
+shared-slice-copy-out-to : tie.Need-shared-slice-copy-out-to Inv-loop μ-loop
+shared-slice-copy-out-to c = search needs
+
+mul-t9 : tie.Need-mul-t9 Inv-loop μ-loop
+mul-t9 c = search needs
+
+slice-set-from-to : tie.Need-slice-set-from-to Inv-loop μ-loop
+slice-set-from-to c = search needs
+
+add-i : tie.Need-add-i Inv-loop μ-loop
+add-i c = search needs
+
+loop-less : tie.Need-loop-less Inv-loop μ-loop
+loop-less c = search needs
+
+loop-again : tie.Need-loop-again Inv-loop μ-loop
+loop-again c =
+    let l = c .before .before in
+    let a = l .before .args in
+    let z = getD (a .from .now) (l .loop .i) (pos 0) in (
+      search needs,
+      ap (λ (y : ℤ). set (l .loop .to) (l .loop .i) y) (toZ-ofZ w32 z (record { sfits = c .to .given }))
+          ∙ ap (λ (t : List ℤ). set t (l .loop .i) z) (l .loop .inv .1)
+          ∙ front-next same (pos 0) (a .from .now) (a .to .now) (l .loop .i) (omega arith) (omega arith),
+      length-set (l .loop .to) (l .loop .i) _ ∙ l .loop .inv .2,
+    )
+
+same-length : tie.Need-same-length Inv-loop μ-loop
+same-length c = search needs
+
+returns : tie.Need-returns Inv-loop μ-loop
+returns c =
+    let l = c .before in
+    let a = l .before .args in
+    let e : l .loop .i ≡ a .n = omega arith in
+    l .loop .inv .1 ∙ ap (front same (a .from .now) (a .to .now)) e ∙ ap (λ (r : List ℤ). r ++ drop (a .n) (a .to .now)) (map-same (take (a .n) (a .from .now)))
+
+pub copy-spec : {M : Type 1} → statement M
+copy-spec =
+    tie.close
+    (tie.spec
+    Inv-loop
+    μ-loop
+    loop-holds
+    mul-to
+    shared-slice-copy-out-to
+    mul-t9
+    slice-set-from-to
+    add-i
+    loop-less
+    loop-again
+    same-length
+    returns)

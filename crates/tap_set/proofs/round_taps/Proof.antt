@@ -1,0 +1,168 @@
+-- `tap_set::round_taps` meets its contract: each answer is a law of proofs/Settled.antt. Assumes nothing.
+use borrow.Author.Needs.{needs}
+use mathlib.Core.Path.{_≡_, refl, sym, ap, subst, _∙_}
+use mathlib.Core.Bool.{Bool, true, false}
+use mathlib.Core.List.{List}
+use Prim.Native.Nat.{ℕ, _≤_}
+use lib.IntN.{ℤ, pos}
+use lib.ListN.{length}
+use lib.Ieee.{Float, fin, binary64, ofBits}
+use Rattle.refusal.specs.Answer.{Answer, filled, lowest, nowhere}
+use Rattle.tap_set.specs.declared.Report.{Report}
+use Rattle.tap_set.specs.Normalised.{used}
+use Rattle.tap_set.specs.Set.{answerOf, coefficientsOf, bounded, roundedTaps}
+use Rattle.tap_set.specs.Steps.{settled}
+use Rattle.tap_set.proofs.Rounds.{notFinite}
+use Rattle.tap_set.proofs.Settled.{found, found-none, plain-settled, no-taps, many-taps, short-table, many-bits, not-finite, all-finite}
+use Rattle.tap_set.proofs.round_taps.Statement.{statement}
+use Rattle.tap_set.proofs.round_taps.Tie as tie
+
+-- the coefficients and the table, of the arguments
+abbrev table : (c : tie.Start) → Answer Report → List ℤ
+table c b = let a = c .args in filled b (coefficientsOf (a .fraction-bits) (used (a .normalised) (a .taps .now))) (a .coefficients .now)
+
+abbrev answer : (c : tie.Start) → Answer Report
+answer c = let a = c .args in roundedTaps (a .fraction-bits) (a .normalised) (a .taps .now) (length (a .coefficients .now))
+
+-- 1.0 by its bit pattern, as the code has it
+one-is : ofBits binary64 0x3ff0_0000_0000_0000 ≡ fin false 1 (pos 0)
+unfolding ofBits
+one-is = refl
+
+-- the checks 1 to 4 have passed, and 5
+passed : (c : tie.Else5) → let s = c .before .before .before .before .before .before .before in lowest notFinite (s .args .taps .now) ≡ nowhere
+passed c =
+    let n = c .before in
+    let taps = n .before .before .before .before .before .before .args .taps .now in
+    found-none notFinite taps (n .first-not-finite .result) (length taps) (n .first-not-finite .ensures) refl (c .if5 .left)
+
+settled-is : (c : tie.Else5) → let s = c .before .before .before .before .before .before .before in let a = s .args in settled (a .fraction-bits) (a .normalised) (a .taps .now) ≡ answer s
+settled-is c =
+    let e4 = c .before .before in
+    let e3 = e4 .before in
+    let e2 = e3 .before in
+    let e1 = e2 .before in
+    let s = e1 .before .before in
+    let a = s .args in
+    all-finite (a .fraction-bits) (a .normalised) (a .taps .now) (length (a .coefficients .now)) (e1 .if1 .left) (e2 .if2 .left) (e3 .if3 .left) (e4 .if4 .left) (passed c)
+
+returns : tie.Need-returns
+returns c =
+    let s = c .before .before in
+    let a = s .args in
+    let e = no-taps (a .fraction-bits) (a .normalised) (a .taps .now) (length (a .coefficients .now)) (c .if1 .taken) in
+    (e, ap (table s) e)
+
+returns-2 : tie.Need-returns-2
+returns-2 c =
+    let e1 = c .before in
+    let s = e1 .before .before in
+    let a = s .args in
+    let e = many-taps (a .fraction-bits) (a .normalised) (a .taps .now) (length (a .coefficients .now)) (e1 .if1 .left) (c .if2 .taken) in
+    (e, ap (table s) e)
+
+returns-3 : tie.Need-returns-3
+returns-3 c =
+    let e2 = c .before in
+    let e1 = e2 .before in
+    let s = e1 .before .before in
+    let a = s .args in
+    let e = short-table (a .fraction-bits) (a .normalised) (a .taps .now) (length (a .coefficients .now)) (e1 .if1 .left) (e2 .if2 .left) (c .if3 .taken) in
+    (e, ap (table s) e)
+
+returns-4 : tie.Need-returns-4
+returns-4 c =
+    let e3 = c .before in
+    let e2 = e3 .before in
+    let e1 = e2 .before in
+    let s = e1 .before .before in
+    let a = s .args in
+    let e = many-bits (a .fraction-bits) (a .normalised) (a .taps .now) (length (a .coefficients .now)) (e1 .if1 .left) (e2 .if2 .left) (e3 .if3 .left) (c .if4 .taken) in
+    (e, ap (table s) e)
+
+first-not-finite-requires : tie.Need-first-not-finite-requires
+first-not-finite-requires c κs = search needs
+
+cast-t13 : tie.Need-cast-t13
+cast-t13 c = search needs
+
+returns-5 : tie.Need-returns-5
+returns-5 c =
+    let n = c .before in
+    let e4 = n .before in
+    let e3 = e4 .before in
+    let e2 = e3 .before in
+    let e1 = e2 .before in
+    let s = e1 .before .before in
+    let a = s .args in
+    let i = n .first-not-finite .result in
+    let p = found notFinite (a .taps .now) i (length (a .taps .now)) (n .first-not-finite .ensures) refl (c .if5 .taken) in
+    let e = not-finite (a .fraction-bits) (a .normalised) (a .taps .now) (length (a .coefficients .now)) (e1 .if1 .left) (e2 .if2 .left) (e3 .if3 .left) (e4 .if4 .left) i p in
+    (e, ap (table s) e)
+
+round-quotients-requires : tie.Need-round-quotients-requires
+round-quotients-requires c κs =
+    let e5 = c .before .before in
+    let e4 = e5 .before .before in
+    (e4 .if4 .left, e4 .before .before .if2 .left, e4 .before .if3 .left, passed e5)
+
+settle-requires : tie.Need-settle-requires
+settle-requires c κs =
+    let e5 = c .before .before in
+    let e4 = e5 .before .before in
+    (e4 .if4 .left, e4 .before .before .if2 .left, e4 .before .if3 .left, passed e5)
+
+same-length : tie.Need-same-length
+same-length c = search needs
+
+returns-6 : tie.Need-returns-6
+returns-6 c =
+    let k = c .before in
+    let t = k .before .before in
+    let e5 = t .before in
+    let s = e5 .before .before .before .before .before .before .before in
+    let a = s .args in
+    let b = ap (λ (n : Bool). settled (a .fraction-bits) n (a .taps .now)) (sym (t .if6 .taken)) ∙ settled-is e5 in (
+      k .round-quotients .ensures .0 ∙ b,
+      k .round-quotients .ensures .1
+          ∙ ap (λ (r : Answer Report). filled r (coefficientsOf (a .fraction-bits) (used true (a .taps .now))) (a .coefficients .now)) b
+          ∙ ap (λ (n : Bool). filled (answer s) (coefficientsOf (a .fraction-bits) (used n (a .taps .now))) (a .coefficients .now)) (sym (t .if6 .taken)),
+    )
+
+same-length-2 : tie.Need-same-length-2
+same-length-2 c = search needs
+
+returns-7 : tie.Need-returns-7
+returns-7 c =
+    let k = c .before in
+    let t = k .before .before in
+    let e5 = t .before in
+    let s = e5 .before .before .before .before .before .before .before in
+    let a = s .args in
+    let b = ap (λ (d : Float). bounded (a .fraction-bits) d (a .taps .now)) one-is
+    ∙ plain-settled (a .fraction-bits) (a .taps .now)
+    ∙ ap (λ (n : Bool). settled (a .fraction-bits) n (a .taps .now)) (sym (t .if6 .left))
+    ∙ settled-is e5 in (
+      k .settle .ensures .0 ∙ b,
+      k .settle .ensures .1
+          ∙ ap (λ (r : Answer Report). filled r (coefficientsOf (a .fraction-bits) (used false (a .taps .now))) (a .coefficients .now)) b
+          ∙ ap (λ (n : Bool). filled (answer s) (coefficientsOf (a .fraction-bits) (used n (a .taps .now))) (a .coefficients .now)) (sym (t .if6 .left)),
+    )
+
+pub round-taps-spec : {M : Type 1} → statement M
+round-taps-spec =
+    tie.close
+    (tie.spec
+    returns
+    returns-2
+    returns-3
+    returns-4
+    first-not-finite-requires
+    cast-t13
+    returns-5
+    round-quotients-requires
+    settle-requires
+    same-length
+    returns-6
+    same-length-2
+    returns-7)

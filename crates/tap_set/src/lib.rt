@@ -1,0 +1,234 @@
+// A set of binary64 taps rounded to whole coefficients, as they are or normalised.
+ghost use mathlib.Core.Path.{_≡_};
+ghost use mathlib.Core.Bool.{true, false, not};
+ghost use mathlib.Core.List.{_++_};
+ghost use Prim.Native.Nat.{_≤_};
+ghost use lib.ListN.{length, take, drop};
+ghost use lib.Ieee.{Float};
+ghost use Rattle.refusal.specs.Answer.{nowhere, lowest, filled};
+ghost use Rattle.tap.specs.Rounding as Tap;
+ghost use Rattle.tap_set.specs.Normalised.{sumOf, unusable, quotients, used};
+ghost use Rattle.tap_set.specs.Set.{largerOf, coefficientsOf, bounded, roundedTaps, answerOf};
+ghost use Rattle.tap_set.specs.Steps.{placeOr, isRefused, wholeIn, leftIn, withLeftover, Front, settled};
+use refusal::Refusal;
+use tap::RoundedTap;
+
+// The divisor, and the largest leftover by magnitude with its sign.
+pub struct Report {
+    pub divisor: f64,
+    pub leftover: f64,
+}
+
+pub enum RoundedTaps {
+    Given(Report),
+    Refused(Refusal),
+}
+
+// The place of the first number that is not finite, or the length.
+fn first_not_finite(xs: &[f64]) -> usize
+    ensures { λ r. ⌜ r ≡ placeOr (length (now (xs .entry))) (lowest (λ (x : Float). not (Tap.finite x)) (now (xs .entry))) ⌝ }
+{
+    let mut i = 0;
+    while i < xs.len() {
+        if !tap::finite::is_finite(xs[i]) {
+            return i;
+        }
+        i += 1;
+    }
+    i
+}
+
+// The taps added in order, from +0.
+fn total(taps: &[f64]) -> f64
+    ensures { λ r. ⌜ r ≡ sumOf (now (taps .entry)) ⌝ }
+{
+    let mut sum = 0.0;
+    let mut i = 0;
+    while i < taps.len() {
+        sum = sum + taps[i];
+        i += 1;
+    }
+    sum
+}
+
+// Whether taps can be divided by the sum.
+fn is_usable(sum: f64) -> bool
+    ensures { λ r. ⌜ r ≡ not (unusable sum) ⌝ }
+{
+    if tap::finite::is_finite(sum) {
+        sum != 0.0
+    } else {
+        false
+    }
+}
+
+// Each tap divided by the sum, into the front of the table.
+fn divide(taps: &[f64], sum: f64, table: &mut [f64])
+    requires { ⌜ length (now taps) ≤ length (now table) ⌝ }
+    ensures { λ r. ⌜ now (table .exit) ≡ quotients sum (now (taps .entry)) ++ drop (length (now (taps .entry))) (now (table .entry)) ⌝ }
+{
+    let mut i = 0;
+    while i < taps.len() {
+        table[i] = taps[i] / sum;
+        i += 1;
+    }
+}
+
+// Of two leftovers the larger in magnitude, and the first where they are as large.
+fn larger(x: f64, y: f64) -> f64
+    ensures { λ r. ⌜ r ≡ largerOf x y ⌝ }
+{
+    if tap::magnitude(x) < tap::magnitude(y) {
+        y
+    } else {
+        x
+    }
+}
+
+fn is_refused(tap: RoundedTap) -> bool
+    ensures { λ r. ⌜ r ≡ isRefused (Tap.answerOf tap) ⌝ }
+{
+    match tap {
+        RoundedTap::Exact(_) => false,
+        RoundedTap::Rounded(_, _) => false,
+        RoundedTap::Refused(_) => true,
+    }
+}
+
+fn coefficient(tap: RoundedTap) -> i32
+    ensures { λ r. ⌜ r ≡ wholeIn (Tap.answerOf tap) ⌝ }
+{
+    match tap {
+        RoundedTap::Exact(n) => n,
+        RoundedTap::Rounded(n, _) => n,
+        RoundedTap::Refused(_) => 0,
+    }
+}
+
+fn leftover(tap: RoundedTap) -> f64
+    ensures { λ r. ⌜ r ≡ leftIn (Tap.answerOf tap) ⌝ }
+{
+    match tap {
+        RoundedTap::Exact(_) => 0.0,
+        RoundedTap::Rounded(_, l) => l,
+        RoundedTap::Refused(_) => 0.0,
+    }
+}
+
+// The report with one tap more.
+fn with_tap(report: Report, tap: RoundedTap) -> Report
+    ensures { λ r. ⌜ r ≡ withLeftover report (leftIn (Tap.answerOf tap)) ⌝ }
+{
+    Report {
+        divisor: report.divisor,
+        leftover: larger(report.leftover, leftover(tap)),
+    }
+}
+
+// Rounds the numbers into the front of the buffer, up to the first whose coefficient is out of
+// bounds. The report is handed on from number to number.
+fn round_all(xs: &[f64], f: u32, divisor: f64, buffer: &mut [i32]) -> RoundedTaps
+    requires { ⌜ (f ≤ 31) × (length (now xs) ≤ 256) × (256 ≤ length (now buffer)) × (lowest (λ (x : Float). not (Tap.finite x)) (now xs) ≡ nowhere) ⌝ }
+    ensures { λ r. ⌜ answerOf r ≡ bounded f divisor (now (xs .entry)) ⌝ }
+    ensures { λ r. ⌜ Front (answerOf r) (coefficientsOf f (now (xs .entry))) (now (buffer .entry)) (now (buffer .exit)) ⌝ }
+{
+    let mut report = Report {
+        divisor,
+        leftover: 0.0,
+    };
+    let mut i = 0;
+    while i < xs.len() {
+        let rounded = tap::round_tap(xs[i], f);
+        if is_refused(rounded) {
+            return RoundedTaps::Refused(Refusal::OutOfBounds(i as u32));
+        }
+        buffer[i] = coefficient(rounded);
+        report = with_tap(report, rounded);
+        i += 1;
+    }
+    RoundedTaps::Given(report)
+}
+
+// The first n elements, from one table to the other.
+fn copy(from: &[i32], n: usize, to: &mut [i32])
+    requires { ⌜ (n ≤ length (now from)) × (n ≤ length (now to)) ⌝ }
+    ensures { λ r. ⌜ now (to .exit) ≡ take n (now (from .entry)) ++ drop n (now (to .entry)) ⌝ }
+{
+    let mut i = 0;
+    while i < n {
+        to[i] = from[i];
+        i += 1;
+    }
+}
+
+// The coefficients of finite numbers: all of them, or none is written.
+fn settle(xs: &[f64], f: u32, divisor: f64, coefficients: &mut [i32]) -> RoundedTaps
+    requires { ⌜ (f ≤ 31) × (length (now xs) ≤ 256) × (length (now xs) ≤ length (now coefficients)) × (lowest (λ (x : Float). not (Tap.finite x)) (now xs) ≡ nowhere) ⌝ }
+    ensures { λ r. ⌜ answerOf r ≡ bounded f divisor (now (xs .entry)) ⌝ }
+    ensures { λ r. ⌜ now (coefficients .exit) ≡ filled (bounded f divisor (now (xs .entry))) (coefficientsOf f (now (xs .entry))) (now (coefficients .entry)) ⌝ }
+{
+    let mut buffer = [0i32; 256];
+    let answer = round_all(xs, f, divisor, &mut buffer);
+    match answer {
+        RoundedTaps::Refused(refusal) => RoundedTaps::Refused(refusal),
+        RoundedTaps::Given(report) => {
+            copy(&buffer, xs.len(), coefficients);
+            RoundedTaps::Given(report)
+        }
+    }
+}
+
+// Normalised mode, for finite taps: each tap is divided by the sum, and the quotients are rounded.
+fn round_quotients(taps: &[f64], f: u32, coefficients: &mut [i32]) -> RoundedTaps
+    requires { ⌜ (f ≤ 31) × (length (now taps) ≤ 256) × (length (now taps) ≤ length (now coefficients)) × (lowest (λ (x : Float). not (Tap.finite x)) (now taps) ≡ nowhere) ⌝ }
+    ensures { λ r. ⌜ answerOf r ≡ settled f true (now (taps .entry)) ⌝ }
+    ensures { λ r. ⌜ now (coefficients .exit) ≡ filled (settled f true (now (taps .entry))) (coefficientsOf f (used true (now (taps .entry)))) (now (coefficients .entry)) ⌝ }
+{
+    let sum = total(taps);
+    if !is_usable(sum) {
+        return RoundedTaps::Refused(Refusal::NotNormalisable(0));
+    }
+    let mut table = [0.0f64; 256];
+    divide(taps, sum, &mut table);
+    let n = taps.len();
+    let at = first_not_finite(&table[..n]);
+    if at < n {
+        return RoundedTaps::Refused(Refusal::NotNormalisable(at as u32));
+    }
+    settle(&table[..n], f, sum, coefficients)
+}
+
+// The taps times 2^F, or in normalised mode their quotients by the sum of the taps, rounded to
+// whole coefficients. The lent table is written only where all of them are accepted.
+pub fn round_taps(
+    taps: &[f64],
+    fraction_bits: u32,
+    normalised: bool,
+    coefficients: &mut [i32],
+) -> RoundedTaps
+    ensures answer { λ r. ⌜ answerOf r ≡ roundedTaps «fraction_bits» normalised (now (taps .entry)) (length (now (coefficients .entry))) ⌝ }
+    ensures written { λ r. ⌜ now (coefficients .exit) ≡ filled (roundedTaps «fraction_bits» normalised (now (taps .entry)) (length (now (coefficients .entry)))) (coefficientsOf «fraction_bits» (used normalised (now (taps .entry)))) (now (coefficients .entry)) ⌝ }
+{
+    let n = taps.len();
+    if n == 0 {
+        return RoundedTaps::Refused(Refusal::NoTaps);
+    }
+    if n > 256 {
+        return RoundedTaps::Refused(Refusal::TooManyTaps);
+    }
+    if coefficients.len() < n {
+        return RoundedTaps::Refused(Refusal::ShortTable);
+    }
+    if fraction_bits > 31 {
+        return RoundedTaps::Refused(Refusal::FractionBits);
+    }
+    let at = first_not_finite(taps);
+    if at < n {
+        return RoundedTaps::Refused(Refusal::TapNotFinite(at as u32));
+    }
+    if normalised {
+        round_quotients(taps, fraction_bits, coefficients)
+    } else {
+        settle(taps, fraction_bits, 1.0, coefficients)
+    }
+}

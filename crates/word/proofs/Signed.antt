@@ -1,0 +1,52 @@
+-- The bits of a signed number n of width w, in a width v that is as wide or wider: one law for every pair of widths. Assumes nothing.
+use mathlib.Core.Path.{_≡_, refl, subst, _∙_, ap}
+use mathlib.Core.Bool.{true, false}
+use Prim.Native.Nat.{ℕ, suc, _-_, _^_, _<_, _≤_}
+use native.Mathlib.Omega.{arith}
+use borrow.Author.Tests.{ltb-true}
+use lib.Dec.{T}
+use lib.IntN.{ℤ, pos, negsuc, natAbs}
+use lib.Signed.{mag, ltZ, nonNeg}
+use mir.Syntax.{Width}
+use mir.Val.{SFits, Fits, toZ, ofZ, bits, hbits}
+use mir.ValLaws.{toZ-ofZ, toZ-pos, half-full}
+
+module _ (w : Width) where
+  -- all bits of a negative number turned over are its magnitude less one
+  turned : (n : ℤ) → SFits w n → ltZ n (pos 0) ≡ true → toZ w (2 ^ bits w - 1 - ofZ w n) ≡ pos (mag n)
+  turned (pos k) h p = absurd (omega (arith, ltb-true k 0 p))
+  turned (negsuc k) h p =
+      let e : 2 ^ bits w - 1 - (2 ^ bits w - suc k) ≡ k = omega (arith, half-full w (h .sfits)) in
+      ap (toZ w) e ∙ toZ-pos w k (h .sfits)
+
+  neg-pattern : (v : Width) (n : ℤ) → mag n < 2 ^ bits v → ltZ n (pos 0) ≡ true → 2 ^ bits v - 1 - mag n ≡ ofZ v n
+  neg-pattern v (pos k) h p = absurd (omega (arith, ltb-true k 0 p))
+  neg-pattern v (negsuc k) h p = omega (arith, h)
+
+  nonneg : (n : ℤ) → ltZ n (pos 0) ≡ false → n ≡ pos (mag n)
+  nonneg (pos k) p = refl
+  nonneg (negsuc k) p = absurd (subst T p tt)
+
+  module _ (v : Width) (n : ℤ) (h : SFits w n) (wide : 2 ^ hbits w ≤ 2 ^ hbits v) where
+    room : mag n < 2 ^ bits v
+    room = half-full v (omega (arith, h .sfits, wide))
+
+    low : ltZ (toZ w (ofZ w n)) (pos 0) ≡ true → ltZ n (pos 0) ≡ true
+    low p = rw (toZ-ofZ w n h) at p
+
+    -- n is negative
+    pub neg-cast : ltZ (toZ w (ofZ w n)) (pos 0) ≡ true → T (nonNeg (toZ w (2 ^ bits w - 1 - ofZ w n))) × Fits v (natAbs (toZ w (2 ^ bits w - 1 - ofZ w n)))
+    neg-cast p = rw (turned n h (low p)) (tt, record { fits = room })
+
+    pub neg-small : ltZ (toZ w (ofZ w n)) (pos 0) ≡ true → natAbs (toZ w (2 ^ bits w - 1 - ofZ w n)) < 2 ^ hbits v
+    neg-small p = rw (turned n h (low p)) (omega (arith, h .sfits, wide))
+
+    pub neg-is : ltZ (toZ w (ofZ w n)) (pos 0) ≡ true → 2 ^ bits v - 1 - natAbs (toZ w (2 ^ bits w - 1 - ofZ w n)) ≡ ofZ v n
+    neg-is p = rw (turned n h (low p)) (neg-pattern v n room (low p))
+
+    -- n is not negative
+    pub pos-cast : ltZ (toZ w (ofZ w n)) (pos 0) ≡ false → T (nonNeg (toZ w (ofZ w n))) × Fits v (natAbs (toZ w (ofZ w n)))
+    pos-cast p = rw (toZ-ofZ w n h) (rw (nonneg n (rw (toZ-ofZ w n h) at p)) (tt, record { fits = room }))
+
+    pub pos-is : ltZ (toZ w (ofZ w n)) (pos 0) ≡ false → natAbs (toZ w (ofZ w n)) ≡ ofZ v n
+    pos-is p = rw (toZ-ofZ w n h) (rw (nonneg n (rw (toZ-ofZ w n h) at p)))

@@ -1,0 +1,51 @@
+//! The 64-bit number that an entry answers, and its two halves.
+
+/// What the entry for one tap answers.
+#[derive(Clone, Copy, Debug, PartialEq, Eq)]
+pub struct TapAnswer {
+    /// 0 for none.
+    pub refusal: u32,
+    /// 0 when turned down.
+    pub coefficient: i32,
+}
+
+/// What the entry for a set answers. The values are in the memory lent to it.
+#[derive(Clone, Copy, Debug, PartialEq, Eq)]
+pub struct SetAnswer {
+    /// 0 for none.
+    pub refusal: u32,
+    /// 0 for none.
+    pub place: u32,
+}
+
+pub const ACCEPTED: SetAnswer = SetAnswer {
+    refusal: 0,
+    place: 0,
+};
+
+impl TapAnswer {
+    pub fn refused(refusal: u32) -> Self {
+        TapAnswer {
+            refusal,
+            coefficient: 0,
+        }
+    }
+}
+
+impl From<u64> for TapAnswer {
+    fn from(packed: u64) -> Self {
+        TapAnswer {
+            refusal: (packed >> 32) as u32,
+            coefficient: packed as u32 as i32,
+        }
+    }
+}
+
+impl From<u64> for SetAnswer {
+    fn from(packed: u64) -> Self {
+        SetAnswer {
+            refusal: (packed >> 32) as u32,
+            place: packed as u32,
+        }
+    }
+}

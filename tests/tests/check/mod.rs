@@ -1,0 +1,116 @@
+//! One input through the core and the fast version, each compared with the literal one.
+
+use fir_tests::answer::ACCEPTED;
+use fir_tests::literal::{self, Tap};
+use fir_tests::set::{Outcome, Set, DIVISOR_BEFORE, GUARD, LEFTOVER_BEFORE};
+use fir_tests::{core, fast};
+use std::collections::HashSet;
+
+/// What came up, counted by the literal version.
+#[derive(Default)]
+pub struct Tally {
+    pub exact: usize,
+    pub rounded: usize,
+    pub halves: usize,
+    pub refused: [usize; 8],
+    /// `beside[a][b]`: a was returned, and b applied as well.
+    pub beside: [[usize; 8]; 8],
+    /// The same, with b at a lower place than a.
+    pub lower: [[usize; 8]; 8],
+    pub places: [HashSet<u32>; 8],
+    /// Accepted sets whose largest leftover has an equal of the other sign.
+    pub ties: usize,
+    pub normalised: usize,
+}
+
+pub fn check_tap(bits: u64, fraction_bits: u32, tally: &mut Tally) {
+    let wanted = literal::round_tap(bits, fraction_bits);
+    let at = || format!("tap {bits:#018x}, F = {fraction_bits}");
+    assert_eq!(core::round_tap(bits, fraction_bits), wanted, "{}", at());
+    assert_eq!(fast::round_tap(bits, fraction_bits), wanted, "{}", at());
+    match literal::tap(bits, fraction_bits) {
+        Tap::Exact(_) => tally.exact += 1,
+        Tap::Rounded(_, leftover) => {
+            tally.rounded += 1;
+            tally.halves += (f64::from_bits(leftover).abs() == 0.5) as usize;
+        }
+        Tap::Refused(refusal) => tally.refused[refusal as usize] += 1,
+    }
+    // The set entry shows the leftover too.
+    let tap = [f64::from_bits(bits)];
+    check_set(&Set::new(&tap, fraction_bits, 0), &mut Tally::default());
+}
+
+pub fn show(set: &Set) -> String {
+    let bits = set.taps.iter().map(|tap| tap.to_bits());
+    let bits: Vec<String> = bits.map(|bits| format!("{bits:#018x}")).collect();
+    format!(
+        "{} taps, F = {}, normalised = {}, table of {}: {}",
+        set.taps.len(),
+        set.fraction_bits,
+        set.normalised,
+        set.table,
+        bits.join(" ")
+    )
+}
+
+/// What holds of every outcome, whatever the literal version says.
+fn check_outcome(set: &Set, outcome: &Outcome) {
+    let before = set.memory_before();
+    if outcome.answer.refusal != 0 {
+        assert_eq!(outcome.memory, before, "{}", show(set));
+        assert_eq!(outcome.divisor, DIVISOR_BEFORE, "{}", show(set));
+        assert_eq!(outcome.leftover, LEFTOVER_BEFORE, "{}", show(set));
+        return;
+    }
+    let end = GUARD + set.taps.len();
+    assert_eq!(outcome.answer, ACCEPTED, "{}", show(set));
+    assert_eq!(outcome.memory[..GUARD], before[..GUARD], "{}", show(set));
+    assert_eq!(outcome.memory[end..], before[end..], "{}", show(set));
+    let divisor = f64::from_bits(outcome.divisor);
+    assert!(divisor.is_finite() && divisor != 0.0, "{}", show(set));
+    let leftover = f64::from_bits(outcome.leftover);
+    assert!(leftover.abs() <= 0.5, "{}", show(set));
+}
+
+pub fn check_set(set: &Set, tally: &mut Tally) {
+    let wanted = set.run(literal::round_taps);
+    for entry in [core::round_taps, fast::round_taps] {
+        let outcome = set.run(entry);
+        assert_eq!(outcome, wanted, "{}", show(set));
+        check_outcome(set, &outcome);
+    }
+    count(set, &wanted, tally);
+}
+
+fn count(set: &Set, outcome: &Outcome, tally: &mut Tally) {
+    let all = literal::refusals(&set.taps, set.fraction_bits, set.normalised, set.table);
+    let Some((returned, others)) = all.split_first() else {
+        tally.normalised += (set.normalised != 0) as usize;
+        tally.exact += (outcome.leftover == 0) as usize;
+        tally.rounded += (outcome.leftover != 0) as usize;
+        tally.ties += has_tie(set, outcome) as usize;
+        return;
+    };
+    let number = returned.refusal as usize;
+    tally.refused[number] += 1;
+    tally.places[number].insert(returned.place);
+    for other in others {
+        let beside = other.refusal as usize;
+        tally.beside[number][beside] += 1;
+        tally.lower[number][beside] += (other.place < returned.place) as usize;
+    }
+}
+
+/// Whether a tap has the reported leftover with the other sign.
+fn has_tie(set: &Set, outcome: &Outcome) -> bool {
+    let divisor = f64::from_bits(outcome.divisor);
+    outcome.leftover != 0
+        && set.taps.iter().any(|tap| {
+            let value = (tap / divisor).to_bits();
+            match literal::tap(value, set.fraction_bits) {
+                Tap::Rounded(_, leftover) => leftover == outcome.leftover ^ 1 << 63,
+                _ => false,
+            }
+        })
+}
