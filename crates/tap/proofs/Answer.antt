@@ -1,25 +1,29 @@
--- The answers of `round_tap`: `refused-bits`, `refused-tap`, `refused-size` and `accepted`. Assumes nothing.
+-- The answers of `round_tap`. Assumes nothing.
 use mathlib.Core.Path.{_≡_, refl, sym, ap, _∙_, subst}
 use mathlib.Core.Logic.{_⊎_, inl, inr}
 use mathlib.Core.Bool.{Bool, true, false, not, cond, true≢false, false≢true}
-use Prim.Native.Nat.{ℕ, _*_, _^_, _≤_, _<_, min}
-use native.Mathlib.Nat.{le-trans, le-of-eq, mul-lt-mul-of-pos-right}
+use Prim.Native.Nat.{ℕ, zero, suc, _*_, _^_, _≤_, _<_}
+use native.Mathlib.Nat.{le-trans, le-of-eq, lt-of-lt-of-le, lt-of-le-of-lt, mul-le-mul-right, mul-right-comm}
 use native.Mathlib.Omega.{arith}
-use lib.IntN.{ℤ, pos, negsuc}
-use lib.Dec.{T, leb, ltb, eqb, lit≤, lit<}
-use lib.Ieee.{Float, nan, inf, fin, binary64, up, down, mul, eq, lt, ofInt, fits}
+use lib.IntN.{ℤ, pos, negsuc, negℤ}
+use lib.Dec.{T, ltb, leb, eqb, ltb→lt, nltb→le, lit≤, lit<}
+use lib.Signed.{ltZ}
+use mir.Syntax.{w32}
+use mir.Val.{SFits}
+use lib.Ieee.{Float, nan, inf, fin, binary64, up, down, round, mul, eq, lt, ofInt, fits}
 use lib.Ieee.Fits.{down-pos}
 use lib.Ieee.Exact.{HasValue}
-use borrow.Author.Tests.{lt-ltb, le-ltb, eqb-false}
+use borrow.Author.Tests.{lt-ltb, le-ltb, eqb-false, ltb-true, ltb-false}
 use Rattle.refusal.specs.Answer.{Answer, given, refused, refuseIf}
 use Rattle.refusal.proofs.Checks.{check-applies, check-passes}
-use Rattle.tap.specs.Rounding.{Coefficient, exact, rounded, nearestWhole, signed, most, leftover, split, finite, sizeOf, outside, coefficientOf, roundedTap}
-use Rattle.tap.specs.Steps.{count, parted, magnitudeOf}
-use Rattle.tap.proofs.Whole.{bounded}
-use Rattle.tap.proofs.Value.{scaled-exact, nought, two-to}
+use Rattle.tap.specs.Rounding.{Coefficient, exact, rounded, nearestWhole, signed, most, leftover, split, finite, sizeOf, outside, coefficientOf, roundedTap, absOf}
+use Rattle.tap.specs.Steps.{nearestOf, parted, magnitudeOf}
+use Rattle.tap.proofs.Whole.{nearest-same, nearest-le, nearest-ge}
+use Rattle.tap.proofs.Value.{scaled-is, scaled-exact, over, lt-pow, nought, two-to}
+use Rattle.tap.proofs.Even.{nearest-is}
 use Rattle.tap.proofs.Steps.{parted-yes, parted-no}
 use Rattle.tap.proofs.Rest.{rest-is, equal-is, whole-value}
-use Rattle.tap.proofs.Sign.{count-size, count-none, sign-is}
+use Rattle.tap.proofs.Sign.{magnitude-fin, smaller-is, round-abs, size-is, sign-is}
 
 -- ---- `roundedTap`
 pub rounded-is : (F : ℕ) (x : Float) → roundedTap F x ≡ refuseIf (ltb 31 F) 4 (refuseIf (not (finite x)) 5 (refuseIf (outside F x) 6 (given (coefficientOf F x))))
@@ -38,42 +42,13 @@ refused-tap F x h n = sym (few-bits F x h ∙ check-applies (not (finite x)) 5 _
 pub of-finite : (F : ℕ) (x : Float) → F ≤ 31 → finite x ≡ true → roundedTap F x ≡ refuseIf (outside F x) 6 (given (coefficientOf F x))
 of-finite F x h n = few-bits F x h ∙ check-passes (not (finite x)) 5 _ (ap not n)
 
--- ---- the bounds, by the size that was counted
 pub outside-is : (F : ℕ) (s : Bool) (m : ℕ) (e : ℤ) → outside F (fin s m e) ≡ ltb (most s) (sizeOf F (fin s m e))
 unfolding outside
 outside-is F s m e = refl
 
-most-le : (s : Bool) → most s ≤ 2147483648
-most-le true = le-of-eq refl
-most-le false = lit≤ tt
-
-over : (b : Bool) (n c : ℕ) → c ≡ min n 4294967296 → most b < c → most b < n
-over b n c e h = go (most b) n c (most-le b) e h
-  where
-    go : (k n c : ℕ) → k ≤ 2147483648 → c ≡ min n 4294967296 → k < c → k < n
-    go k n c l e h = omega arith
-
-uncut : (b : Bool) (n c : ℕ) → c ≡ min n 4294967296 → c ≤ most b → c ≡ n
-uncut b n c e h = go n c e (le-trans h (most-le b))
-  where
-    go : (n c : ℕ) → c ≡ min n 4294967296 → c ≤ 2147483648 → c ≡ n
-    go n c e h = omega arith
-
-pub refused-size : (F : ℕ) (x : Float) (b : Bool) (c : ℕ) → F ≤ 31 → finite x ≡ true → lt x nought ≡ b → c ≡ count (magnitudeOf x) F → most b < c → refused 6 0 ≡ roundedTap F x
-refused-size F nan b c h n t q l = absurd (false≢true n)
-refused-size F (inf s) b c h n t q l = absurd (false≢true n)
-refused-size F (fin s m e) b c h n t q l =
-    sym (of-finite F (fin s m e) h n ∙ check-applies (outside F (fin s m e)) 6 _ (outside-is F s m e ∙ lt-ltb (most s) (sizeOf F (fin s m e)) (go (sign-is s m e F b t))))
-  where
-    large : most b < sizeOf F (fin s m e)
-    large = over b (sizeOf F (fin s m e)) c (q ∙ count-size s m e F) l
-
-    none : (k n : ℕ) → k < n → n ≡ 0 → ⊥
-    none k n h z = omega arith
-
-    go : (b ≡ s) ⊎ (sizeOf F (fin s m e) ≡ 0) → most s < sizeOf F (fin s m e)
-    go (inl e') = subst (λ (b : Bool). most b < sizeOf F (fin s m e)) e' large
-    go (inr z) = absurd (none (most b) (sizeOf F (fin s m e)) large z)
+pub coefficient-is : (F : ℕ) (s : Bool) (m : ℕ) (e : ℤ) → coefficientOf F (fin s m e) ≡ split s (m * up e * 2 ^ F) (down e) (sizeOf F (fin s m e))
+unfolding coefficientOf
+coefficient-is F s m e = refl
 
 -- ---- X is ±a / d: parted by ±n it is what `split` says
 pub split-is : (s : Bool) (a d n : ℕ) → split s a d n ≡ cond (eqb (n * d) a) (exact (signed s n)) (rounded (signed s n) (leftover s a d n))
@@ -96,31 +71,113 @@ parted-is X s a d n D h v = go (eqb (n * d) a) refl ∙ sym (split-is s a d n)
         ∙ ap (λ (l : Float). rounded (signed s n) l) (rest-is X (ofInt binary64 (signed s n)) s (w .0) a d n D v (w .1) (w .2) (eqb-false (n * d) a e))
         ∙ sym (ap (λ (b : Bool). cond b (exact (signed s n)) (rounded (signed s n) (leftover s a d n))) e)
 
--- a size up to 2 ^ 31 bounds the tap
-within : (a d : ℕ) → 0 < d → nearestWhole a d ≤ 2147483648 → a < 2 ^ 33 * d
-within a d D h = smaller a (4294967297 * d) (2 ^ 33 * d) (bounded a d 2147483648 D h) (mul-lt-mul-of-pos-right (lit< tt) D)
+-- ---- the test against 2 ^ 32: x is tap × 2 ^ F
+two-abs : magnitudeOf (two-to 32) ≡ two-to 32
+unfolding magnitudeOf
+two-abs = refl
+
+-- what is not finite is not below it
+never : (F : ℕ) (tap : Float) → finite tap ≡ false → lt (magnitudeOf (mul binary64 tap (two-to F))) (two-to 32) ≡ false
+unfolding magnitudeOf mul
+never F nan h = refl
+never F (inf true) h = refl
+never F (inf false) h = refl
+never F (fin s m e) h = absurd (true≢false h)
+
+abs-test : (F : ℕ) (s : Bool) (m : ℕ) (e : ℤ) → let a = m * up e * 2 ^ F in
+    lt (magnitudeOf (mul binary64 (fin s m e) (two-to F))) (two-to 32) ≡ lt (round binary64 false a (down e)) (two-to 32)
+abs-test F s m e =
+    let x = mul binary64 (fin s m e) (two-to F) in
+    ap (λ (y : Float). lt (magnitudeOf x) y) (sym two-abs)
+    ∙ smaller-is x (two-to 32)
+    ∙ ap (λ (y : Float). lt (absOf y) (two-to 32)) (scaled-is s m e F)
+    ∙ ap (λ (y : Float). lt y (two-to 32)) (round-abs s (m * up e * 2 ^ F) (down e))
+
+either : (a b : ℕ) → (a < b) ⊎ (b ≤ a)
+either a b = go (ltb a b) (ltb→lt a b) (nltb→le a b)
   where
-    smaller : (a b c : ℕ) → a * 2 ≤ b → b < c → a < c
-    smaller a b c h k = omega arith
+    go : (t : Bool) → (T t → a < b) → (T (not t) → b ≤ a) → (a < b) ⊎ (b ≤ a)
+    go true p q = inl (p tt)
+    go false p q = inr (q tt)
 
-pub coefficient-is : (F : ℕ) (s : Bool) (m : ℕ) (e : ℤ) → coefficientOf F (fin s m e) ≡ split s (m * up e * 2 ^ F) (down e) (sizeOf F (fin s m e))
-unfolding coefficientOf
-coefficient-is F s m e = refl
+module _ (F : ℕ) (s : Bool) (m : ℕ) (e : ℤ) (t : T (fits binary64 (fin s m e))) where
+  exactly : m * up e * 2 ^ F < 2 ^ 32 * down e → HasValue (mul binary64 (fin s m e) (two-to F)) s (m * up e * 2 ^ F) (down e)
+  exactly l = scaled-exact s m e F t (lt-of-lt-of-le l (mul-le-mul-right (down e) (lit≤ tt)))
 
-pub size-is : (F : ℕ) (s : Bool) (m : ℕ) (e : ℤ) → sizeOf F (fin s m e) ≡ nearestWhole (m * up e * 2 ^ F) (down e)
-unfolding sizeOf
-size-is F s m e = refl
+  under : lt (magnitudeOf (mul binary64 (fin s m e) (two-to F))) (two-to 32) ≡ true → m * up e * 2 ^ F < 2 ^ 32 * down e
+  under h = go (either (m * up e * 2 ^ F) (2 ^ 32 * down e))
+    where
+      go : (m * up e * 2 ^ F < 2 ^ 32 * down e) ⊎ (2 ^ 32 * down e ≤ m * up e * 2 ^ F) → m * up e * 2 ^ F < 2 ^ 32 * down e
+      go (inl l) = l
+      go (inr l) = absurd (true≢false (sym h ∙ abs-test F s m e ∙ over (m * up e * 2 ^ F) (down e) (down-pos e) l))
 
--- its own sign, and a size within the bounds
-inside : (F : ℕ) (s : Bool) (m : ℕ) (e : ℤ) → T (fits binary64 (fin s m e)) → F ≤ 31 → sizeOf F (fin s m e) ≤ most s
-    → given (parted (mul binary64 (fin s m e) (two-to F)) (signed s (sizeOf F (fin s m e)))) ≡ roundedTap F (fin s m e)
-inside F s m e t h l =
-    let n = sizeOf F (fin s m e) in
-    let a = m * up e * 2 ^ F in
-    let k : n ≤ 2147483648 = le-trans l (most-le s) in
-    ap given (parted-is (mul binary64 (fin s m e) (two-to F)) s a (down e) n (down-pos e) k (scaled-exact s m e F t (within a (down e) (down-pos e) (subst (λ (x : ℕ). x ≤ 2147483648) (size-is F s m e) k))))
-    ∙ ap given (sym (coefficient-is F s m e))
-    ∙ sym (of-finite F (fin s m e) h refl ∙ check-passes (outside F (fin s m e)) 6 _ (outside-is F s m e ∙ le-ltb (most s) n l))
+  not-under : lt (magnitudeOf (mul binary64 (fin s m e) (two-to F))) (two-to 32) ≡ false → 2 ^ 32 * down e ≤ m * up e * 2 ^ F
+  not-under h = go (either (m * up e * 2 ^ F) (2 ^ 32 * down e))
+    where
+      go : (m * up e * 2 ^ F < 2 ^ 32 * down e) ⊎ (2 ^ 32 * down e ≤ m * up e * 2 ^ F) → 2 ^ 32 * down e ≤ m * up e * 2 ^ F
+      go (inr l) = l
+      go (inl l) = absurd (true≢false (sym (small (mul binary64 (fin s m e) (two-to F)) (exactly l) l) ∙ h))
+        where
+          small : (x : Float) → HasValue x s (m * up e * 2 ^ F) (down e) → m * up e * 2 ^ F < 2 ^ 32 * down e → lt (magnitudeOf x) (two-to 32) ≡ true
+          small nan v l = absurd v
+          small (inf b) v l = absurd v
+          small (fin b p g) v l =
+              let w = magnitude-fin b p g in
+              ap (λ (y : Float). lt y (two-to 32)) (w .1) ∙ lt-pow (fin (w .0) p g) (w .0) (m * up e * 2 ^ F) (down e) 32 (refl, v .1) l
+
+  -- the size of N is counted
+  size-of : lt (magnitudeOf (mul binary64 (fin s m e) (two-to F))) (two-to 32) ≡ true → nearestOf (magnitudeOf (mul binary64 (fin s m e) (two-to F))) ≡ sizeOf F (fin s m e)
+  size-of h = go (mul binary64 (fin s m e) (two-to F)) (exactly (under h)) ∙ sym (size-is F s m e)
+    where
+      go : (x : Float) → HasValue x s (m * up e * 2 ^ F) (down e) → nearestOf (magnitudeOf x) ≡ nearestWhole (m * up e * 2 ^ F) (down e)
+      go nan v = absurd v
+      go (inf b) v = absurd v
+      go (fin b p g) v =
+          let w = magnitude-fin b p g in
+          ap nearestOf (w .1) ∙ nearest-is (w .0) p g ∙ nearest-same (p * up g) (down g) (m * up e * 2 ^ F) (down e) (down-pos g) (down-pos e) (v .1)
+
+-- a size that is counted is at most 2 ^ 32
+pub size-small : (F : ℕ) (tap : Float) (c : ℕ) → T (fits binary64 tap) → lt (magnitudeOf (mul binary64 tap (two-to F))) (two-to 32) ≡ true → c ≡ nearestOf (magnitudeOf (mul binary64 tap (two-to F))) → c ≤ 4294967296
+size-small F nan c t h q = absurd (true≢false (sym h ∙ never F nan refl))
+size-small F (inf s) c t h q = absurd (true≢false (sym h ∙ never F (inf s) refl))
+size-small F (fin s m e) c t h q =
+    le-trans (le-of-eq (q ∙ size-of F s m e t h ∙ size-is F s m e))
+    (nearest-le (m * up e * 2 ^ F) (down e) 4294967296 (down-pos e) (lt-of-lt-of-le (double (m * up e * 2 ^ F) (2 ^ 32 * down e) (under F s m e t h)) (le-of-eq (mul-right-comm (2 ^ 32) (down e) 2))))
+  where
+    double : (a b : ℕ) → a < b → a * 2 < b * 2
+    double a b h = omega arith
+
+-- ---- N against the bounds, as the code tests it
+pub above-most : (b : Bool) (c : ℕ) → ltZ (pos 2147483647) (signed b c) ≡ true → most b < c
+above-most false c h = ltb-true 2147483647 c h
+above-most true zero h = absurd (false≢true h)
+above-most true (suc c) h = absurd (false≢true h)
+
+pub below-least : (b : Bool) (c : ℕ) → ltZ (signed b c) (negsuc 2147483647) ≡ true → most b < c
+below-least false c h = absurd (false≢true h)
+below-least true zero h = absurd (false≢true h)
+below-least true (suc c) h = go c (ltb-true 2147483647 c h)
+  where
+    go : (c : ℕ) → 2147483647 < c → 2147483648 < suc c
+    go c h = omega arith
+
+pub between : (b : Bool) (c : ℕ) → ltZ (pos 2147483647) (signed b c) ≡ false → ltZ (signed b c) (negsuc 2147483647) ≡ false → c ≤ most b
+between false c h k = ltb-false 2147483647 c h
+between true zero h k = lit≤ tt
+between true (suc c) h k = go c (ltb-false 2147483647 c k)
+  where
+    go : (c : ℕ) → c ≤ 2147483647 → suc c ≤ 2147483648
+    go c h = omega arith
+
+-- a size within them is that of an i32
+pub in-bounds : (b : Bool) (c : ℕ) → c ≤ most b → SFits w32 (signed b c)
+in-bounds false c h = record { sfits = lt-of-le-of-lt h (lit< tt) }
+in-bounds true zero h = record { sfits = lit< tt }
+in-bounds true (suc c) h = record { sfits = h }
+
+most-le : (s : Bool) → most s ≤ 2147483648
+most-le true = le-of-eq refl
+most-le false = lit≤ tt
 
 zero-signed : (b s : Bool) → signed b 0 ≡ signed s 0
 zero-signed true true = refl
@@ -128,40 +185,68 @@ zero-signed true false = refl
 zero-signed false true = refl
 zero-signed false false = refl
 
-pub accepted : (F : ℕ) (x : Float) (b : Bool) (c : ℕ) → T (fits binary64 x) → F ≤ 31 → lt x nought ≡ b → c ≡ count (magnitudeOf x) F → c ≤ most b
-    → given (parted (mul binary64 x (two-to F)) (signed b c)) ≡ roundedTap F x
-accepted F nan b c t h u q l = absurd (capped b c (q ∙ count-none nan F refl) l)
+-- ---- the answers
+-- N is outside the bounds where its size is above the largest, whichever sign was seen
+over-most : (F : ℕ) (s : Bool) (m : ℕ) (e : ℤ) (b : Bool) → lt (fin s m e) nought ≡ b → most b < sizeOf F (fin s m e) → most s < sizeOf F (fin s m e)
+over-most F s m e b t l = go (sign-is F s m e b t)
   where
-    capped : (b : Bool) (c : ℕ) → c ≡ 4294967296 → c ≤ most b → ⊥
-    capped true c e l = omega arith
-    capped false c e l = omega arith
-accepted F (inf s) b c t h u q l = absurd (capped b c (q ∙ count-none (inf s) F refl) l)
+    none : (k n : ℕ) → k < n → n ≡ 0 → ⊥
+    none k n h z = omega arith
+
+    go : (b ≡ s) ⊎ (sizeOf F (fin s m e) ≡ 0) → most s < sizeOf F (fin s m e)
+    go (inl q) = subst (λ (b : Bool). most b < sizeOf F (fin s m e)) q l
+    go (inr z) = absurd (none (most b) (sizeOf F (fin s m e)) l z)
+
+outside-stop : (F : ℕ) (s : Bool) (m : ℕ) (e : ℤ) → F ≤ 31 → most s < sizeOf F (fin s m e) → refused 6 0 ≡ roundedTap F (fin s m e)
+outside-stop F s m e h l = sym (of-finite F (fin s m e) h refl ∙ check-applies (outside F (fin s m e)) 6 _ (outside-is F s m e ∙ lt-ltb (most s) (sizeOf F (fin s m e)) l))
+
+-- the test failed: the tap is not finite, or N is too large
+pub refused-size : (F : ℕ) (tap : Float) → T (fits binary64 tap) → F ≤ 31 → finite tap ≡ true → lt (magnitudeOf (mul binary64 tap (two-to F))) (two-to 32) ≡ false → refused 6 0 ≡ roundedTap F tap
+refused-size F nan t h n u = absurd (false≢true n)
+refused-size F (inf s) t h n u = absurd (false≢true n)
+refused-size F (fin s m e) t h n u =
+    outside-stop F s m e h
+    (lt-of-lt-of-le (largest s)
+    (subst (λ (k : ℕ). 4294967296 ≤ k) (sym (size-is F s m e)) (nearest-ge (m * up e * 2 ^ F) (down e) 4294967296 (down-pos e) (le-trans (le-of-eq (mul-right-comm (2 ^ 32) 2 (down e))) (mul-le-mul-right 2 (not-under F s m e t u))))))
   where
-    capped : (b : Bool) (c : ℕ) → c ≡ 4294967296 → c ≤ most b → ⊥
-    capped true c e l = omega arith
-    capped false c e l = omega arith
-accepted F (fin s m e) b c t h u q l = go (sign-is s m e F b u)
-  where
-    X : Float
-    X = mul binary64 (fin s m e) (two-to F)
+    largest : (s : Bool) → most s < 4294967296
+    largest true = lit< tt
+    largest false = lit< tt
 
-    n : ℕ
-    n = sizeOf F (fin s m e)
+-- the test passed, with c the size that was counted and b the sign that was seen
+module _ (F : ℕ) (b : Bool) (c : ℕ) (h : F ≤ 31) where
+  pub refused-most : (tap : Float) → T (fits binary64 tap) → lt (magnitudeOf (mul binary64 tap (two-to F))) (two-to 32) ≡ true → lt tap nought ≡ b → c ≡ nearestOf (magnitudeOf (mul binary64 tap (two-to F))) → most b < c
+      → refused 6 0 ≡ roundedTap F tap
+  refused-most nan t u p q l = absurd (true≢false (sym u ∙ never F nan refl))
+  refused-most (inf s) t u p q l = absurd (true≢false (sym u ∙ never F (inf s) refl))
+  refused-most (fin s m e) t u p q l = outside-stop F s m e h (over-most F s m e b p (lt-of-lt-of-le l (le-of-eq (q ∙ size-of F s m e t u))))
 
-    same : c ≡ sizeOf F (fin s m e)
-    same = uncut b (sizeOf F (fin s m e)) c (q ∙ count-size s m e F) l
+  pub accepted : (tap : Float) → T (fits binary64 tap) → lt (magnitudeOf (mul binary64 tap (two-to F))) (two-to 32) ≡ true → lt tap nought ≡ b → c ≡ nearestOf (magnitudeOf (mul binary64 tap (two-to F))) → c ≤ most b
+      → given (parted (mul binary64 tap (two-to F)) (signed b c)) ≡ roundedTap F tap
+  accepted nan t u p q l = absurd (true≢false (sym u ∙ never F nan refl))
+  accepted (inf s) t u p q l = absurd (true≢false (sym u ∙ never F (inf s) refl))
+  accepted (fin s m e) t u p q l = go (sign-is F s m e b p)
+    where
+      same : c ≡ sizeOf F (fin s m e)
+      same = q ∙ size-of F s m e t u
 
-    low : (s : Bool) (n : ℕ) → n ≡ 0 → n ≤ most s
-    low true n z = omega arith
-    low false n z = omega arith
+      inside : sizeOf F (fin s m e) ≤ most s → given (parted (mul binary64 (fin s m e) (two-to F)) (signed s (sizeOf F (fin s m e)))) ≡ roundedTap F (fin s m e)
+      inside k =
+          ap given (parted-is (mul binary64 (fin s m e) (two-to F)) s (m * up e * 2 ^ F) (down e) (sizeOf F (fin s m e)) (down-pos e) (le-trans k (most-le s)) (exactly F s m e t (under F s m e t u)))
+          ∙ ap given (sym (coefficient-is F s m e))
+          ∙ sym (of-finite F (fin s m e) h refl ∙ check-passes (outside F (fin s m e)) 6 _ (outside-is F s m e ∙ le-ltb (most s) (sizeOf F (fin s m e)) k))
 
-    go : (b ≡ s) ⊎ (sizeOf F (fin s m e) ≡ 0) → given (parted (mul binary64 (fin s m e) (two-to F)) (signed b c)) ≡ roundedTap F (fin s m e)
-    go (inl z) =
-        ap (λ (k : ℕ). given (parted (mul binary64 (fin s m e) (two-to F)) (signed b k))) same
-        ∙ ap (λ (d : Bool). given (parted (mul binary64 (fin s m e) (two-to F)) (signed d (sizeOf F (fin s m e))))) z
-        ∙ inside F s m e t h (subst (λ (k : ℕ). k ≤ most s) same (subst (λ (d : Bool). c ≤ most d) z l))
-    go (inr z) =
-        ap (λ (k : ℕ). given (parted (mul binary64 (fin s m e) (two-to F)) (signed b k))) (same ∙ z)
-        ∙ ap (λ (i : ℤ). given (parted (mul binary64 (fin s m e) (two-to F)) i)) (zero-signed b s)
-        ∙ ap (λ (k : ℕ). given (parted (mul binary64 (fin s m e) (two-to F)) (signed s k))) (sym z)
-        ∙ inside F s m e t h (low s (sizeOf F (fin s m e)) z)
+      low : (s : Bool) (n : ℕ) → n ≡ 0 → n ≤ most s
+      low true n z = omega arith
+      low false n z = omega arith
+
+      go : (b ≡ s) ⊎ (sizeOf F (fin s m e) ≡ 0) → given (parted (mul binary64 (fin s m e) (two-to F)) (signed b c)) ≡ roundedTap F (fin s m e)
+      go (inl z) =
+          ap (λ (k : ℕ). given (parted (mul binary64 (fin s m e) (two-to F)) (signed b k))) same
+          ∙ ap (λ (d : Bool). given (parted (mul binary64 (fin s m e) (two-to F)) (signed d (sizeOf F (fin s m e))))) z
+          ∙ inside (subst (λ (k : ℕ). k ≤ most s) same (subst (λ (d : Bool). c ≤ most d) z l))
+      go (inr z) =
+          ap (λ (k : ℕ). given (parted (mul binary64 (fin s m e) (two-to F)) (signed b k))) (same ∙ z)
+          ∙ ap (λ (i : ℤ). given (parted (mul binary64 (fin s m e) (two-to F)) i)) (zero-signed b s)
+          ∙ ap (λ (k : ℕ). given (parted (mul binary64 (fin s m e) (two-to F)) (signed s k))) (sym z)
+          ∙ inside (low s (sizeOf F (fin s m e)) z)

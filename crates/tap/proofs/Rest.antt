@@ -90,7 +90,7 @@ crossA x d a e g h = mul-right-comm x g d ∙ ap (λ (z : ℕ). z * g) h ∙ mul
 crossB : (y n g e d : ℕ) → y * 1 ≡ n * g → y * e * d ≡ n * d * (e * g)
 crossB y n g e d h = ap (λ (z : ℕ). z * e * d) (sym (mul-one y) ∙ h) ∙ simp (mul-assoc, mul-comm, mul-left-comm)
 
-leftover-is : (s : Bool) (a d n : ℕ) → leftover s a d n ≡ cond (leb (n * d) a) (round binary64 s (a - n * d) d) (round binary64 (not s) (n * d - a) d)
+pub leftover-is : (s : Bool) (a d n : ℕ) → leftover s a d n ≡ cond (leb (n * d) a) (round binary64 s (a - n * d) d) (round binary64 (not s) (n * d - a) d)
 unfolding leftover
 leftover-is s a d n = refl
 

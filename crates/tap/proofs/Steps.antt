@@ -1,73 +1,88 @@
 -- What the proofs of the small functions cite. Assumes nothing.
 use mathlib.Core.Path.{_≡_, refl, sym, ap, _∙_, subst}
-use mathlib.Core.Bool.{Bool, true, false, cond}
-use Prim.Native.Nat.{ℕ, zero, suc, _+_, _*_, _%_, _^_, _≤_, _<_}
-use native.Mathlib.Nat.{le-trans, lt-of-le-of-lt, lt-of-lt-of-le, one-mul}
+use mathlib.Core.Bool.{Bool, true, false, not, _&&_, cond}
+use Prim.Native.Nat.{ℕ, zero, suc, _+_, _-_, _*_, _/_, _%_, _≤_, _<_}
+use native.Mathlib.Nat.{lt-of-le-of-lt, mul-lt-mul-of-pos-right, mul-div-cancel, mod-eq-of-lt}
 use native.Mathlib.Omega.{arith}
-use lib.IntN.{ℤ, pos, negℤ, _-ℤ_, +ℤ-idl}
-use lib.Dec.{T, leb, le→leb, lt→ltb, lit≤, lit<}
-use lib.Pow.{pow-mono, shl-exact}
-use lib.Ieee.{Float, fin, binary64, round, ofInt, inFloat, fits, eq, sub}
-use lib.Ieee.Fits.{ofInt-fits}
-use lib.Ieee.Exact.{HasValue}
-use lib.Ieee.Back.{round-whole, whole-unique}
-use mir.Syntax.{w32, w64}
-use mir.Val.{SFits, toZ, ofZ}
-use mir.ValLaws.{toZ-pos, toZ-ofZ}
+use lib.Arith.{digits-div}
+use lib.IntN.{ℤ, pos, negsuc, negℤ, _-ℤ_, +ℤ-idl}
+use lib.Dec.{T, leb, eqb, lit<}
+use lib.Ieee.{Float, nan, inf, fin, binary64, ofInt, ofFields, ofBits, nanBits, odd, minus, eq, sub}
+use borrow.Author.Tests.{le-leb, lt-leb, eq-eqb, ne-eqb}
+use mir.Syntax.{w64}
+use mir.Val.{SFits, toZ}
+use mir.ValLaws.{toZ-pos}
 use Rattle.tap.specs.Rounding.{Coefficient, exact, rounded}
 use Rattle.tap.specs.Steps.{parted}
 
--- ---- scaled
-shift-is : (k : ℕ) → k ≤ 32 → 1 * 2 ^ k % 2 ^ 64 ≡ 2 ^ k
-shift-is k h = shl-exact 1 k 64 (lit< tt) (go k h) ∙ one-mul (2 ^ k)
+-- ---- scaled: 2 ^ k by its bits, a sign of 0, an exponent's field of 1023 + k and digits of 0
+abbrev bits : ℕ → ℕ
+bits k = (1023 + k) * 4503599627370496
+
+fields : (k : ℕ) → k ≤ 31 → (leb 9223372036854775808 (bits k) ≡ false) × (bits k % 9223372036854775808 / 4503599627370496 ≡ suc (1022 + k)) × (bits k % 4503599627370496 ≡ 0)
+fields k h = (lt-leb 9223372036854775808 (bits k) (low k h), field k h, digits k)
   where
-    go : (k : ℕ) → k ≤ 32 → 1 + k ≤ 64
-    go k h = omega arith
+    low : (k : ℕ) → k ≤ 31 → bits k < 9223372036854775808
+    low k h = omega arith
 
-small : (k : ℕ) → k ≤ 32 → 2 ^ k ≤ 2 ^ 53
-small k h = le-trans (pow-mono h) (lit≤ tt)
+    field : (k : ℕ) → k ≤ 31 → bits k % 9223372036854775808 / 4503599627370496 ≡ suc (1022 + k)
+    field k h = omega arith
 
-power-fits : (k : ℕ) → k ≤ 32 → T (fits binary64 (fin false 1 (pos k)))
-unfolding fits
-power-fits k h = lt→ltb (1 * 2 ^ k) (2 ^ 1024 * 1) (subst (λ (x : ℕ). x < 2 ^ 1024 * 1) (sym (one-mul (2 ^ k))) (lt-of-le-of-lt (pow-mono h) (lit< tt)))
+    digits : (k : ℕ) → bits k % 4503599627370496 ≡ 0
+    digits k = omega arith
 
-of-int : (n : ℕ) → ofInt binary64 (pos n) ≡ round binary64 false n 1
-unfolding ofInt
-of-int n = refl
+as-fields : (b : ℕ) → ofBits binary64 b ≡ ofFields binary64 (leb 9223372036854775808 b) (b % 9223372036854775808 / 4503599627370496) (b % 4503599627370496)
+unfolding ofBits
+as-fields b = refl
 
-pub power-is : (k : ℕ) → k ≤ 32 → ofInt binary64 (pos (2 ^ k)) ≡ fin false 1 (pos k)
+of-power : (k : ℕ) → k ≤ 31 → ofFields binary64 false (suc (1022 + k)) 0 ≡ fin false 1 (pos k)
+unfolding ofFields odd
+of-power k h =
+    ap (λ (b : Bool). cond b (inf false) (fin false 1 (minus (1022 + k + 52) 1074))) (ne-eqb (suc (1022 + k)) 2047 (other k h))
+    ∙ ap (λ (b : Bool). fin false 1 (cond b (pos (1022 + k + 52 - 1074)) (negsuc (1074 - suc (1022 + k + 52))))) (le-leb 1074 (1022 + k + 52) (high k))
+    ∙ ap (λ (n : ℕ). fin false 1 (pos n)) (left k)
+  where
+    other : (k : ℕ) → k ≤ 31 → suc (1022 + k) ≡ 2047 → ⊥
+    other k h e = omega arith
+
+    high : (k : ℕ) → 1074 ≤ 1022 + k + 52
+    high k = omega arith
+
+    left : (k : ℕ) → 1022 + k + 52 - 1074 ≡ k
+    left k = omega arith
+
+pub power-is : (k : ℕ) → k ≤ 31 → ofBits binary64 (bits k) ≡ fin false 1 (pos k)
 power-is k h =
-    whole-unique binary64 (ofInt binary64 (pos (2 ^ k))) (fin false 1 (pos k)) false (2 ^ k) (ofInt-fits binary64 (pos (2 ^ k))) (power-fits k h)
-    (subst (λ (x : Float). HasValue x false (2 ^ k) 1) (sym (of-int (2 ^ k))) (round-whole binary64 false (2 ^ k) (small k h)))
-    (refl, ap (λ (x : ℕ). x * 1) (one-mul (2 ^ k)))
+    let f = fields k h in
+    as-fields (bits k)
+    ∙ ap (λ (s : Bool). ofFields binary64 s (bits k % 9223372036854775808 / 4503599627370496) (bits k % 4503599627370496)) (f .0)
+    ∙ ap (λ (x : ℕ). ofFields binary64 false x (bits k % 4503599627370496)) (f .1)
+    ∙ ap (λ (t : ℕ). ofFields binary64 false (suc (1022 + k)) t) (f .2)
+    ∙ of-power k h
 
-pub power-in : (k : ℕ) → k ≤ 32 → T (inFloat binary64 (pos (1 * 2 ^ k % 2 ^ 64)))
-unfolding inFloat
-power-in k h = subst (λ (x : ℕ). T (leb x (2 ^ 53))) (sym (shift-is k h)) (le→leb (2 ^ k) (2 ^ 53) (small k h))
-
-pub shifted : (k : ℕ) → k ≤ 32 → ofInt binary64 (pos (1 * 2 ^ k % 2 ^ 64)) ≡ fin false 1 (pos k)
-shifted k h = ap (λ (x : ℕ). ofInt binary64 (pos x)) (shift-is k h) ∙ power-is k h
+pub power-number : (k : ℕ) → k ≤ 31 → T (not (nanBits binary64 (bits k)))
+unfolding nanBits
+power-number k h =
+    let f = fields k h in
+    subst (λ (t : ℕ). T (not (eqb (bits k % 9223372036854775808 / 4503599627370496) 2047 && not (eqb t 0)))) (sym (f .2)) (no-digits (eqb (bits k % 9223372036854775808 / 4503599627370496) 2047))
+  where
+    no-digits : (b : Bool) → T (not (b && false))
+    no-digits true = tt
+    no-digits false = tt
 
 -- ---- with_sign
-wide : (n : ℕ) → n ≤ 2147483648 → n < 2 ^ 63
+wide : (n : ℕ) → n ≤ 4294967296 → n < 9223372036854775808
 wide n h = lt-of-le-of-lt h (lit< tt)
 
-pub neg-is : (n : ℕ) → n ≤ 2147483648 → toZ w64 0 -ℤ toZ w64 n ≡ negℤ (pos n)
+pub neg-is : (n : ℕ) → n ≤ 4294967296 → toZ w64 0 -ℤ toZ w64 n ≡ negℤ (pos n)
 neg-is n h = ap (λ (z : ℤ). pos 0 -ℤ z) (toZ-pos w64 n (wide n h)) ∙ +ℤ-idl (negℤ (pos n))
 
-pub neg-fits32 : (n : ℕ) → n ≤ 2147483648 → SFits w32 (negℤ (pos n))
-neg-fits32 zero h = record { sfits = lit< tt }
-neg-fits32 (suc n) h = record { sfits = h }
-
-pub neg-fits64 : (n : ℕ) → n ≤ 2147483648 → SFits w64 (negℤ (pos n))
-neg-fits64 zero h = record { sfits = lit< tt }
-neg-fits64 (suc n) h = record { sfits = lt-of-lt-of-le h (lit≤ tt) }
-
-pub neg-fits : (n : ℕ) → n ≤ 2147483648 → SFits w64 (toZ w64 0 -ℤ toZ w64 n)
-neg-fits n h = subst (λ (z : ℤ). SFits w64 z) (sym (neg-is n h)) (neg-fits64 n h)
-
-pub neg-back : (n : ℕ) → n ≤ 2147483648 → toZ w64 (ofZ w64 (toZ w64 0 -ℤ toZ w64 n)) ≡ negℤ (pos n)
-neg-back n h = toZ-ofZ w64 (toZ w64 0 -ℤ toZ w64 n) (neg-fits n h) ∙ neg-is n h
+pub neg-held : (n : ℕ) → n ≤ 4294967296 → SFits w64 (negℤ (pos n))
+neg-held zero h = record { sfits = lit< tt }
+neg-held (suc n) h = record { sfits = lt-of-le-of-lt (down n h) (lit< tt) }
+  where
+    down : (n : ℕ) → suc n ≤ 4294967296 → n ≤ 4294967296
+    down n h = omega arith
 
 -- ---- part
 parted-is : (x : Float) (z : ℤ) → parted x z ≡ cond (eq x (ofInt binary64 z)) (exact z) (rounded z (sub binary64 x (ofInt binary64 z)))

@@ -17,7 +17,8 @@ use Rattle.tap.specs.Rounding.{Coefficient, exact, rounded, nearestWhole
 use Rattle.tap.proofs.Whole.{nearest-near, nearest-whole}
 use Rattle.tap.proofs.Exact.{apart, side, leftover-exact, leftover-fits}
 use Rattle.tap.proofs.Distance.{signed-mul, difference-is, none-nearer, none-larger, no-other}
-use Rattle.tap.proofs.Answer.{rounded-is, of-finite, outside-is, coefficient-is, size-is, split-is}
+use Rattle.tap.proofs.Sign.{size-is}
+use Rattle.tap.proofs.Answer.{rounded-is, of-finite, outside-is, coefficient-is, split-is}
 
 -- ---- the statements
 -- tap × 2^F, exactly, as a fraction of whole numbers

@@ -80,6 +80,12 @@ unfolding outside coefficientOf
 roundedTap F tap =
     refuseIf (ltb 31 F) 4 (refuseIf (not (finite tap)) 5 (refuseIf (outside F tap) 6 (given (coefficientOf F tap))))
 
+-- x without its sign
+abbrev pub absOf : Float → Float
+absOf nan = nan
+absOf (inf s) = inf false
+absOf (fin s m e) = fin false m e
+
 -- a coefficient's N, and its leftover: +0 where it is exact
 abbrev pub wholeOf : Coefficient → ℤ
 wholeOf (exact n) = n

@@ -1,16 +1,23 @@
 -- What the internal functions of the crate give. Definitions only.
-use Prim.Native.Nat.{ℕ, _*_, _^_, min}
-use mathlib.Core.Bool.{Bool, true, false, cond}
+use Prim.Native.Nat.{ℕ, _*_}
+use mathlib.Core.Bool.{false, cond}
 use lib.IntN.{ℤ, pos}
 use lib.Ieee.{Float, nan, inf, fin, binary64, up, down, eq, lt, neg, sub, ofInt}
+use lib.Ieee.Nearest.{closest}
 use Rattle.tap.specs.Rounding.{Coefficient, exact, rounded, nearestWhole}
 
--- the size of the whole number nearest to x × 2^F, and 2^32 where it is more or x is not finite
-unfoldable pub count : Float → ℕ → ℕ
+-- the whole number nearest to a finite x that is not below zero
+unfoldable pub nearestOf : Float → ℕ
 unfolding nearestWhole
-count nan F = 4294967296
-count (inf s) F = 4294967296
-count (fin s m e) F = min (nearestWhole (m * up e * 2 ^ F) (down e)) 4294967296
+nearestOf nan = 0
+nearestOf (inf s) = 0
+nearestOf (fin s m e) = nearestWhole (m * up e) (down e)
+
+-- the same, but that of two numbers as near it is the even one
+unfoldable pub evenOf : Float → ℕ
+evenOf nan = 0
+evenOf (inf s) = 0
+evenOf (fin s m e) = closest (m * up e) (down e)
 
 -- x as the whole number z and the rest
 unfoldable pub parted : Float → ℤ → Coefficient

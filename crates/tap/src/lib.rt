@@ -8,8 +8,8 @@ ghost use lib.IntN.{pos};
 ghost use lib.Ieee as Ieee;
 ghost use lib.Ieee.{fin, binary64};
 ghost use Rattle.refusal.specs.Answer.{given};
-ghost use Rattle.tap.specs.Rounding.{halfOf, signed, most, roundedTap, answerOf};
-ghost use Rattle.tap.specs.Steps.{count, parted, magnitudeOf};
+ghost use Rattle.tap.specs.Rounding.{halfOf, signed, roundedTap, answerOf};
+ghost use Rattle.tap.specs.Steps.{nearestOf, evenOf, parted, magnitudeOf};
 use refusal::Refusal;
 
 // What a tap comes back as: N with nothing left over, N with the leftover tap * 2^F - N, or a
@@ -27,12 +27,12 @@ pub fn magnitude(x: f64) -> f64
     if x < 0.0 { -x } else { x }
 }
 
-// x * 2^k
-fn scaled(x: f64, k: u32) -> f64
-    requires { ⌜ k ≤ 32 ⌝ }
-    ensures { λ r. ⌜ r ≡ Ieee.mul binary64 x (fin false 1 (pos k)) ⌝ }
+// x * 2^f
+fn scaled(x: f64, f: u32) -> f64
+    requires { ⌜ f ≤ 31 ⌝ }
+    ensures { λ r. ⌜ r ≡ Ieee.mul binary64 x (fin false 1 (pos f)) ⌝ }
 {
-    x * ((1u64 << k) as f64)
+    x * f64::from_bits((1023 + (f as u64)) * 4503599627370496)
 }
 
 // The half rule: the size that q + 1/2 goes to. Away from zero.
@@ -43,44 +43,38 @@ fn half(q: u64) -> u64
     q + 1
 }
 
-// The whole number nearest to x * 2^f, for an x that is not below zero, and 2^32 where it is more or
-// x is not finite. The whole part of x * 2^(f + 1) counts the halves, so that 1/2 is never added to
-// a float.
-fn nearest(x: f64, f: u32) -> u64
-    requires { ⌜ (f ≤ 31) × (Ieee.lt x (fin false 0 (pos 0)) ≡ false) ⌝ }
-    ensures { λ r. ⌜ r ≡ count x f ⌝ }
+// The whole number nearest to x, and of two that are as near the even one. A sum of 2^52 or more
+// has no digits for a fraction.
+fn nearest_even(x: f64) -> f64
+    requires { ⌜ (Ieee.lt x (fin false 1 (pos 32)) ≡ true) × (Ieee.lt x (fin false 0 (pos 0)) ≡ false) ⌝ }
+    ensures { λ r. ⌜ r ≡ Ieee.ofInt binary64 (pos (evenOf x)) ⌝ }
 {
-    let y = scaled(x, f + 1);
-    if y < 8589934592.0 {
-        let halves = std::num::truncating_f64_to_u64(y);
-        let q = halves / 2;
-        if halves % 2 == 0 {
-            return q;
-        }
-        if y == (halves as f64) {
-            return half(q);
-        }
-        return q + 1;
+    (x + 4503599627370496.0) - 4503599627370496.0
+}
+
+// The whole number nearest to x. Where x is a half above the even number that is as near, the half
+// rule decides; where it is a half below one, every rule takes that number.
+fn nearest(x: f64) -> u64
+    requires { ⌜ (Ieee.lt x (fin false 1 (pos 32)) ≡ true) × (Ieee.lt x (fin false 0 (pos 0)) ≡ false) ⌝ }
+    ensures { λ r. ⌜ r ≡ nearestOf x ⌝ }
+{
+    let even = nearest_even(x);
+    let n = (even as i64) as u64;
+    if x == even + 0.5 {
+        return half(n);
     }
-    4294967296
+    n
 }
 
-// The largest size of a coefficient, by its sign.
-fn largest_size(negative: bool) -> u64
-    ensures { λ r. ⌜ r ≡ most negative ⌝ }
-{
-    if negative { 2147483648 } else { 2147483647 }
-}
-
-// The coefficient of a size and a sign. Nothing is negated that could be -2^31.
-fn with_sign(negative: bool, size: u64) -> i32
-    requires { ⌜ size ≤ most negative ⌝ }
+// The whole number of a size and a sign.
+fn with_sign(negative: bool, size: u64) -> i64
+    requires { ⌜ size ≤ 4294967296 ⌝ }
     ensures { λ r. ⌜ r ≡ signed negative size ⌝ }
 {
     if negative {
-        (0 - (size as i64)) as i32
+        0 - (size as i64)
     } else {
-        size as i32
+        size as i64
     }
 }
 
@@ -103,13 +97,21 @@ pub fn round_tap(tap: f64, fraction_bits: u32) -> RoundedTap
     if fraction_bits > 31 {
         return RoundedTap::Refused(Refusal::FractionBits);
     }
-    let negative = tap < 0.0;
-    let size = nearest(magnitude(tap), fraction_bits);
-    if size > largest_size(negative) {
-        if finite::is_finite(tap) {
+    let x = scaled(tap, fraction_bits);
+    let size = magnitude(x);
+    if size < 4294967296.0 {
+        let n = with_sign(tap < 0.0, nearest(size));
+        if n > 2147483647 {
             return RoundedTap::Refused(Refusal::OutOfBounds(0));
         }
-        return RoundedTap::Refused(Refusal::TapNotFinite(0));
+        if n < -2147483648 {
+            return RoundedTap::Refused(Refusal::OutOfBounds(0));
+        }
+        return part(x, n as i32);
     }
-    part(scaled(tap, fraction_bits), with_sign(negative, size))
+    if finite::is_finite(tap) {
+        RoundedTap::Refused(Refusal::OutOfBounds(0))
+    } else {
+        RoundedTap::Refused(Refusal::TapNotFinite(0))
+    }
 }

@@ -5,19 +5,13 @@ use mathlib.Core.List.{List, [], _∷_, map}
 use lib.IntN.{ℤ, pos}
 use lib.Dec.{ltb, eqb}
 use lib.ListN.{length}
-use lib.Ieee.{Float, nan, inf, fin, lt}
+use lib.Ieee.{Float, fin, lt}
 use Rattle.refusal.specs.Answer.{Answer, given, turnedDown, refuseIf, refuseAt, lowest}
-use Rattle.tap.specs.Rounding.{Coefficient, finite, outside, coefficientOf, wholeOf, leftOf}
+use Rattle.tap.specs.Rounding.{Coefficient, finite, outside, coefficientOf, absOf, wholeOf, leftOf}
 use Rattle.tap_set.specs.declared.Report.{Report}
 use Rattle.tap_set.specs.declared.RoundedTaps.{RoundedTaps}
 use Rattle.tap_set.specs.declared.RoundedTaps.the-variants.{Given, Refused}
 use Rattle.tap_set.specs.Normalised.{sumOf, unusable, infinite, used, divisorOf}
-
--- x without its sign
-abbrev pub absOf : Float → Float
-absOf nan = nan
-absOf (inf s) = inf false
-absOf (fin s m e) = fin false m e
 
 -- "of equal magnitudes the earliest tap's is taken": y only where it is larger than x
 unfoldable pub largerOf : Float → Float → Float

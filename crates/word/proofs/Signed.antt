@@ -1,7 +1,7 @@
 -- The bits of a signed number n of width w, in a width v that is as wide or wider: one law for every pair of widths. Assumes nothing.
 use mathlib.Core.Path.{_≡_, refl, subst, _∙_, ap}
 use mathlib.Core.Bool.{true, false}
-use Prim.Native.Nat.{ℕ, suc, _-_, _^_, _<_, _≤_}
+use Prim.Native.Nat.{ℕ, suc, _+_, _-_, _^_, _<_, _≤_}
 use native.Mathlib.Omega.{arith}
 use borrow.Author.Tests.{ltb-true}
 use lib.Dec.{T}
@@ -22,6 +22,10 @@ module _ (w : Width) where
   neg-pattern : (v : Width) (n : ℤ) → mag n < 2 ^ bits v → ltZ n (pos 0) ≡ true → 2 ^ bits v - 1 - mag n ≡ ofZ v n
   neg-pattern v (pos k) h p = absurd (omega (arith, ltb-true k 0 p))
   neg-pattern v (negsuc k) h p = omega (arith, h)
+
+  neg-abs : (n : ℤ) → ltZ n (pos 0) ≡ true → mag n + 1 ≡ natAbs n
+  neg-abs (pos k) p = absurd (omega (arith, ltb-true k 0 p))
+  neg-abs (negsuc k) p = omega arith
 
   nonneg : (n : ℤ) → ltZ n (pos 0) ≡ false → n ≡ pos (mag n)
   nonneg (pos k) p = refl
@@ -44,9 +48,15 @@ module _ (w : Width) where
     pub neg-is : ltZ (toZ w (ofZ w n)) (pos 0) ≡ true → 2 ^ bits v - 1 - natAbs (toZ w (2 ^ bits w - 1 - ofZ w n)) ≡ ofZ v n
     neg-is p = rw (turned n h (low p)) (neg-pattern v n room (low p))
 
+    pub neg-abs-is : ltZ (toZ w (ofZ w n)) (pos 0) ≡ true → natAbs (toZ w (2 ^ bits w - 1 - ofZ w n)) + 1 ≡ natAbs n
+    neg-abs-is p = rw (turned n h (low p)) (neg-abs n (low p))
+
     -- n is not negative
     pub pos-cast : ltZ (toZ w (ofZ w n)) (pos 0) ≡ false → T (nonNeg (toZ w (ofZ w n))) × Fits v (natAbs (toZ w (ofZ w n)))
     pos-cast p = rw (toZ-ofZ w n h) (rw (nonneg n (rw (toZ-ofZ w n h) at p)) (tt, record { fits = room }))
 
     pub pos-is : ltZ (toZ w (ofZ w n)) (pos 0) ≡ false → natAbs (toZ w (ofZ w n)) ≡ ofZ v n
     pos-is p = rw (toZ-ofZ w n h) (rw (nonneg n (rw (toZ-ofZ w n h) at p)))
+
+    pub pos-abs : natAbs (toZ w (ofZ w n)) ≡ natAbs n
+    pos-abs = ap natAbs (toZ-ofZ w n h)

@@ -1,5 +1,6 @@
 // Signed numbers as machine words.
 ghost use mathlib.Core.Path.{_≡_};
+ghost use lib.IntN.{natAbs};
 ghost use mir.Syntax.{w32};
 ghost use mir.Val.{ofZ};
 
@@ -13,4 +14,12 @@ pub fn pattern(n: i32) -> u32
     } else {
         n as u32
     }
+}
+
+// The magnitude of n. All bits of a negative number turned over are its magnitude less one, so that
+// nothing is negated here either.
+pub fn magnitude(n: i32) -> u32
+    ensures { λ r. ⌜ r ≡ natAbs n ⌝ }
+{
+    if n < 0 { ((!n) as u32) + 1 } else { n as u32 }
 }

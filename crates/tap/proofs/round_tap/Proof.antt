@@ -4,98 +4,155 @@ use mathlib.Core.Path.{_≡_, refl, sym, ap, _∙_, subst}
 use mathlib.Core.Bool.{Bool, true, false}
 use Prim.Native.Nat.{ℕ, _≤_, _<_}
 use lib.Dec.{T}
-use lib.IntN.{ℤ, pos}
+use lib.IntN.{ℤ, pos, negsuc}
+use lib.Signed.{ltZ, mag}
 use lib.Ieee.{Float, fin, binary64, fits, lt, mul, ofBits}
-use mir.Syntax.{w32}
-use mir.Val.{toZ, ofZ}
+use mir.Syntax.{w32, w64}
+use mir.Val.{SFits, toZ, ofZ}
 use mir.ValLaws.{toZ-ofZ}
-use Rattle.refusal.specs.Answer.{given}
-use Rattle.tap.specs.Rounding.{most, signed}
-use Rattle.tap.specs.Steps.{count, magnitudeOf, parted}
-use Rattle.tap.proofs.Value.{nought, zero-is}
+use Rattle.refusal.specs.Answer.{given, refused}
+use Rattle.tap.specs.Rounding.{most, signed, roundedTap}
+use Rattle.tap.specs.Steps.{nearestOf, magnitudeOf, parted}
+use Rattle.tap.proofs.Value.{nought, two-to, zero-is}
 use Rattle.tap.proofs.Sign.{magnitude-low}
-use Rattle.tap.proofs.Answer.{refused-bits, refused-tap, refused-size, accepted}
+use Rattle.tap.proofs.Answer.{refused-bits, refused-tap, refused-size, size-small, above-most, below-least, between, in-bounds, refused-most, accepted}
 use Rattle.tap.proofs.round_tap.Statement.{statement}
 use Rattle.tap.proofs.round_tap.Tie as tie
 
--- the sign that is tested, with 0.0 as the code has it
-tested : (x : Float) → lt x nought ≡ lt x (ofBits binary64 0)
-tested x = ap (λ (k : Float). lt x k) (sym zero-is)
+-- 2 ^ 32 by its bit pattern, as the code has it
+limit-is : ofBits binary64 0x41f0_0000_0000_0000 ≡ two-to 32
+unfolding ofBits
+limit-is = refl
 
-counted : (c : tie.After-nearest) → let s = c .before .before .before in c .nearest .result ≡ count (magnitudeOf (s .args .tap)) (s .args .fraction-bits)
-counted c = let s = c .before .before .before in c .nearest .ensures ∙ ap (λ (x : Float). count x (s .args .fraction-bits)) (c .before .magnitude .ensures)
+abbrev negative : tie.Start → Bool
+negative s = lt (s .args .tap) (ofBits binary64 0)
 
-over : (c : tie.Then2) → let l = c .before in let s = l .before .before .before .before in most (lt (s .args .tap) (ofBits binary64 0)) < l .before .nearest .result
-over c = let l = c .before in subst (λ (k : ℕ). k < l .before .nearest .result) (l .largest-size .ensures) (c .if2 .taken)
+sign : (s : tie.Start) → lt (s .args .tap) nought ≡ negative s
+sign s = ap (lt (s .args .tap)) (sym zero-is)
 
-under : (c : tie.Else2) → let l = c .before in let s = l .before .before .before .before in l .before .nearest .result ≤ most (lt (s .args .tap) (ofBits binary64 0))
-under c = let l = c .before in subst (λ (k : ℕ). l .before .nearest .result ≤ k) (l .largest-size .ensures) (c .if2 .left)
+held : (s : tie.Start) → T (fits binary64 (s .args .tap))
+held s = subst T (sym (s .good .0 .1)) tt
+
+-- the size, as the laws have it, and its test
+abbrev size : tie.Start → Float
+size s = magnitudeOf (mul binary64 (s .args .tap) (two-to (s .args .fraction-bits)))
+
+size-is : (c : tie.After-magnitude) → c .magnitude .result ≡ size (c .before .before .before)
+size-is c = c .magnitude .ensures ∙ ap magnitudeOf (c .before .scaled .ensures)
+
+tested : (c : tie.After-magnitude) (b : Bool) → lt (c .magnitude .result) (ofBits binary64 0x41f0_0000_0000_0000) ≡ b → lt (size (c .before .before .before)) (two-to 32) ≡ b
+tested c b h = ap (λ (y : Float). lt y (two-to 32)) (sym (size-is c)) ∙ ap (lt (c .magnitude .result)) (sym limit-is) ∙ h
+
+counted : (c : tie.After-nearest) → c .nearest .result ≡ nearestOf (size (c .before .before .before .before .before))
+counted c = c .nearest .ensures ∙ ap nearestOf (size-is (c .before .before))
+
+-- N, as the laws have it
+whole : (c : tie.After-with-sign) → toZ w64 (ofZ w64 (c .with-sign .result)) ≡ signed (negative (c .before .before .before .before .before .before)) (c .before .nearest .result)
+whole c = toZ-ofZ w64 (c .with-sign .result) (record { sfits = c .with-sign .ok }) ∙ c .with-sign .ensures
 
 returns : tie.Need-returns
 returns c = refused-bits (c .before .args .fraction-bits) (c .before .args .tap) (c .if1 .taken)
+
+scaled-requires : tie.Need-scaled-requires
+scaled-requires c κs = search needs
 
 magnitude-requires : tie.Need-magnitude-requires
 magnitude-requires c κs = search needs
 
 nearest-requires : tie.Need-nearest-requires
 nearest-requires c κs =
-    (c .before .if1 .left, ap (λ (x : Float). lt x nought) (c .magnitude .ensures) ∙ magnitude-low (c .before .before .args .tap))
+    let m = c .before in
+    (ap (lt (m .magnitude .result)) (sym limit-is) ∙ c .if2 .taken, ap (λ (y : Float). lt y nought) (m .magnitude .ensures) ∙ magnitude-low (m .before .scaled .result))
 
-largest-size-requires : tie.Need-largest-size-requires
-largest-size-requires c κs = search needs
+with-sign-requires : tie.Need-with-sign-requires
+with-sign-requires c κs =
+    let t = c .before in
+    let s = t .before .before .before .before in
+    size-small (s .args .fraction-bits) (s .args .tap) (c .nearest .result) (held s) (tested (t .before) true (t .if2 .taken)) (counted c)
 
-is-finite-requires : tie.Need-is-finite-requires
-is-finite-requires c κs = search needs
+-- N is outside the bounds
+out : (c : tie.After-with-sign) → let s = c .before .before .before .before .before .before in most (negative s) < c .before .nearest .result → refused 6 0 ≡ roundedTap (s .args .fraction-bits) (s .args .tap)
+out c l =
+    let n = c .before in
+    let t = n .before in
+    let e = t .before .before .before in
+    let s = e .before in
+    refused-most (s .args .fraction-bits) (negative s) (n .nearest .result) (e .if1 .left) (s .args .tap) (held s) (tested (t .before) true (t .if2 .taken)) (sign s) (counted n) l
 
 returns-2 : tie.Need-returns-2
 returns-2 c =
-    let t = c .before .before in
-    let n = t .before .before in
-    let e = n .before .before in
-    let a = e .before .args in
-    refused-size (a .fraction-bits) (a .tap) (lt (a .tap) (ofBits binary64 0)) (n .nearest .result) (e .if1 .left) (sym (c .before .is-finite .ensures) ∙ c .if3 .taken) (tested (a .tap)) (counted n) (over t)
+    let w = c .before in
+    out w (above-most (negative (w .before .before .before .before .before .before)) (w .before .nearest .result) (ap (ltZ (pos 2147483647)) (sym (whole w)) ∙ c .if3 .taken))
 
 returns-3 : tie.Need-returns-3
 returns-3 c =
-    let e = c .before .before .before .before .before .before in
-    let a = e .before .args in
-    refused-tap (a .fraction-bits) (a .tap) (e .if1 .left) (sym (c .before .is-finite .ensures) ∙ c .if3 .left)
+    let w = c .before .before in
+    out w (below-least (negative (w .before .before .before .before .before .before)) (w .before .nearest .result) (ap (λ (z : ℤ). ltZ z (negsuc 2147483647)) (sym (whole w)) ∙ c .if4 .taken))
 
-scaled-requires : tie.Need-scaled-requires
-scaled-requires c κs = search needs
+-- N is within them
+within : (c : tie.Else4) → let w = c .before .before in w .before .nearest .result ≤ most (negative (w .before .before .before .before .before .before))
+within c =
+    let w = c .before .before in
+    between (negative (w .before .before .before .before .before .before)) (w .before .nearest .result) (ap (ltZ (pos 2147483647)) (sym (whole w)) ∙ c .before .if3 .left)
+    (ap (λ (z : ℤ). ltZ z (negsuc 2147483647)) (sym (whole w)) ∙ c .if4 .left)
 
-with-sign-requires : tie.Need-with-sign-requires
-with-sign-requires c κs = under (c .before)
+cast-part : tie.Need-cast-part
+cast-part c =
+    let w = c .before .before in
+    subst (SFits w32) (sym (whole w)) (in-bounds (negative (w .before .before .before .before .before .before)) (w .before .nearest .result) (within c))
 
 part-requires : tie.Need-part-requires
 part-requires c κs = search needs
 
 returns-4 : tie.Need-returns-4
 returns-4 c =
-    let w = c .before in
-    let k = w .before in
-    let l = k .before in
-    let n = l .before .before in
-    let e = n .before .before in
-    let a = e .before .args in
-    let b = lt (a .tap) (ofBits binary64 0) in
+    let g = c .before in
+    let w = g .before .before in
+    let n = w .before in
+    let t = n .before in
+    let k = t .before .before in
+    let e = k .before in
+    let s = e .before in
+    let b = negative s in
+    let r = n .nearest .result in
     c .part .ensures
-    ∙ ap (λ (z : ℤ). given (parted (k .scaled .result) z)) (toZ-ofZ w32 (w .with-sign .result) (record { sfits = w .with-sign .ok }) ∙ w .with-sign .ensures)
-    ∙ ap (λ (x : Float). given (parted x (signed b (n .nearest .result)))) (k .scaled .ensures)
-    ∙ accepted (a .fraction-bits) (a .tap) b (n .nearest .result) (subst T (sym (e .before .good .0 .1)) tt) (e .if1 .left) (tested (a .tap)) (counted n) (under l)
+    ∙ ap (λ (z : ℤ). given (parted (k .scaled .result) (toZ w32 (ofZ w32 z)))) (whole w)
+    ∙ ap (λ (z : ℤ). given (parted (k .scaled .result) z)) (toZ-ofZ w32 (signed b r) (in-bounds b r (within g)))
+    ∙ ap (λ (x : Float). given (parted x (signed b r))) (k .scaled .ensures)
+    ∙ accepted (s .args .fraction-bits) b r (e .if1 .left) (s .args .tap) (held s) (tested (t .before) true (t .if2 .taken)) (sign s) (counted n) (within g)
+
+is-finite-requires : tie.Need-is-finite-requires
+is-finite-requires c κs = search needs
+
+returns-5 : tie.Need-returns-5
+returns-5 c =
+    let f = c .before in
+    let u = f .before in
+    let e = u .before .before .before in
+    let s = e .before in
+    refused-size (s .args .fraction-bits) (s .args .tap) (held s) (e .if1 .left) (sym (f .is-finite .ensures) ∙ c .if5 .taken) (tested (u .before) false (u .if2 .left))
+
+returns-6 : tie.Need-returns-6
+returns-6 c =
+    let f = c .before in
+    let e = f .before .before .before .before in
+    let s = e .before in
+    refused-tap (s .args .fraction-bits) (s .args .tap) (e .if1 .left) (sym (f .is-finite .ensures) ∙ c .if5 .left)
 
 pub round-tap-spec : {M : Type 1} → statement M
 round-tap-spec =
     tie.close
     (tie.spec
     returns
+    scaled-requires
     magnitude-requires
     nearest-requires
-    largest-size-requires
-    is-finite-requires
+    with-sign-requires
     returns-2
     returns-3
-    scaled-requires
-    with-sign-requires
+    cast-part
     part-requires
-    returns-4)
+    returns-4
+    is-finite-requires
+    returns-5
+    returns-6)
