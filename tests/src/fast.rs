@@ -1,11 +1,6 @@
-//! Both entries written for speed, for x86-64 (SSE2, which every such machine has): the core's
-//! time is compared with this.
-
-mod lanes;
+//! Both entries written by hand for speed, in plain Rust: the core's time is compared with this.
 
 use crate::answer::{SetAnswer, TapAnswer, ACCEPTED};
-use lanes::{round_all, Buffer, Scale};
-use std::arch::x86_64::{_mm_cvttsd_si64, _mm_set_sd};
 use std::mem::MaybeUninit;
 
 /// The largest number below a half. A number plus this, with the number's sign, cut to a whole
@@ -16,11 +11,15 @@ fn power_of_two(fraction_bits: u32) -> f64 {
     f64::from_bits((1023 + fraction_bits as u64) << 52)
 }
 
-/// The nearest whole number, and `i64::MIN` where it is far outside the bounds or there is none.
+/// The nearest whole number, where it is within the bounds.
 #[inline(always)]
-fn nearest(scaled: f64) -> i64 {
-    // SAFETY: SSE2 is there; the conversion is defined for every number.
-    unsafe { _mm_cvttsd_si64(_mm_set_sd(scaled + BELOW_HALF.copysign(scaled))) }
+fn nearest(scaled: f64) -> Option<i32> {
+    if scaled > -2147483648.5 && scaled < 2147483647.5 {
+        // SAFETY: the sum, cut to a whole number, is within the bounds of an i32.
+        Some(unsafe { (scaled + BELOW_HALF.copysign(scaled)).to_int_unchecked() })
+    } else {
+        None
+    }
 }
 
 #[inline(never)]
@@ -29,47 +28,57 @@ pub fn round_tap(bits: u64, fraction_bits: u32) -> TapAnswer {
         return TapAnswer::refused(4);
     }
     let tap = f64::from_bits(bits);
-    let whole = nearest(tap * power_of_two(fraction_bits));
-    if whole != whole as i32 as i64 {
-        return TapAnswer::refused(if tap.is_finite() { 6 } else { 5 });
-    }
-    TapAnswer {
-        refusal: 0,
-        coefficient: whole as i32,
+    match nearest(tap * power_of_two(fraction_bits)) {
+        Some(coefficient) => TapAnswer {
+            refusal: 0,
+            coefficient,
+        },
+        None => TapAnswer::refused(if tap.is_finite() { 6 } else { 5 }),
     }
 }
 
-/// The same one by one, with the refusals in their order. In bounds it fills the buffer too.
-#[cold]
-fn careful(taps: &[f64], normalised: bool, scale: Scale, b: &mut Buffer) -> Result<f64, SetAnswer> {
-    let refused = |refusal, place: usize| {
-        let place = place as u32;
-        Err(SetAnswer { refusal, place })
-    };
-    if let Some(place) = taps.iter().position(|tap| !tap.is_finite()) {
-        return refused(5, place);
-    }
-    if scale.divisor == 0.0 || !scale.divisor.is_finite() {
-        return refused(7, 0);
-    }
-    let infinite = |tap: &f64| normalised && (tap / scale.divisor).is_infinite();
-    if let Some(place) = taps.iter().position(infinite) {
-        return refused(7, place);
-    }
+type Buffer = [MaybeUninit<i32>; 256];
+
+/// Rounds all taps, divided where asked, into the buffer; gives the largest leftover, or the first
+/// place where there is no coefficient.
+#[inline(always)]
+fn round_all<const DIVIDE: bool>(
+    taps: &[f64],
+    divisor: f64,
+    power: f64,
+    buffer: &mut Buffer,
+) -> Result<f64, usize> {
     let mut largest = 0.0f64;
-    for (place, tap) in taps.iter().enumerate() {
-        let scaled = scale.one::<true>(*tap);
-        let whole = nearest(scaled);
-        if whole != whole as i32 as i64 {
-            return refused(6, place);
-        }
-        b[place].write(whole as i32);
+    for (place, (tap, out)) in taps.iter().zip(buffer.iter_mut()).enumerate() {
+        let scaled = if DIVIDE { tap / divisor } else { *tap } * power;
+        let whole = nearest(scaled).ok_or(place)?;
+        out.write(whole);
         let leftover = scaled - whole as f64;
         if leftover.abs() > largest.abs() {
             largest = leftover;
         }
     }
     Ok(largest)
+}
+
+/// Which refusal it is, once some tap has no coefficient or the divisor is unfit.
+#[cold]
+fn refusal(taps: &[f64], normalised: bool, divisor: f64, place: usize) -> SetAnswer {
+    let refused = |refusal, place: usize| SetAnswer {
+        refusal,
+        place: place as u32,
+    };
+    if let Some(place) = taps.iter().position(|tap| !tap.is_finite()) {
+        return refused(5, place);
+    }
+    if divisor == 0.0 || !divisor.is_finite() {
+        return refused(7, 0);
+    }
+    let infinite = |tap: &f64| normalised && (tap / divisor).is_infinite();
+    match taps.iter().position(infinite) {
+        Some(place) => refused(7, place),
+        None => refused(6, place),
+    }
 }
 
 /// The checks that look at no tap.
@@ -88,35 +97,6 @@ fn refused_unseen(taps: usize, table: usize, fraction_bits: u32) -> u32 {
     }
 }
 
-/// Divides, scales and rounds into the buffer; gives the divisor and the largest leftover.
-#[inline(always)]
-fn settle(
-    taps: &[f64],
-    fraction_bits: u32,
-    normalised: bool,
-    buffer: &mut Buffer,
-) -> Result<(f64, f64), SetAnswer> {
-    let mut scale = Scale {
-        divisor: 1.0,
-        power: power_of_two(fraction_bits),
-    };
-    let mut quick = None;
-    if !normalised {
-        quick = round_all::<false>(taps, scale, buffer);
-    } else {
-        scale.divisor = taps.iter().fold(0.0, |sum, tap| sum + tap);
-        // A tap that is not finite makes the sum so too.
-        if scale.divisor != 0.0 && scale.divisor.is_finite() {
-            quick = round_all::<true>(taps, scale, buffer);
-        }
-    }
-    let largest = match quick {
-        Some(largest) => largest,
-        None => careful(taps, normalised, scale, buffer)?,
-    };
-    Ok((scale.divisor, largest))
-}
-
 #[inline(never)]
 pub fn round_taps(
     taps: &[f64],
@@ -126,22 +106,35 @@ pub fn round_taps(
     divisor: &mut f64,
     leftover: &mut f64,
 ) -> SetAnswer {
-    let refusal = refused_unseen(taps.len(), coefficients.len(), fraction_bits);
-    if refusal != 0 {
-        return SetAnswer { refusal, place: 0 };
+    let unseen = refused_unseen(taps.len(), coefficients.len(), fraction_bits);
+    if unseen != 0 {
+        return SetAnswer {
+            refusal: unseen,
+            place: 0,
+        };
     }
+    let power = power_of_two(fraction_bits);
     let mut buffer = [MaybeUninit::uninit(); 256];
-    let settled = settle(taps, fraction_bits, normalised != 0, &mut buffer);
-    let (sum, largest) = match settled {
-        Ok(report) => report,
-        Err(refusal) => return refusal,
+    let (sum, settled) = if normalised == 0 {
+        (1.0, round_all::<false>(taps, 1.0, power, &mut buffer))
+    } else {
+        let sum = taps.iter().fold(0.0, |sum, tap| sum + tap);
+        if sum == 0.0 || !sum.is_finite() {
+            return refusal(taps, true, sum, 0);
+        }
+        (sum, round_all::<true>(taps, sum, power, &mut buffer))
     };
-    // SAFETY: the first taps.len() elements of the buffer are filled, and the table has as many.
-    unsafe {
-        let from = buffer.as_ptr().cast::<i32>();
-        std::ptr::copy_nonoverlapping(from, coefficients.as_mut_ptr(), taps.len());
+    match settled {
+        Err(place) => refusal(taps, normalised != 0, sum, place),
+        Ok(largest) => {
+            // SAFETY: the first taps.len() elements are filled, and the table has as many.
+            unsafe {
+                let from = buffer.as_ptr().cast::<i32>();
+                std::ptr::copy_nonoverlapping(from, coefficients.as_mut_ptr(), taps.len());
+            }
+            *divisor = sum;
+            *leftover = largest;
+            ACCEPTED
+        }
     }
-    *divisor = sum;
-    *leftover = largest;
-    ACCEPTED
 }

@@ -237,15 +237,15 @@ minus-zero F h =
     low n e = omega arith
 
 -- no leftover is a not-a-number
-not-nan : (l : Float) → finite l ≡ true → isNan l ≡ false
+pub finite-number : (l : Float) → finite l ≡ true → isNan l ≡ false
 unfolding isNan
-not-nan nan h = absurd (false≢true h)
-not-nan (inf s) h = refl
-not-nan (fin s m e) h = refl
+finite-number nan h = absurd (false≢true h)
+finite-number (inf s) h = refl
+finite-number (fin s m e) h = refl
 
 pub left-finite : (F : ℕ) (tap : Float) (c : Coefficient) → T (fits binary64 tap) → roundedTap F tap ≡ given c → finite (leftOf c) ≡ true
 left-finite F tap (exact N) t h = refl
 left-finite F tap (rounded N l) t h = leftover-of F tap N l t h .is-finite
 
 pub never-nan : (F : ℕ) (tap : Float) (c : Coefficient) → T (fits binary64 tap) → roundedTap F tap ≡ given c → isNan (leftOf c) ≡ false
-never-nan F tap c t h = not-nan (leftOf c) (left-finite F tap c t h)
+never-nan F tap c t h = finite-number (leftOf c) (left-finite F tap c t h)

@@ -1,3 +1,4 @@
 pub mod Sizes
 pub mod Rounds
 pub mod Settled
+pub mod Theorems

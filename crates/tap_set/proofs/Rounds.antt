@@ -1,20 +1,21 @@
--- One turn of `round_all`, by the number it stands at. Assumes nothing.
+-- `round_all`, turn by turn, and what its answer says of the numbers. Assumes nothing.
 use mathlib.Core.Path.{_≡_, refl, sym, ap, _∙_}
-use mathlib.Core.Bool.{Bool, true, false, not, false≢true}
+use mathlib.Core.Bool.{Bool, true, false, not, cond, true≢false, false≢true}
 use mathlib.Core.List.{List, [], _∷_}
 use Prim.Native.Nat.{ℕ, suc, _+_, _≤_, _<_}
 use native.Mathlib.Numerals.{add-one}
 use lib.IntN.{ℤ}
+use lib.Dec.{ltb}
 use lib.ListN.{length, drop, getD, drop-of-length-le}
 use lib.Seq.{drop-cons}
 use lib.Ieee.{Float, nan}
 use Rattle.refusal.specs.Answer.{Answer, given, refused, refuseIf, refuseAt, Place, nowhere, at-place, lowestFrom, lowest}
-use Rattle.refusal.proofs.Checks.{lowest-here, lowest-later, lowest-none, lowest-none-at}
+use Rattle.refusal.proofs.Checks.{check-passes, given-at, lowest-here, lowest-none, lowest-all, lowest-alike}
 use Rattle.tap.specs.Rounding.{Coefficient, finite, outside, coefficientOf, roundedTap, wholeOf, leftOf}
-use Rattle.tap.proofs.Answer.{of-finite}
+use Rattle.tap.proofs.Answer.{rounded-is, of-finite}
 use Rattle.tap_set.specs.declared.Report.{Report}
-use Rattle.tap_set.specs.Set.{reported, reportFrom, reportOf, bounded}
-use Rattle.tap_set.specs.Steps.{isRefused, wholeIn, leftIn, withLeftover}
+use Rattle.tap_set.specs.Set.{reported, reportFrom, reportOf}
+use Rattle.tap_set.specs.Steps.{isRefused, wholeIn, leftIn, withLeftover, turned, tried, finiteRule, checked}
 
 abbrev pub notFinite : Float → Bool
 notFinite x = not (finite x)
@@ -23,46 +24,42 @@ notFinite x = not (finite x)
 abbrev pub whole : ℕ → Float → ℤ
 whole f x = wholeOf (coefficientOf f x)
 
--- ---- a finite number
+-- ---- one number: what is not turned down has a coefficient
 pub unnot : (b : Bool) → not b ≡ false → b ≡ true
 unnot true h = refl
 unnot false h = absurd (false≢true (sym h))
 
-rounded-at : (f : ℕ) (xs : List Float) (i : ℕ) → f ≤ 31 → lowest notFinite xs ≡ nowhere → i < length xs
-    → let x = getD xs i nan in roundedTap f x ≡ refuseIf (outside f x) 6 (given (coefficientOf f x))
-rounded-at f xs i h n l = of-finite f (getD xs i nan) h (unnot (finite (getD xs i nan)) (lowest-none-at nan notFinite 0 xs i n l))
+passes : {A : Type 0} (b : Bool) (number : ℕ) (rest : Answer A) → isRefused (refuseIf b number rest) ≡ false → (b ≡ false) × (isRefused rest ≡ false)
+passes true number rest h = absurd (true≢false h)
+passes false number rest h = (refl, h)
 
-refused-is : (b : Bool) (c : Coefficient) → isRefused (refuseIf b 6 (given c)) ≡ b
-refused-is true c = refl
-refused-is false c = refl
+pub kept : (F : ℕ) (x : Float) → turned F x ≡ false → (finite x ≡ true) × (outside F x ≡ false) × (roundedTap F x ≡ given (coefficientOf F x))
+kept F x h =
+    let a = passes (ltb 31 F) 4 _ (ap isRefused (sym (rounded-is F x)) ∙ h) in
+    let b = passes (not (finite x)) 5 _ (a .1) in
+    let d = passes (outside F x) 6 _ (b .1) in (
+      unnot (finite x) (b .0),
+      d .0,
+      rounded-is F x ∙ check-passes (ltb 31 F) 4 _ (a .0) ∙ check-passes (not (finite x)) 5 _ (b .0) ∙ check-passes (outside F x) 6 _ (d .0),
+    )
 
--- t is what the number at place i is rounded to
-module _ (f : ℕ) (xs : List Float) (i : ℕ) (t : Answer Coefficient) (F : f ≤ 31) (n : lowest notFinite xs ≡ nowhere) (l : i < length xs) (e : t ≡ roundedTap f (getD xs i nan)) where
-  abbrev x : Float
-  x = getD xs i nan
+-- t is what x is rounded to, and is not turned down
+pub whole-is : (F : ℕ) (x : Float) (t : Answer Coefficient) → t ≡ roundedTap F x → isRefused t ≡ false → wholeIn t ≡ whole F x
+whole-is F x t e h = ap wholeIn (e ∙ kept F x (ap isRefused (sym e) ∙ h) .2)
 
-  pub outside-is : isRefused t ≡ outside f (getD xs i nan)
-  outside-is = ap isRefused (e ∙ rounded-at f xs i F n l) ∙ refused-is (outside f (getD xs i nan)) (coefficientOf f (getD xs i nan))
-
-  kept : isRefused t ≡ false → t ≡ given (coefficientOf f (getD xs i nan))
-  kept h = e ∙ rounded-at f xs i F n l ∙ ap (λ (b : Bool). refuseIf b 6 (given (coefficientOf f (getD xs i nan)))) (sym outside-is ∙ h)
-
-  pub whole-is : isRefused t ≡ false → wholeIn t ≡ whole f (getD xs i nan)
-  whole-is h = ap wholeIn (kept h)
-
-  pub left-is : isRefused t ≡ false → leftIn t ≡ leftOf (coefficientOf f (getD xs i nan))
-  left-is h = ap leftIn (kept h)
+pub left-is : (F : ℕ) (x : Float) (t : Answer Coefficient) → t ≡ roundedTap F x → isRefused t ≡ false → leftIn t ≡ leftOf (coefficientOf F x)
+left-is F x t e h = ap leftIn (e ∙ kept F x (ap isRefused (sym e) ∙ h) .2)
 
 -- ---- the report
 with-is : (r : Report) (c : Coefficient) → withLeftover r (leftOf c) ≡ reported r c
 unfolding withLeftover reported
 with-is r c = refl
 
-report-one : (f : ℕ) (r : Report) (x : Float) (xs : List Float) → reportFrom f r (x ∷ xs) ≡ reportFrom f (reported r (coefficientOf f x)) xs
+pub report-one : (f : ℕ) (r : Report) (x : Float) (xs : List Float) → reportFrom f r (x ∷ xs) ≡ reportFrom f (reported r (coefficientOf f x)) xs
 unfolding reportFrom
 report-one f r x xs = refl
 
-report-none : (f : ℕ) (r : Report) → reportFrom f r [] ≡ r
+pub report-none : (f : ℕ) (r : Report) → reportFrom f r [] ≡ r
 unfolding reportFrom
 report-none f r = refl
 
@@ -78,19 +75,65 @@ pub report-end : (f : ℕ) (r : Report) (xs : List Float) (i : ℕ) → length x
 report-end f r xs i h = ap (reportFrom f r) (drop-of-length-le xs h) ∙ report-none f r
 
 -- ---- the answer
-bounded-is : (f : ℕ) (d : Float) (xs : List Float) → bounded f d xs ≡ refuseAt (lowest (outside f) xs) 6 (given (reportOf f d xs))
-unfolding bounded
-bounded-is f d xs = refl
+tried-is : (F : ℕ) (d : Float) (xs : List Float) → tried F d xs ≡ refuseAt (lowest (turned F) xs) 6 (given (reportOf F d xs))
+unfolding tried
+tried-is F d xs = refl
 
-pub bounded-stop : (f : ℕ) (d : Float) (xs : List Float) (i : ℕ) → lowestFrom i (outside f) (drop i xs) ≡ lowest (outside f) xs → i < length xs → outside f (getD xs i nan) ≡ true
-    → refused 6 i ≡ bounded f d xs
-bounded-stop f d xs i p h o =
-    sym (bounded-is f d xs ∙ ap (λ (w : Place). refuseAt w 6 (given (reportOf f d xs))) (sym p ∙ lowest-here nan (outside f) xs i h o))
+pub tried-stop : (F : ℕ) (d : Float) (xs : List Float) (i : ℕ) → lowestFrom i (turned F) (drop i xs) ≡ lowest (turned F) xs → i < length xs → turned F (getD xs i nan) ≡ true → refused 6 i ≡ tried F d xs
+tried-stop F d xs i p h o = sym (tried-is F d xs ∙ ap (λ (w : Place). refuseAt w 6 (given (reportOf F d xs))) (sym p ∙ lowest-here nan (turned F) xs i h o))
 
-pub bounded-end : (f : ℕ) (d : Float) (xs : List Float) (i : ℕ) (r : Report) → lowestFrom i (outside f) (drop i xs) ≡ lowest (outside f) xs → reportFrom f r (drop i xs) ≡ reportOf f d xs → length xs ≤ i
-    → given r ≡ bounded f d xs
-bounded-end f d xs i r p q h =
+pub tried-end : (F : ℕ) (d : Float) (xs : List Float) (i : ℕ) (r : Report) → lowestFrom i (turned F) (drop i xs) ≡ lowest (turned F) xs → reportFrom F r (drop i xs) ≡ reportOf F d xs → length xs ≤ i
+    → given r ≡ tried F d xs
+tried-end F d xs i r p q h =
     sym
-    (bounded-is f d xs
-    ∙ ap (λ (w : Place). refuseAt w 6 (given (reportOf f d xs))) (sym p ∙ lowest-none nan (outside f) xs i h)
-    ∙ ap given (sym q ∙ report-end f r xs i h))
+    (tried-is F d xs
+    ∙ ap (λ (w : Place). refuseAt w 6 (given (reportOf F d xs))) (sym p ∙ lowest-none nan (turned F) xs i h)
+    ∙ ap given (sym q ∙ report-end F r xs i h))
+
+-- ---- from `tried` to `checked`
+checked-is : (b : Bool) (F : ℕ) (d : Float) (xs : List Float) → checked b F d xs ≡ refuseAt (lowest notFinite xs) (finiteRule b) (refuseAt (lowest (outside F) xs) 6 (given (reportOf F d xs)))
+unfolding checked
+checked-is b F d xs = refl
+
+-- where nothing is turned down, all are finite and within the bounds
+all-pass : (F k : ℕ) (xs : List Float) → lowestFrom k (turned F) xs ≡ nowhere → (lowestFrom k notFinite xs ≡ nowhere) × (lowestFrom k (outside F) xs ≡ nowhere)
+unfolding lowestFrom
+all-pass F k [] h = (refl, refl)
+all-pass F k (x ∷ xs) h =
+    let w = lowest-all (turned F) k x xs h in
+    let e = kept F x (w .0) in
+    let r = all-pass F (suc k) xs (w .1) in (
+      ap (λ (b : Bool). cond (not b) (at-place k) (lowestFrom (suc k) notFinite xs)) (e .0) ∙ r .0,
+      ap (λ (b : Bool). cond b (at-place k) (lowestFrom (suc k) (outside F) xs)) (e .1) ∙ r .1,
+    )
+
+-- where all are finite, what is turned down is outside the bounds
+turned-finite : (F : ℕ) (x : Float) → F ≤ 31 → finite x ≡ true → turned F x ≡ outside F x
+turned-finite F x f h = ap isRefused (of-finite F x f h) ∙ go (outside F x)
+  where
+    go : (b : Bool) → isRefused (refuseIf b 6 (given (coefficientOf F x))) ≡ b
+    go true = refl
+    go false = refl
+
+only-outside : (F k j : ℕ) (xs : List Float) → F ≤ 31 → lowestFrom k notFinite xs ≡ nowhere → lowestFrom j (turned F) xs ≡ lowestFrom j (outside F) xs
+unfolding lowestFrom
+only-outside F k j [] f h = refl
+only-outside F k j (x ∷ xs) f h =
+    let w = lowest-all notFinite k x xs h in
+    lowest-alike (turned F) (outside F) j x xs (turned-finite F x f (unnot (finite x) (w .0))) (only-outside F (suc k) (suc j) xs f (w .1))
+
+pub checked-all : (b : Bool) (F : ℕ) (d : Float) (xs : List Float) (r : Report) → given r ≡ tried F d xs → given r ≡ checked b F d xs
+checked-all b F d xs r e =
+    let g = given-at (lowest (turned F) xs) 6 (given (reportOf F d xs)) r (sym (tried-is F d xs) ∙ sym e) in
+    let p = all-pass F 0 xs (g .0) in
+    sym (g .1)
+    ∙ sym (checked-is b F d xs ∙ ap (λ (w : Place). refuseAt w (finiteRule b) (refuseAt (lowest (outside F) xs) 6 (given (reportOf F d xs)))) (p .0) ∙ ap (λ (w : Place). refuseAt w 6 (given (reportOf F d xs))) (p .1))
+
+pub checked-stop : (b : Bool) (F : ℕ) (d : Float) (xs : List Float) (i : ℕ) → lowest notFinite xs ≡ at-place i → refused (finiteRule b) i ≡ checked b F d xs
+checked-stop b F d xs i p = sym (checked-is b F d xs ∙ ap (λ (w : Place). refuseAt w (finiteRule b) (refuseAt (lowest (outside F) xs) 6 (given (reportOf F d xs)))) p)
+
+pub checked-tried : (b : Bool) (F : ℕ) (d : Float) (xs : List Float) → F ≤ 31 → lowest notFinite xs ≡ nowhere → tried F d xs ≡ checked b F d xs
+checked-tried b F d xs f p =
+    tried-is F d xs
+    ∙ ap (λ (w : Place). refuseAt w 6 (given (reportOf F d xs))) (only-outside F 0 0 xs f p)
+    ∙ sym (checked-is b F d xs ∙ ap (λ (w : Place). refuseAt w (finiteRule b) (refuseAt (lowest (outside F) xs) 6 (given (reportOf F d xs)))) p)

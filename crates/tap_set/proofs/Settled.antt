@@ -8,15 +8,15 @@ use native.Mathlib.Omega.{arith}
 use lib.IntN.{ℤ, pos, negsuc}
 use lib.Dec.{T, ltb, eqb}
 use lib.ListN.{length}
-use lib.Ieee.{Float, nan, inf, fin, binary64, round, nearest, size, units, odd, div, isNan, up, down, unlike}
+use lib.Ieee.{Float, nan, inf, fin, binary64, round, nearest, size, units, odd, add, div, isNan, up, down, unlike}
 use borrow.Author.Tests.{lt-ltb, le-ltb, eq-eqb, ne-eqb}
 use Rattle.refusal.specs.Answer.{Answer, given, refused, refuseIf, refuseAt, Place, nowhere, at-place, lowestFrom, lowest}
 use Rattle.refusal.proofs.Checks.{check-applies, check-passes, lowest-all, lowest-alike, lowest-within}
 use Rattle.tap.specs.Rounding.{finite}
 use Rattle.tap_set.specs.declared.Report.{Report}
-use Rattle.tap_set.specs.Normalised.{sumOf, unusable, infinite, quotients, used, divisorOf}
+use Rattle.tap_set.specs.Normalised.{sumFrom, sumOf, unusable, infinite, quotients, used, divisorOf}
 use Rattle.tap_set.specs.Set.{bounded, roundedTaps}
-use Rattle.tap_set.specs.Steps.{placeOr, settled}
+use Rattle.tap_set.specs.Steps.{placeOr, finiteRule, checked, settled}
 use Rattle.tap_set.proofs.Rounds.{notFinite, unnot}
 
 -- ---- the place that a scan found, or that it found none
@@ -88,45 +88,80 @@ infinite-quotients y k j (x ∷ xs) u h =
     let n = div-number x y (unnot (finite x) (w .0)) u in
     lowest-alike notFinite infinite j (div binary64 x y) (quotients y xs) (infinite-number (div binary64 x y) n) (infinite-quotients y (suc k) (suc j) xs u (w .1))
 
--- ---- `settled`, normalised
-settled-is : (F : ℕ) (taps : List Float) → let S = sumOf taps in
-    settled F true taps ≡ refuseIf (unusable S) 7 (refuseAt (lowest infinite (quotients S taps)) 7 (bounded F S (quotients S taps)))
+checked-is : (b : Bool) (F : ℕ) (d : Float) (xs : List Float) → checked b F d xs ≡ refuseAt (lowest notFinite xs) (finiteRule b) (bounded F d xs)
+unfolding checked
+checked-is b F d xs = refl
+
+-- ---- a sum that is finite has only finite taps
+add-finite : (x y : Float) → finite (add binary64 x y) ≡ true → (finite x ≡ true) × (finite y ≡ true)
+unfolding add
+add-finite nan y h = absurd (false≢true h)
+add-finite (inf s) nan h = absurd (false≢true h)
+add-finite (inf true) (inf true) h = absurd (false≢true h)
+add-finite (inf true) (inf false) h = absurd (false≢true h)
+add-finite (inf false) (inf true) h = absurd (false≢true h)
+add-finite (inf false) (inf false) h = absurd (false≢true h)
+add-finite (inf s) (fin t n d) h = absurd (false≢true h)
+add-finite (fin s m e) nan h = absurd (false≢true h)
+add-finite (fin s m e) (inf t) h = absurd (false≢true h)
+add-finite (fin s m e) (fin t n d) h = (refl, refl)
+
+sum-finite : (t : Float) (k : ℕ) (xs : List Float) → finite (sumFrom t xs) ≡ true → (finite t ≡ true) × (lowestFrom k notFinite xs ≡ nowhere)
+unfolding sumFrom lowestFrom
+sum-finite t k [] h = (h, refl)
+sum-finite t k (x ∷ xs) h =
+    let r = sum-finite (add binary64 t x) (suc k) xs h in
+    let e = add-finite t x (r .0) in
+    (e .0, ap (λ (b : Bool). cond (not b) (at-place k) (lowestFrom (suc k) notFinite xs)) (e .1) ∙ r .1)
+
+pub usable-number : (x : Float) → unusable x ≡ false → finite x ≡ true
+usable-number nan h = absurd (true≢false h)
+usable-number (inf s) h = absurd (true≢false h)
+usable-number (fin s m e) h = refl
+
+-- ---- `settled`
+pub settled-open : (F : ℕ) (normalised : Bool) (taps : List Float) → settled F normalised taps
+    ≡ refuseAt (lowest notFinite taps) 5
+    (refuseIf (normalised && unusable (sumOf taps)) 7 (refuseAt (lowest (λ (q : Float). normalised && infinite q) (used normalised taps)) 7 (bounded F (divisorOf normalised taps) (used normalised taps))))
 unfolding settled
-settled-is F taps = refl
+settled-open F normalised taps = refl
 
-pub sum-stop : (F : ℕ) (taps : List Float) → unusable (sumOf taps) ≡ true → refused 7 0 ≡ settled F true taps
-sum-stop F taps u = sym (settled-is F taps ∙ check-applies (unusable (sumOf taps)) 7 _ u)
+-- normalised
+module _ (F : ℕ) (taps : List Float) where
+  abbrev S : Float
+  S = sumOf taps
 
-module _ (F : ℕ) (taps : List Float) (u : unusable (sumOf taps) ≡ false) (h : lowest notFinite taps ≡ nowhere) where
-  summed : settled F true taps ≡ refuseAt (lowest notFinite (quotients (sumOf taps) taps)) 7 (bounded F (sumOf taps) (quotients (sumOf taps) taps))
-  summed =
-      settled-is F taps
-      ∙ check-passes (unusable (sumOf taps)) 7 _ u
-      ∙ ap (λ (p : Place). refuseAt p 7 (bounded F (sumOf taps) (quotients (sumOf taps) taps))) (sym (infinite-quotients (sumOf taps) 0 0 taps u h))
+  abbrev Q : List Float
+  Q = quotients (sumOf taps) taps
 
-  pub quotient-stop : (i : ℕ) → lowest notFinite (quotients (sumOf taps) taps) ≡ at-place i → refused 7 i ≡ settled F true taps
-  quotient-stop i p = sym (summed ∙ ap (λ (w : Place). refuseAt w 7 (bounded F (sumOf taps) (quotients (sumOf taps) taps))) p)
+  settled-is : settled F true taps ≡ refuseAt (lowest notFinite taps) 5 (refuseIf (unusable S) 7 (refuseAt (lowest infinite Q) 7 (bounded F S Q)))
+  settled-is = settled-open F true taps
 
-  pub quotients-pass : lowest notFinite (quotients (sumOf taps) taps) ≡ nowhere → bounded F (sumOf taps) (quotients (sumOf taps) taps) ≡ settled F true taps
-  quotients-pass p = sym (summed ∙ ap (λ (w : Place). refuseAt w 7 (bounded F (sumOf taps) (quotients (sumOf taps) taps))) p)
+  pub without-sum : unusable (sumOf taps) ≡ true → refuseAt (lowest notFinite taps) 5 (refused 7 0) ≡ settled F true taps
+  without-sum u = sym (settled-is ∙ ap (refuseAt (lowest notFinite taps) 5) (check-applies (unusable S) 7 _ u))
 
--- ---- `settled`, not normalised
+  pub with-sum : unusable (sumOf taps) ≡ false → checked true F (sumOf taps) (quotients (sumOf taps) taps) ≡ settled F true taps
+  with-sum u =
+      let p = sum-finite (fin false 0 (pos 0)) 0 taps (usable-number S u) .1 in
+      checked-is true F S Q
+      ∙ ap (λ (w : Place). refuseAt w 7 (bounded F S Q)) (infinite-quotients S 0 0 taps u p)
+      ∙ sym (settled-is ∙ ap (λ (w : Place). refuseAt w 5 (refuseIf (unusable S) 7 (refuseAt (lowest infinite Q) 7 (bounded F S Q)))) p ∙ check-passes (unusable S) 7 _ u)
+
+-- not normalised
 never : (k : ℕ) (xs : List Float) → lowestFrom k (λ (q : Float). false && infinite q) xs ≡ nowhere
 unfolding lowestFrom
 never k [] = refl
 never k (x ∷ xs) = never (suc k) xs
 
-plain-is : (F : ℕ) (taps : List Float) → settled F false taps ≡ refuseAt (lowest (λ (q : Float). false && infinite q) taps) 7 (bounded F (fin false 1 (pos 0)) taps)
-unfolding settled
-plain-is F taps = refl
-
-pub plain-settled : (F : ℕ) (taps : List Float) → bounded F (fin false 1 (pos 0)) taps ≡ settled F false taps
-plain-settled F taps = sym (plain-is F taps ∙ ap (λ (p : Place). refuseAt p 7 (bounded F (fin false 1 (pos 0)) taps)) (never 0 taps))
+pub plain-settled : (F : ℕ) (taps : List Float) → checked false F (fin false 1 (pos 0)) taps ≡ settled F false taps
+plain-settled F taps =
+    checked-is false F (fin false 1 (pos 0)) taps
+    ∙ sym (settled-open F false taps ∙ ap (λ (p : Place). refuseAt (lowest notFinite taps) 5 (refuseAt p 7 (bounded F (fin false 1 (pos 0)) taps))) (never 0 taps))
 
 -- ---- `roundedTaps`
 module _ (F : ℕ) (normalised : Bool) (taps : List Float) (room : ℕ) where
-  all-is : roundedTaps F normalised taps room
-      ≡ refuseIf (eqb (length taps) 0) 1 (refuseIf (ltb 256 (length taps)) 2 (refuseIf (ltb room (length taps)) 3 (refuseIf (ltb 31 F) 4 (refuseAt (lowest notFinite taps) 5 (settled F normalised taps)))))
+  pub all-is : roundedTaps F normalised taps room
+      ≡ refuseIf (eqb (length taps) 0) 1 (refuseIf (ltb 256 (length taps)) 2 (refuseIf (ltb room (length taps)) 3 (refuseIf (ltb 31 F) 4 (settled F normalised taps))))
   unfolding roundedTaps settled
   all-is = refl
 
@@ -134,32 +169,26 @@ module _ (F : ℕ) (normalised : Bool) (taps : List Float) (room : ℕ) where
   no-taps h = sym (all-is ∙ check-applies (eqb (length taps) 0) 1 _ (eq-eqb (length taps) 0 h))
 
   module _ (a : length taps ≡ 0 → ⊥) where
-    some-taps : roundedTaps F normalised taps room ≡ refuseIf (ltb 256 (length taps)) 2 (refuseIf (ltb room (length taps)) 3 (refuseIf (ltb 31 F) 4 (refuseAt (lowest notFinite taps) 5 (settled F normalised taps))))
+    some-taps : roundedTaps F normalised taps room ≡ refuseIf (ltb 256 (length taps)) 2 (refuseIf (ltb room (length taps)) 3 (refuseIf (ltb 31 F) 4 (settled F normalised taps)))
     some-taps = all-is ∙ check-passes (eqb (length taps) 0) 1 _ (ne-eqb (length taps) 0 a)
 
     pub many-taps : 256 < length taps → refused 2 0 ≡ roundedTaps F normalised taps room
     many-taps h = sym (some-taps ∙ check-applies (ltb 256 (length taps)) 2 _ (lt-ltb 256 (length taps) h))
 
     module _ (b : length taps ≤ 256) where
-      few-taps : roundedTaps F normalised taps room ≡ refuseIf (ltb room (length taps)) 3 (refuseIf (ltb 31 F) 4 (refuseAt (lowest notFinite taps) 5 (settled F normalised taps)))
+      few-taps : roundedTaps F normalised taps room ≡ refuseIf (ltb room (length taps)) 3 (refuseIf (ltb 31 F) 4 (settled F normalised taps))
       few-taps = some-taps ∙ check-passes (ltb 256 (length taps)) 2 _ (le-ltb 256 (length taps) b)
 
       pub short-table : room < length taps → refused 3 0 ≡ roundedTaps F normalised taps room
       short-table h = sym (few-taps ∙ check-applies (ltb room (length taps)) 3 _ (lt-ltb room (length taps) h))
 
       module _ (d : length taps ≤ room) where
-        with-room : roundedTaps F normalised taps room ≡ refuseIf (ltb 31 F) 4 (refuseAt (lowest notFinite taps) 5 (settled F normalised taps))
+        with-room : roundedTaps F normalised taps room ≡ refuseIf (ltb 31 F) 4 (settled F normalised taps)
         with-room = few-taps ∙ check-passes (ltb room (length taps)) 3 _ (le-ltb room (length taps) d)
 
         pub many-bits : 31 < F → refused 4 0 ≡ roundedTaps F normalised taps room
         many-bits h = sym (with-room ∙ check-applies (ltb 31 F) 4 _ (lt-ltb 31 F h))
 
         module _ (f : F ≤ 31) where
-          few-bits : roundedTaps F normalised taps room ≡ refuseAt (lowest notFinite taps) 5 (settled F normalised taps)
-          few-bits = with-room ∙ check-passes (ltb 31 F) 4 _ (le-ltb 31 F f)
-
-          pub not-finite : (i : ℕ) → lowest notFinite taps ≡ at-place i → refused 5 i ≡ roundedTaps F normalised taps room
-          not-finite i p = sym (few-bits ∙ ap (λ (w : Place). refuseAt w 5 (settled F normalised taps)) p)
-
-          pub all-finite : lowest notFinite taps ≡ nowhere → settled F normalised taps ≡ roundedTaps F normalised taps room
-          all-finite p = sym (few-bits ∙ ap (λ (w : Place). refuseAt w 5 (settled F normalised taps)) p)
+          pub few-bits : settled F normalised taps ≡ roundedTaps F normalised taps room
+          few-bits = sym (with-room ∙ check-passes (ltb 31 F) 4 _ (le-ltb 31 F f))

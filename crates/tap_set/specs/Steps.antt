@@ -1,16 +1,16 @@
 -- What the internal functions of the crate give. Definitions only.
 use Prim.Native.Nat.{ℕ}
-use mathlib.Core.Bool.{Bool, true, false, _&&_}
+use mathlib.Core.Bool.{Bool, true, false, not, _&&_, cond}
 use mathlib.Core.List.{List, _++_}
 use lib.IntN.{ℤ, pos}
 use lib.ListN.{length, drop}
 use mathlib.Core.Path.{_≡_}
 use Rattle.refusal.specs.Answer.{Answer, given, refused, Place, nowhere, at-place, refuseIf, refuseAt, lowest}
 use lib.Ieee.{Float, fin}
-use Rattle.tap.specs.Rounding.{Coefficient, wholeOf, leftOf}
+use Rattle.tap.specs.Rounding.{Coefficient, finite, wholeOf, leftOf, roundedTap}
 use Rattle.tap_set.specs.declared.Report.{Report}
 use Rattle.tap_set.specs.Normalised.{sumOf, unusable, infinite, used, divisorOf}
-use Rattle.tap_set.specs.Set.{largerOf, bounded}
+use Rattle.tap_set.specs.Set.{largerOf, reportOf, bounded}
 
 -- a place, or n where there is none
 abbrev pub placeOr : ℕ → Place → ℕ
@@ -42,10 +42,28 @@ abbrev pub Front : {A B : Type 0} → Answer A → List B → List B → List B 
 Front (given a) results old new = new ≡ results ++ drop (length results) old
 Front (refused number place) results old new = Unit {0}
 
--- a set whose taps are finite: the checks 7 and 6
+-- whether a number is turned down, as a tap is
+abbrev pub turned : ℕ → Float → Bool
+turned F x = isRefused (roundedTap F x)
+
+-- the numbers in turn, up to the first that is turned down
+unfoldable pub tried : ℕ → Float → List Float → Answer Report
+tried F d xs = refuseAt (lowest (turned F) xs) 6 (given (reportOf F d xs))
+
+-- the refusal of a number that is not finite: 7 for a quotient, 5 for a tap
+abbrev pub finiteRule : Bool → ℕ
+finiteRule normalised = cond normalised 7 5
+
+-- numbers that may not be finite, with the check 6
+unfoldable pub checked : Bool → ℕ → Float → List Float → Answer Report
+unfolding bounded
+checked normalised F d xs = refuseAt (lowest (λ (x : Float). not (finite x)) xs) (finiteRule normalised) (bounded F d xs)
+
+-- a set that has passed the checks 1 to 4
 unfoldable pub settled : ℕ → Bool → List Float → Answer Report
 unfolding bounded
 settled F normalised taps =
-    refuseIf (normalised && unusable (sumOf taps)) 7
+    refuseAt (lowest (λ (x : Float). not (finite x)) taps) 5
+    (refuseIf (normalised && unusable (sumOf taps)) 7
     (refuseAt (lowest (λ (q : Float). normalised && infinite q) (used normalised taps)) 7
-    (bounded F (divisorOf normalised taps) (used normalised taps)))
+    (bounded F (divisorOf normalised taps) (used normalised taps))))

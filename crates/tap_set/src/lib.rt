@@ -5,11 +5,11 @@ ghost use mathlib.Core.List.{_++_};
 ghost use Prim.Native.Nat.{_≤_};
 ghost use lib.ListN.{length, take, drop};
 ghost use lib.Ieee.{Float};
-ghost use Rattle.refusal.specs.Answer.{nowhere, lowest, filled};
+ghost use Rattle.refusal.specs.Answer.{refused, refuseAt, lowest, filled};
 ghost use Rattle.tap.specs.Rounding as Tap;
 ghost use Rattle.tap_set.specs.Normalised.{sumOf, unusable, quotients, used};
-ghost use Rattle.tap_set.specs.Set.{largerOf, coefficientsOf, bounded, roundedTaps, answerOf};
-ghost use Rattle.tap_set.specs.Steps.{placeOr, isRefused, wholeIn, leftIn, withLeftover, Front, settled};
+ghost use Rattle.tap_set.specs.Set.{largerOf, coefficientsOf, roundedTaps, answerOf};
+ghost use Rattle.tap_set.specs.Steps.{placeOr, isRefused, wholeIn, leftIn, withLeftover, Front, tried, finiteRule, checked, settled};
 use refusal::Refusal;
 use tap::RoundedTap;
 
@@ -125,11 +125,11 @@ fn with_tap(report: Report, tap: RoundedTap) -> Report
     }
 }
 
-// Rounds the numbers into the front of the buffer, up to the first whose coefficient is out of
-// bounds. The report is handed on from number to number.
+// Rounds the numbers into the front of the buffer, up to the first that is turned down. The report
+// is handed on from number to number.
 fn round_all(xs: &[f64], f: u32, divisor: f64, buffer: &mut [i32]) -> RoundedTaps
-    requires { ⌜ (f ≤ 31) × (length (now xs) ≤ 256) × (256 ≤ length (now buffer)) × (lowest (λ (x : Float). not (Tap.finite x)) (now xs) ≡ nowhere) ⌝ }
-    ensures { λ r. ⌜ answerOf r ≡ bounded f divisor (now (xs .entry)) ⌝ }
+    requires { ⌜ (length (now xs) ≤ 256) × (256 ≤ length (now buffer)) ⌝ }
+    ensures { λ r. ⌜ answerOf r ≡ tried f divisor (now (xs .entry)) ⌝ }
     ensures { λ r. ⌜ Front (answerOf r) (coefficientsOf f (now (xs .entry))) (now (buffer .entry)) (now (buffer .exit)) ⌝ }
 {
     let mut report = Report {
@@ -161,41 +161,76 @@ fn copy(from: &[i32], n: usize, to: &mut [i32])
     }
 }
 
-// The coefficients of finite numbers: all of them, or none is written.
-fn settle(xs: &[f64], f: u32, divisor: f64, coefficients: &mut [i32]) -> RoundedTaps
-    requires { ⌜ (f ≤ 31) × (length (now xs) ≤ 256) × (length (now xs) ≤ length (now coefficients)) × (lowest (λ (x : Float). not (Tap.finite x)) (now xs) ≡ nowhere) ⌝ }
-    ensures { λ r. ⌜ answerOf r ≡ bounded f divisor (now (xs .entry)) ⌝ }
-    ensures { λ r. ⌜ now (coefficients .exit) ≡ filled (bounded f divisor (now (xs .entry))) (coefficientsOf f (now (xs .entry))) (now (coefficients .entry)) ⌝ }
+// The refusal of a number that is not finite: a quotient's, or a tap's.
+fn not_finite(normalised: bool, place: u32) -> RoundedTaps
+    ensures { λ r. ⌜ answerOf r ≡ refused (finiteRule normalised) place ⌝ }
+{
+    if normalised {
+        RoundedTaps::Refused(Refusal::NotNormalisable(place))
+    } else {
+        RoundedTaps::Refused(Refusal::TapNotFinite(place))
+    }
+}
+
+// The coefficients of the numbers: all of them, or none is written. Only where one is turned down
+// is it asked whether all are finite.
+fn settle(
+    xs: &[f64],
+    f: u32,
+    divisor: f64,
+    normalised: bool,
+    coefficients: &mut [i32],
+) -> RoundedTaps
+    requires { ⌜ (f ≤ 31) × (length (now xs) ≤ 256) × (length (now xs) ≤ length (now coefficients)) ⌝ }
+    ensures { λ r. ⌜ answerOf r ≡ checked normalised f divisor (now (xs .entry)) ⌝ }
+    ensures { λ r. ⌜ now (coefficients .exit) ≡ filled (checked normalised f divisor (now (xs .entry))) (coefficientsOf f (now (xs .entry))) (now (coefficients .entry)) ⌝ }
 {
     let mut buffer = [0i32; 256];
     let answer = round_all(xs, f, divisor, &mut buffer);
     match answer {
-        RoundedTaps::Refused(refusal) => RoundedTaps::Refused(refusal),
         RoundedTaps::Given(report) => {
             copy(&buffer, xs.len(), coefficients);
             RoundedTaps::Given(report)
         }
+        RoundedTaps::Refused(refusal) => {
+            let place = first_not_finite(xs);
+            if place < xs.len() {
+                not_finite(normalised, place as u32)
+            } else {
+                RoundedTaps::Refused(refusal)
+            }
+        }
     }
 }
 
-// Normalised mode, for finite taps: each tap is divided by the sum, and the quotients are rounded.
+// The refusal of taps whose sum is not usable: a tap that is not finite comes before the sum.
+fn no_sum(taps: &[f64]) -> RoundedTaps
+    requires { ⌜ length (now taps) ≤ 256 ⌝ }
+    ensures { λ r. ⌜ answerOf r ≡ refuseAt (lowest (λ (x : Float). not (Tap.finite x)) (now (taps .entry))) 5 (refused 7 0) ⌝ }
+{
+    let place = first_not_finite(taps);
+    if place < taps.len() {
+        RoundedTaps::Refused(Refusal::TapNotFinite(place as u32))
+    } else {
+        RoundedTaps::Refused(Refusal::NotNormalisable(0))
+    }
+}
+
+// Normalised mode: each tap is divided by the sum, and the quotients are rounded. A sum that is
+// finite has only finite taps.
 fn round_quotients(taps: &[f64], f: u32, coefficients: &mut [i32]) -> RoundedTaps
-    requires { ⌜ (f ≤ 31) × (length (now taps) ≤ 256) × (length (now taps) ≤ length (now coefficients)) × (lowest (λ (x : Float). not (Tap.finite x)) (now taps) ≡ nowhere) ⌝ }
+    requires { ⌜ (f ≤ 31) × (length (now taps) ≤ 256) × (length (now taps) ≤ length (now coefficients)) ⌝ }
     ensures { λ r. ⌜ answerOf r ≡ settled f true (now (taps .entry)) ⌝ }
     ensures { λ r. ⌜ now (coefficients .exit) ≡ filled (settled f true (now (taps .entry))) (coefficientsOf f (used true (now (taps .entry)))) (now (coefficients .entry)) ⌝ }
 {
     let sum = total(taps);
     if !is_usable(sum) {
-        return RoundedTaps::Refused(Refusal::NotNormalisable(0));
+        return no_sum(taps);
     }
     let mut table = [0.0f64; 256];
     divide(taps, sum, &mut table);
     let n = taps.len();
-    let at = first_not_finite(&table[..n]);
-    if at < n {
-        return RoundedTaps::Refused(Refusal::NotNormalisable(at as u32));
-    }
-    settle(&table[..n], f, sum, coefficients)
+    settle(&table[..n], f, sum, true, coefficients)
 }
 
 // The taps times 2^F, or in normalised mode their quotients by the sum of the taps, rounded to
@@ -222,13 +257,9 @@ pub fn round_taps(
     if fraction_bits > 31 {
         return RoundedTaps::Refused(Refusal::FractionBits);
     }
-    let at = first_not_finite(taps);
-    if at < n {
-        return RoundedTaps::Refused(Refusal::TapNotFinite(at as u32));
-    }
     if normalised {
         round_quotients(taps, fraction_bits, coefficients)
     } else {
-        settle(taps, fraction_bits, 1.0, coefficients)
+        settle(taps, fraction_bits, 1.0, false, coefficients)
     }
 }

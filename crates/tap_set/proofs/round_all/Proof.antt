@@ -1,4 +1,4 @@
--- `tap_set::round_all` meets its contract. The invariant: none of the numbers passed is out of bounds, the report of the rest from here on is the whole report, and the buffer's front holds the coefficients of the numbers passed. Assumes nothing.
+-- `tap_set::round_all` meets its contract. The invariant: none of the numbers passed is turned down, the report of the rest from here on is the whole report, and the buffer's front holds the coefficients of the numbers passed. Assumes nothing.
 use borrow.Author.Needs.{needs}
 use mathlib.Core.Path.{_≡_, refl, sym, ap, _∙_, subst}
 use mathlib.Core.List.{List, _++_, map}
@@ -15,18 +15,18 @@ use mir.ValLaws.{toZ-ofZ}
 use Rattle.refusal.specs.Answer.{lowestFrom, lowest}
 use Rattle.refusal.proofs.Checks.{lowest-later}
 use Rattle.refusal.proofs.Tables.{front, front-next, front-end, length-map}
-use Rattle.tap.specs.Rounding.{outside, coefficientOf, leftOf, answerOf}
+use Rattle.tap.specs.Rounding.{coefficientOf, leftOf, answerOf}
 use Rattle.tap.proofs.Value.{zero-is}
 use Rattle.tap_set.specs.declared.Report.{Report}
-use Rattle.tap_set.specs.Set.{reportFrom, reportOf, bounded}
-use Rattle.tap_set.specs.Steps.{isRefused, withLeftover}
-use Rattle.tap_set.proofs.Rounds.{whole, outside-is, whole-is, left-is, report-next, bounded-stop, bounded-end}
+use Rattle.tap_set.specs.Set.{reportFrom, reportOf}
+use Rattle.tap_set.specs.Steps.{isRefused, turned, withLeftover}
+use Rattle.tap_set.proofs.Rounds.{whole, whole-is, left-is, report-next, tried-stop, tried-end}
 use Rattle.tap_set.proofs.round_all.Statement.{statement}
 use Rattle.tap_set.proofs.round_all.Tie as tie
 
 abbrev Inv-loop : tie.InvT-loop
 Inv-loop xs f divisor buffer₀ report₀ i₀ buffer report i =
-    (i ≤ length xs) × (lowestFrom i (outside f) (drop i xs) ≡ lowest (outside f) xs) × (reportFrom f report (drop i xs) ≡ reportOf f divisor xs) × (buffer ≡ front (whole f) xs buffer₀ i)
+    (i ≤ length xs) × (lowestFrom i (turned f) (drop i xs) ≡ lowest (turned f) xs) × (reportFrom f report (drop i xs) ≡ reportOf f divisor xs) × (buffer ≡ front (whole f) xs buffer₀ i)
     × (length buffer ≡ length buffer₀)
 
 abbrev μ-loop : tie.MeasureT-loop
@@ -39,12 +39,12 @@ loop-holds c =
 
 -- in the loop's body, i is below 256 and below the buffer's length
 in-range : (c : tie.In-loop Inv-loop μ-loop) → c .before .loop .i < 256
-in-range c = lt-of-lt-of-le (c .loop-test .taken) (c .before .before .before .pre .1)
+in-range c = lt-of-lt-of-le (c .loop-test .taken) (c .before .before .before .pre .0)
 
 room : (c : tie.In-loop Inv-loop μ-loop) → c .before .loop .i < length (c .before .loop .buffer)
 room c =
     let l = c .before in
-    lt-of-lt-of-le (in-range c) (le-trans (l .before .before .pre .2) (le-of-eq (sym (l .loop .inv .4))))
+    lt-of-lt-of-le (in-range c) (le-trans (l .before .before .pre .1) (le-of-eq (sym (l .loop .inv .4))))
 
 mul-round-tap : tie.Need-mul-round-tap Inv-loop μ-loop
 mul-round-tap c = search needs
@@ -68,11 +68,10 @@ returns : tie.Need-returns Inv-loop μ-loop
 returns c =
     let t = c .before .before .before .before in
     let l = t .before in
-    let s = l .before .before in
-    let a = s .args in
+    let a = l .before .before .args in
     let r = c .before .before in
-    let o = outside-is (a .f) (a .xs .now) (l .loop .i) (answerOf (r .round-tap .result)) (s .pre .0) (s .pre .3) (t .loop-test .taken) (r .round-tap .ensures) in
-    (bounded-stop (a .f) (a .divisor) (a .xs .now) (l .loop .i) (l .loop .inv .1) (t .loop-test .taken) (sym o ∙ sym (c .before .is-refused .ensures) ∙ c .if1 .taken), tt)
+    let o : turned (a .f) (getD (a .xs .now) (l .loop .i) nan) ≡ true = ap isRefused (sym (r .round-tap .ensures)) ∙ sym (c .before .is-refused .ensures) ∙ c .if1 .taken in
+    (tried-stop (a .f) (a .divisor) (a .xs .now) (l .loop .i) (l .loop .inv .1) (t .loop-test .taken) o, tt)
 
 coefficient-requires : tie.Need-coefficient-requires Inv-loop μ-loop
 coefficient-requires c κs = search needs
@@ -99,22 +98,21 @@ loop-again c =
     let r = u .before .before in
     let t = r .before .before in
     let l = t .before in
-    let s = l .before .before in
-    let a = s .args in
+    let a = l .before .before .args in
     let i = l .loop .i in
     let xs = a .xs .now in
+    let x = getD xs i nan in
     let p = answerOf (r .round-tap .result) in
     let no : isRefused p ≡ false = sym (u .before .is-refused .ensures) ∙ u .if1 .left in
-    let o = outside-is (a .f) xs i p (s .pre .0) (s .pre .3) (t .loop-test .taken) (r .round-tap .ensures) in
-    let w : toZ w32 (ofZ w32 (k .coefficient .result)) ≡ whole (a .f) (getD xs i nan) = toZ-ofZ w32 (k .coefficient .result) (record { sfits = k .coefficient .ok })
-    ∙ k .coefficient .ensures ∙ whole-is (a .f) xs i p (s .pre .0) (s .pre .3) (t .loop-test .taken) (r .round-tap .ensures) no in
-    let q : c .with-tap .result ≡ withLeftover (l .loop .report) (leftOf (coefficientOf (a .f) (getD xs i nan))) = c .with-tap .ensures
-    ∙ ap (withLeftover (l .loop .report)) (left-is (a .f) xs i p (s .pre .0) (s .pre .3) (t .loop-test .taken) (r .round-tap .ensures) no) in (
+    let w : toZ w32 (ofZ w32 (k .coefficient .result)) ≡ whole (a .f) x = toZ-ofZ w32 (k .coefficient .result) (record { sfits = k .coefficient .ok })
+    ∙ k .coefficient .ensures
+    ∙ whole-is (a .f) x p (r .round-tap .ensures) no in
+    let q : c .with-tap .result ≡ withLeftover (l .loop .report) (leftOf (coefficientOf (a .f) x)) = c .with-tap .ensures ∙ ap (withLeftover (l .loop .report)) (left-is (a .f) x p (r .round-tap .ensures) no) in (
       search needs,
-      sym (lowest-later nan (outside (a .f)) xs i (t .loop-test .taken) (sym o ∙ no)) ∙ l .loop .inv .1,
+      sym (lowest-later nan (turned (a .f)) xs i (t .loop-test .taken) (ap isRefused (sym (r .round-tap .ensures)) ∙ no)) ∙ l .loop .inv .1,
       ap (λ (y : Report). reportFrom (a .f) y (drop (i + 1) xs)) q ∙ report-next (a .f) (l .loop .report) xs i (t .loop-test .taken) ∙ l .loop .inv .2,
       ap (λ (z : ℤ). set (l .loop .buffer) i z) w
-          ∙ ap (λ (b : List ℤ). set b i (whole (a .f) (getD xs i nan))) (l .loop .inv .3)
+          ∙ ap (λ (b : List ℤ). set b i (whole (a .f) x)) (l .loop .inv .3)
           ∙ front-next (whole (a .f)) nan xs (a .buffer .now) i (t .loop-test .taken) (subst (λ (n : ℕ). i < n) (l .loop .inv .4) (room t)),
       length-set (l .loop .buffer) i _ ∙ l .loop .inv .4,
     )
@@ -128,7 +126,7 @@ returns-2 c =
     let s = l .before .before in
     let a = s .args in
     let xs = a .xs .now in (
-      bounded-end (a .f) (a .divisor) xs (l .loop .i) (l .loop .report) (l .loop .inv .1) (l .loop .inv .2) (c .loop-test .left),
+      tried-end (a .f) (a .divisor) xs (l .loop .i) (l .loop .report) (l .loop .inv .1) (l .loop .inv .2) (c .loop-test .left),
       l .loop .inv .3
           ∙ front-end (whole (a .f)) xs (a .buffer .now) (l .loop .i) (l .loop .inv .0) (c .loop-test .left)
           ∙ ap (λ (n : ℕ). map (whole (a .f)) xs ++ drop n (a .buffer .now)) (sym (length-map (whole (a .f)) xs)),

@@ -11,14 +11,14 @@ use lib.IntN.{ℤ}
 use lib.ListN.{length, take, drop}
 use lib.Seq.{take-at}
 use lib.Ieee.{Float, binary64, div}
-use Rattle.refusal.specs.Answer.{Answer, filled, lowest, nowhere, at-place}
+use Rattle.refusal.specs.Answer.{Answer, refused, refuseAt, filled, Place, lowest, nowhere, at-place}
 use Rattle.refusal.proofs.Tables.{length-map}
 use Rattle.tap_set.specs.declared.Report.{Report}
 use Rattle.tap_set.specs.Normalised.{sumOf, unusable, quotients}
-use Rattle.tap_set.specs.Set.{answerOf, coefficientsOf, bounded}
-use Rattle.tap_set.specs.Steps.{placeOr, settled}
+use Rattle.tap_set.specs.Set.{answerOf, coefficientsOf}
+use Rattle.tap_set.specs.Steps.{checked, settled}
 use Rattle.tap_set.proofs.Rounds.{notFinite}
-use Rattle.tap_set.proofs.Settled.{found, found-none, sum-stop, quotient-stop, quotients-pass}
+use Rattle.tap_set.proofs.Settled.{without-sum, with-sum}
 use Rattle.tap_set.proofs.round_quotients.Statement.{statement}
 use Rattle.tap_set.proofs.round_quotients.Tie as tie
 
@@ -56,18 +56,27 @@ total-requires c κs = search needs
 is-usable-requires : tie.Need-is-usable-requires
 is-usable-requires c κs = search needs
 
+no-sum-requires : tie.Need-no-sum-requires
+no-sum-requires c κs = search needs
+
 returns : tie.Need-returns
 returns c =
-    let t = c .before .before in
-    let a = t .before .before .args in
-    let h = not-true (c .before .is-usable .result) (c .if1 .taken) in
-    let u : unusable (sumOf (a .taps .now)) ≡ true = ap unusable (sym (t .total .ensures)) ∙ not-of (unusable (t .total .result)) (sym (c .before .is-usable .ensures) ∙ h) in
-    let e = sum-stop (a .f) (a .taps .now) u in
-    (e, ap (λ (b : Answer Report). filled b (coefficientsOf (a .f) (Q (a .taps .now))) (a .coefficients .now)) e)
+    let u = c .before .before in
+    let t = u .before in
+    let s = t .before .before in
+    let a = s .args in
+    let h = not-true (u .is-usable .result) (c .before .if1 .taken) in
+    let b : unusable (sumOf (a .taps .now)) ≡ true = ap unusable (sym (t .total .ensures)) ∙ not-of (unusable (t .total .result)) (sym (u .is-usable .ensures) ∙ h) in
+    let e = without-sum (a .f) (a .taps .now) b in
+    (c .no-sum .ensures ∙ e, kept (a .f) (a .taps .now) (a .coefficients .now) (lowest notFinite (a .taps .now)) e)
   where
     not-of : (b : Bool) → not b ≡ false → b ≡ true
     not-of true h = refl
     not-of false h = sym h
+
+    kept : (f : ℕ) (taps : List Float) (old : List ℤ) (p : Place) → refuseAt {A = Report} p 5 (refused 7 0) ≡ settled f true taps → old ≡ filled (settled f true taps) (coefficientsOf f (Q taps)) old
+    kept f taps old nowhere e = ap (λ (b : Answer Report). filled b (coefficientsOf f (Q taps)) old) e
+    kept f taps old (at-place k) e = ap (λ (b : Answer Report). filled b (coefficientsOf f (Q taps)) old) e
 
 slice-aggregate-divide : tie.Need-slice-aggregate-divide
 slice-aggregate-divide c = search needs
@@ -78,74 +87,33 @@ divide-requires c κs = search needs
 array-share-prefix-table : tie.Need-array-share-prefix-table
 array-share-prefix-table c = search needs
 
-slice-aggregate-first-not-finite : tie.Need-slice-aggregate-first-not-finite
-slice-aggregate-first-not-finite c =
+slice-aggregate-settle : tie.Need-slice-aggregate-settle
+slice-aggregate-settle c =
     let d = c .before .before in
     sym (ap length (held d) ∙ many (d .before .before .before .before .before .before .args .taps .now))
 
-first-not-finite-requires : tie.Need-first-not-finite-requires
-first-not-finite-requires c κs = search needs
-
-cast-t16 : tie.Need-cast-t16
-cast-t16 c = search needs
-
--- what the scan of the quotients found
-scanned : (c : tie.After-first-not-finite) → let taps = c .before .before .before .before .before .before .before .before .before .args .taps .now in
-    c .first-not-finite .result ≡ placeOr (length (Q taps)) (lowest notFinite (Q taps))
-scanned c =
-    let d = c .before .before .before in
-    c .first-not-finite .ensures ∙ ap (λ (xs : List Float). placeOr (length xs) (lowest notFinite xs)) (held d)
-
-returns-2 : tie.Need-returns-2
-returns-2 c =
-    let n = c .before in
-    let e1 = n .before .before .before .before .before in
-    let s = e1 .before .before .before .before in
-    let a = s .args in
-    let taps = a .taps .now in
-    let p = found notFinite (Q taps) (n .first-not-finite .result) (length taps) (scanned n) (many taps) (c .if2 .taken) in
-    let e = quotient-stop (a .f) taps (usable e1) (s .pre .3) (n .first-not-finite .result) p in
-    (e, ap (λ (b : Answer Report). filled b (coefficientsOf (a .f) (Q taps)) (a .coefficients .now)) e)
-
-array-share-prefix-table-2 : tie.Need-array-share-prefix-table-2
-array-share-prefix-table-2 c = search needs
-
-slice-aggregate-settle : tie.Need-slice-aggregate-settle
-slice-aggregate-settle c =
-    let d = c .before .before .before .before .before in
-    sym (ap length (held d) ∙ many (d .before .before .before .before .before .before .args .taps .now))
-
--- every quotient is finite
-passed : (c : tie.Else2) → let taps = c .before .before .before .before .before .before .before .before .before .before .args .taps .now in lowest notFinite (Q taps) ≡ nowhere
-passed c =
-    let n = c .before in
-    let taps = n .before .before .before .before .before .before .before .before .before .args .taps .now in
-    found-none notFinite (Q taps) (n .first-not-finite .result) (length taps) (scanned n) (many taps) (c .if2 .left)
-
 settle-requires : tie.Need-settle-requires
 settle-requires c κs =
-    let e2 = c .before .before in
-    let d = e2 .before .before .before .before in
+    let d = c .before .before .before in
     let s = d .before .before .before .before .before .before in
-    let taps = s .args .taps .now in
-    let l = ap length (held d) ∙ many taps in
-    (s .pre .0, le-trans (le-of-eq l) (s .pre .1), le-trans (le-of-eq l) (s .pre .2), ap (lowest notFinite) (held d) ∙ passed e2)
+    let l = ap length (held d) ∙ many (s .args .taps .now) in
+    (s .pre .0, le-trans (le-of-eq l) (s .pre .1), le-trans (le-of-eq l) (s .pre .2))
 
 same-length : tie.Need-same-length
 same-length c = search needs
 
-returns-3 : tie.Need-returns-3
-returns-3 c =
+returns-2 : tie.Need-returns-2
+returns-2 c =
     let k = c .before in
-    let e2 = k .before .before .before in
-    let d = e2 .before .before .before .before in
+    let d = k .before .before .before .before in
     let e1 = d .before .before in
     let t = e1 .before .before in
     let s = t .before .before in
     let a = s .args in
     let taps = a .taps .now in
-    let b : bounded (a .f) (t .total .result) (take (length taps) (d .divide .last .1 .1 .0)) ≡ settled (a .f) true taps = ap (bounded (a .f) (t .total .result)) (held d)
-    ∙ ap (λ (q : Float). bounded (a .f) q (Q taps)) (t .total .ensures) ∙ quotients-pass (a .f) taps (usable e1) (s .pre .3) (passed e2) in (
+    let b : checked true (a .f) (t .total .result) (take (length taps) (d .divide .last .1 .1 .0)) ≡ settled (a .f) true taps = ap (checked true (a .f) (t .total .result)) (held d)
+    ∙ ap (λ (q : Float). checked true (a .f) q (Q taps)) (t .total .ensures)
+    ∙ with-sum (a .f) taps (usable e1) in (
       k .settle .ensures .0 ∙ b,
       k .settle .ensures .1
           ∙ ap (λ (r : Answer Report). filled r (coefficientsOf (a .f) (take (length taps) (d .divide .last .1 .1 .0))) (a .coefficients .now)) b
@@ -158,16 +126,12 @@ round-quotients-spec =
     (tie.spec
     total-requires
     is-usable-requires
+    no-sum-requires
     returns
     slice-aggregate-divide
     divide-requires
     array-share-prefix-table
-    slice-aggregate-first-not-finite
-    first-not-finite-requires
-    cast-t16
-    returns-2
-    array-share-prefix-table-2
     slice-aggregate-settle
     settle-requires
     same-length
-    returns-3)
+    returns-2)

@@ -7,13 +7,12 @@ use Prim.Native.Nat.{ℕ, _≤_}
 use lib.IntN.{ℤ, pos}
 use lib.ListN.{length}
 use lib.Ieee.{Float, fin, binary64, ofBits}
-use Rattle.refusal.specs.Answer.{Answer, filled, lowest, nowhere}
+use Rattle.refusal.specs.Answer.{Answer, filled}
 use Rattle.tap_set.specs.declared.Report.{Report}
 use Rattle.tap_set.specs.Normalised.{used}
-use Rattle.tap_set.specs.Set.{answerOf, coefficientsOf, bounded, roundedTaps}
-use Rattle.tap_set.specs.Steps.{settled}
-use Rattle.tap_set.proofs.Rounds.{notFinite}
-use Rattle.tap_set.proofs.Settled.{found, found-none, plain-settled, no-taps, many-taps, short-table, many-bits, not-finite, all-finite}
+use Rattle.tap_set.specs.Set.{coefficientsOf, roundedTaps}
+use Rattle.tap_set.specs.Steps.{checked, settled}
+use Rattle.tap_set.proofs.Settled.{plain-settled, no-taps, many-taps, short-table, many-bits, few-bits}
 use Rattle.tap_set.proofs.round_taps.Statement.{statement}
 use Rattle.tap_set.proofs.round_taps.Tie as tie
 
@@ -29,22 +28,15 @@ one-is : ofBits binary64 0x3ff0_0000_0000_0000 ≡ fin false 1 (pos 0)
 unfolding ofBits
 one-is = refl
 
--- the checks 1 to 4 have passed, and 5
-passed : (c : tie.Else5) → let s = c .before .before .before .before .before .before .before in lowest notFinite (s .args .taps .now) ≡ nowhere
-passed c =
-    let n = c .before in
-    let taps = n .before .before .before .before .before .before .args .taps .now in
-    found-none notFinite taps (n .first-not-finite .result) (length taps) (n .first-not-finite .ensures) refl (c .if5 .left)
-
-settled-is : (c : tie.Else5) → let s = c .before .before .before .before .before .before .before in let a = s .args in settled (a .fraction-bits) (a .normalised) (a .taps .now) ≡ answer s
+-- the checks 1 to 4 have passed
+settled-is : (c : tie.Else4) → let s = c .before .before .before .before .before in let a = s .args in settled (a .fraction-bits) (a .normalised) (a .taps .now) ≡ answer s
 settled-is c =
-    let e4 = c .before .before in
-    let e3 = e4 .before in
+    let e3 = c .before in
     let e2 = e3 .before in
     let e1 = e2 .before in
     let s = e1 .before .before in
     let a = s .args in
-    all-finite (a .fraction-bits) (a .normalised) (a .taps .now) (length (a .coefficients .now)) (e1 .if1 .left) (e2 .if2 .left) (e3 .if3 .left) (e4 .if4 .left) (passed c)
+    few-bits (a .fraction-bits) (a .normalised) (a .taps .now) (length (a .coefficients .now)) (e1 .if1 .left) (e2 .if2 .left) (e3 .if3 .left) (c .if4 .left)
 
 returns : tie.Need-returns
 returns c =
@@ -80,73 +72,47 @@ returns-4 c =
     let e = many-bits (a .fraction-bits) (a .normalised) (a .taps .now) (length (a .coefficients .now)) (e1 .if1 .left) (e2 .if2 .left) (e3 .if3 .left) (c .if4 .taken) in
     (e, ap (table s) e)
 
-first-not-finite-requires : tie.Need-first-not-finite-requires
-first-not-finite-requires c κs = search needs
-
-cast-t13 : tie.Need-cast-t13
-cast-t13 c = search needs
-
-returns-5 : tie.Need-returns-5
-returns-5 c =
-    let n = c .before in
-    let e4 = n .before in
-    let e3 = e4 .before in
-    let e2 = e3 .before in
-    let e1 = e2 .before in
-    let s = e1 .before .before in
-    let a = s .args in
-    let i = n .first-not-finite .result in
-    let p = found notFinite (a .taps .now) i (length (a .taps .now)) (n .first-not-finite .ensures) refl (c .if5 .taken) in
-    let e = not-finite (a .fraction-bits) (a .normalised) (a .taps .now) (length (a .coefficients .now)) (e1 .if1 .left) (e2 .if2 .left) (e3 .if3 .left) (e4 .if4 .left) i p in
-    (e, ap (table s) e)
-
 round-quotients-requires : tie.Need-round-quotients-requires
-round-quotients-requires c κs =
-    let e5 = c .before .before in
-    let e4 = e5 .before .before in
-    (e4 .if4 .left, e4 .before .before .if2 .left, e4 .before .if3 .left, passed e5)
+round-quotients-requires c κs = search needs
 
 settle-requires : tie.Need-settle-requires
-settle-requires c κs =
-    let e5 = c .before .before in
-    let e4 = e5 .before .before in
-    (e4 .if4 .left, e4 .before .before .if2 .left, e4 .before .if3 .left, passed e5)
+settle-requires c κs = search needs
 
 same-length : tie.Need-same-length
 same-length c = search needs
 
-returns-6 : tie.Need-returns-6
-returns-6 c =
+returns-5 : tie.Need-returns-5
+returns-5 c =
     let k = c .before in
     let t = k .before .before in
-    let e5 = t .before in
-    let s = e5 .before .before .before .before .before .before .before in
+    let e4 = t .before in
+    let s = e4 .before .before .before .before .before in
     let a = s .args in
-    let b = ap (λ (n : Bool). settled (a .fraction-bits) n (a .taps .now)) (sym (t .if6 .taken)) ∙ settled-is e5 in (
+    let b = ap (λ (n : Bool). settled (a .fraction-bits) n (a .taps .now)) (sym (t .if5 .taken)) ∙ settled-is e4 in (
       k .round-quotients .ensures .0 ∙ b,
       k .round-quotients .ensures .1
           ∙ ap (λ (r : Answer Report). filled r (coefficientsOf (a .fraction-bits) (used true (a .taps .now))) (a .coefficients .now)) b
-          ∙ ap (λ (n : Bool). filled (answer s) (coefficientsOf (a .fraction-bits) (used n (a .taps .now))) (a .coefficients .now)) (sym (t .if6 .taken)),
+          ∙ ap (λ (n : Bool). filled (answer s) (coefficientsOf (a .fraction-bits) (used n (a .taps .now))) (a .coefficients .now)) (sym (t .if5 .taken)),
     )
 
 same-length-2 : tie.Need-same-length-2
 same-length-2 c = search needs
 
-returns-7 : tie.Need-returns-7
-returns-7 c =
+returns-6 : tie.Need-returns-6
+returns-6 c =
     let k = c .before in
     let t = k .before .before in
-    let e5 = t .before in
-    let s = e5 .before .before .before .before .before .before .before in
+    let e4 = t .before in
+    let s = e4 .before .before .before .before .before in
     let a = s .args in
-    let b = ap (λ (d : Float). bounded (a .fraction-bits) d (a .taps .now)) one-is
+    let b = ap (λ (d : Float). checked false (a .fraction-bits) d (a .taps .now)) one-is
     ∙ plain-settled (a .fraction-bits) (a .taps .now)
-    ∙ ap (λ (n : Bool). settled (a .fraction-bits) n (a .taps .now)) (sym (t .if6 .left))
-    ∙ settled-is e5 in (
+    ∙ ap (λ (n : Bool). settled (a .fraction-bits) n (a .taps .now)) (sym (t .if5 .left))
+    ∙ settled-is e4 in (
       k .settle .ensures .0 ∙ b,
       k .settle .ensures .1
           ∙ ap (λ (r : Answer Report). filled r (coefficientsOf (a .fraction-bits) (used false (a .taps .now))) (a .coefficients .now)) b
-          ∙ ap (λ (n : Bool). filled (answer s) (coefficientsOf (a .fraction-bits) (used n (a .taps .now))) (a .coefficients .now)) (sym (t .if6 .left)),
+          ∙ ap (λ (n : Bool). filled (answer s) (coefficientsOf (a .fraction-bits) (used n (a .taps .now))) (a .coefficients .now)) (sym (t .if5 .left)),
     )
 
 pub round-taps-spec : {M : Type 1} → statement M
@@ -157,12 +123,9 @@ round-taps-spec =
     returns-2
     returns-3
     returns-4
-    first-not-finite-requires
-    cast-t13
-    returns-5
     round-quotients-requires
     settle-requires
     same-length
-    returns-6
+    returns-5
     same-length-2
-    returns-7)
+    returns-6)
