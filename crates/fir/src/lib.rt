@@ -7,7 +7,7 @@ ghost use lib.Ieee.{binary64};
 ghost use Rattle.refusal.specs.Table.{numberOf, placeOf};
 ghost use Rattle.refusal.specs.Answer.{filled, stored};
 ghost use Rattle.tap.specs.Rounding as Tap;
-ghost use Rattle.tap_set.specs.Normalised.{used};
+ghost use Rattle.normalise.specs.Normalised.{used};
 ghost use Rattle.tap_set.specs.Set.{coefficientsOf, roundedTaps};
 ghost use Rattle.tap_set.specs.declared.Report.{Report};
 ghost use Rattle.fir.specs.Words.{tapWord, refusalWord, isSet};

@@ -8,7 +8,7 @@ use native.Mathlib.Numerals.{add-one}
 use native.Mathlib.Omega.{arith}
 use lib.ListN.{length, drop, getD, drop-of-length-le}
 use lib.Seq.{drop-cons}
-use Rattle.refusal.specs.Answer.{Answer, given, refused, refuseIf, refuseAt, Place, nowhere, at-place, lowestFrom}
+use Rattle.refusal.specs.Answer.{Answer, given, refused, refuseIf, refuseAt, Place, nowhere, at-place, lowestFrom, lowest, placeOr}
 
 no-one : _≡_ {A = ℕ} 0 1 → ⊥
 no-one z = omega arith
@@ -86,3 +86,25 @@ pub lowest-none-at : {A : Type 0} (a : A) (breaks : A → Bool) (k : ℕ) (xs : 
 lowest-none-at a breaks k [] i h l = absurd (not-suc-le-zero l)
 lowest-none-at a breaks k (x ∷ xs) zero h l = lowest-all breaks k x xs h .0
 lowest-none-at a breaks k (x ∷ xs) (suc i) h l = lowest-none-at a breaks (suc k) xs i (lowest-all breaks k x xs h .1) (le-of-suc-le-suc l)
+
+-- ---- the place that a scan found, or that it found none
+module _ {A : Type 0} (breaks : A → Bool) (xs : List A) (i n : ℕ) (e : i ≡ placeOr (length xs) (lowest breaks xs)) (s : length xs ≡ n) where
+  pub found : i < n → lowest breaks xs ≡ at-place i
+  found h = go (lowest breaks xs) e
+    where
+      go : (p : Place) → i ≡ placeOr (length xs) p → p ≡ at-place i
+      go nowhere q = absurd (same i (length xs) n q s h)
+        where
+          same : (i l n : ℕ) → i ≡ l → l ≡ n → i < n → ⊥
+          same i l n p q h = omega arith
+      go (at-place k) q = ap at-place (sym q)
+
+  pub found-none : n ≤ i → lowest breaks xs ≡ nowhere
+  found-none h = go (lowest breaks xs) refl e
+    where
+      go : (p : Place) → lowest breaks xs ≡ p → i ≡ placeOr (length xs) p → p ≡ nowhere
+      go nowhere w q = refl
+      go (at-place k) w q = absurd (past i k (length xs) n q s (lowest-within breaks 0 k xs w .1) h)
+        where
+          past : (i k l n : ℕ) → i ≡ k → l ≡ n → k < 0 + l → n ≤ i → ⊥
+          past i k l n p q r h = omega arith

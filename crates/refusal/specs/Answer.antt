@@ -39,6 +39,11 @@ lowestFrom k breaks (x ∷ xs) = cond (breaks x) (at-place k) (lowestFrom (suc k
 abbrev pub lowest : {A : Type 0} → (A → Bool) → List A → Place
 lowest breaks xs = lowestFrom 0 breaks xs
 
+-- a place, or n where there is none
+abbrev pub placeOr : ℕ → Place → ℕ
+placeOr n nowhere = n
+placeOr n (at-place k) = k
+
 -- a lent table afterwards: the results, "elements past those that the result fills are untouched"; "unchanged" on a refusal
 abbrev pub filled : {A B : Type 0} → Answer A → List B → List B → List B
 filled (given a) results old = results ++ drop (length results) old

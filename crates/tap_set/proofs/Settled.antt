@@ -11,35 +11,13 @@ use lib.ListN.{length}
 use lib.Ieee.{Float, nan, inf, fin, binary64, round, nearest, size, units, odd, add, div, isNan, up, down, unlike}
 use borrow.Author.Tests.{lt-ltb, le-ltb, eq-eqb, ne-eqb}
 use Rattle.refusal.specs.Answer.{Answer, given, refused, refuseIf, refuseAt, Place, nowhere, at-place, lowestFrom, lowest}
-use Rattle.refusal.proofs.Checks.{check-applies, check-passes, lowest-all, lowest-alike, lowest-within}
+use Rattle.refusal.proofs.Checks.{check-applies, check-passes, lowest-all, lowest-alike}
 use Rattle.tap.specs.Rounding.{finite}
 use Rattle.tap_set.specs.declared.Report.{Report}
-use Rattle.tap_set.specs.Normalised.{sumFrom, sumOf, unusable, infinite, quotients, used, divisorOf}
+use Rattle.normalise.specs.Normalised.{sumFrom, sumOf, unusable, infinite, quotients, used, divisorOf}
 use Rattle.tap_set.specs.Set.{bounded, roundedTaps}
-use Rattle.tap_set.specs.Steps.{placeOr, finiteRule, checked, settled}
+use Rattle.tap_set.specs.Steps.{finiteRule, checked, settled}
 use Rattle.tap_set.proofs.Rounds.{notFinite, unnot}
-
--- ---- the place that a scan found, or that it found none
-module _ (breaks : Float → Bool) (xs : List Float) (i n : ℕ) (e : i ≡ placeOr (length xs) (lowest breaks xs)) (s : length xs ≡ n) where
-  pub found : i < n → lowest breaks xs ≡ at-place i
-  found h = go (lowest breaks xs) e
-    where
-      go : (p : Place) → i ≡ placeOr (length xs) p → p ≡ at-place i
-      go nowhere q = absurd (same i (length xs) n q s h)
-        where
-          same : (i l n : ℕ) → i ≡ l → l ≡ n → i < n → ⊥
-          same i l n p q h = omega arith
-      go (at-place k) q = ap at-place (sym q)
-
-  pub found-none : n ≤ i → lowest breaks xs ≡ nowhere
-  found-none h = go (lowest breaks xs) refl e
-    where
-      go : (p : Place) → lowest breaks xs ≡ p → i ≡ placeOr (length xs) p → p ≡ nowhere
-      go nowhere w q = refl
-      go (at-place k) w q = absurd (past i k (length xs) n q s (lowest-within breaks 0 k xs w .1) h)
-        where
-          past : (i k l n : ℕ) → i ≡ k → l ≡ n → k < 0 + l → n ≤ i → ⊥
-          past i k l n p q r h = omega arith
 
 -- ---- a quotient of finite numbers is a number: it is infinite where it is not finite
 odd-number : (d : ℕ) (s : Bool) (q k l : ℕ) → isNan (odd d s q k l) ≡ false

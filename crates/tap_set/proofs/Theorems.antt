@@ -15,7 +15,7 @@ use Rattle.tap.specs.Rounding.{Coefficient, finite, outside, coefficientOf, rou
 use Rattle.tap.proofs.Answer.{of-finite}
 use Rattle.tap.proofs.Theorems.{left-finite, finite-number}
 use Rattle.tap_set.specs.declared.Report.{Report}
-use Rattle.tap_set.specs.Normalised.{sumOf, unusable, infinite, quotients, used, divisorOf}
+use Rattle.normalise.specs.Normalised.{sumOf, unusable, infinite, quotients, used, divisorOf}
 use Rattle.tap_set.specs.Set.{largerOf, reported, reportFrom, reportOf, bounded, roundedTaps}
 use Rattle.tap_set.proofs.Sizes.{larger-one}
 use Rattle.tap_set.proofs.Rounds.{notFinite, unnot, report-one, report-none}

@@ -1,3 +1,2 @@
-pub mod Normalised
 pub mod Set
 pub mod Steps

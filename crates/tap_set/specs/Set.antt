@@ -11,7 +11,7 @@ use Rattle.tap.specs.Rounding.{Coefficient, finite, outside, coefficientOf, abs
 use Rattle.tap_set.specs.declared.Report.{Report}
 use Rattle.tap_set.specs.declared.RoundedTaps.{RoundedTaps}
 use Rattle.tap_set.specs.declared.RoundedTaps.the-variants.{Given, Refused}
-use Rattle.tap_set.specs.Normalised.{sumOf, unusable, infinite, used, divisorOf}
+use Rattle.normalise.specs.Normalised.{sumOf, unusable, infinite, used, divisorOf}
 
 -- "of equal magnitudes the earliest tap's is taken": y only where it is larger than x
 unfoldable pub largerOf : Float → Float → Float

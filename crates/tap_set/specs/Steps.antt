@@ -9,13 +9,8 @@ use Rattle.refusal.specs.Answer.{Answer, given, refused, Place, nowhere, at-pla
 use lib.Ieee.{Float, fin}
 use Rattle.tap.specs.Rounding.{Coefficient, finite, wholeOf, leftOf, roundedTap}
 use Rattle.tap_set.specs.declared.Report.{Report}
-use Rattle.tap_set.specs.Normalised.{sumOf, unusable, infinite, used, divisorOf}
+use Rattle.normalise.specs.Normalised.{sumOf, unusable, infinite, used, divisorOf}
 use Rattle.tap_set.specs.Set.{largerOf, reportOf, bounded}
-
--- a place, or n where there is none
-abbrev pub placeOr : ℕ → Place → ℕ
-placeOr n nowhere = n
-placeOr n (at-place k) = k
 
 -- whether an answer is a refusal
 abbrev pub isRefused : {A : Type 0} → Answer A → Bool
@@ -41,6 +36,11 @@ withLeftover r l = record { divisor = r .divisor; leftover = largerOf (r .leftov
 abbrev pub Front : {A B : Type 0} → Answer A → List B → List B → List B → Type 0
 Front (given a) results old new = new ≡ results ++ drop (length results) old
 Front (refused number place) results old new = Unit {0}
+
+-- n where there is a result, else 0
+abbrev pub acceptedOf : {A : Type 0} → Answer A → ℕ → ℕ
+acceptedOf (given a) n = n
+acceptedOf (refused number place) n = 0
 
 -- whether a number is turned down, as a tap is
 abbrev pub turned : ℕ → Float → Bool

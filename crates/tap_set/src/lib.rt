@@ -7,9 +7,9 @@ ghost use lib.ListN.{length, take, drop};
 ghost use lib.Ieee.{Float};
 ghost use Rattle.refusal.specs.Answer.{refused, refuseAt, lowest, filled};
 ghost use Rattle.tap.specs.Rounding as Tap;
-ghost use Rattle.tap_set.specs.Normalised.{sumOf, unusable, quotients, used};
+ghost use Rattle.normalise.specs.Normalised.{used};
 ghost use Rattle.tap_set.specs.Set.{largerOf, coefficientsOf, roundedTaps, answerOf};
-ghost use Rattle.tap_set.specs.Steps.{placeOr, isRefused, wholeIn, leftIn, withLeftover, Front, tried, finiteRule, checked, settled};
+ghost use Rattle.tap_set.specs.Steps.{isRefused, wholeIn, leftIn, withLeftover, Front, acceptedOf, tried, finiteRule, checked, settled};
 use refusal::Refusal;
 use tap::RoundedTap;
 
@@ -22,56 +22,6 @@ pub struct Report {
 pub enum RoundedTaps {
     Given(Report),
     Refused(Refusal),
-}
-
-// The place of the first number that is not finite, or the length.
-fn first_not_finite(xs: &[f64]) -> usize
-    ensures { λ r. ⌜ r ≡ placeOr (length (now (xs .entry))) (lowest (λ (x : Float). not (Tap.finite x)) (now (xs .entry))) ⌝ }
-{
-    let mut i = 0;
-    while i < xs.len() {
-        if !tap::finite::is_finite(xs[i]) {
-            return i;
-        }
-        i += 1;
-    }
-    i
-}
-
-// The taps added in order, from +0.
-fn total(taps: &[f64]) -> f64
-    ensures { λ r. ⌜ r ≡ sumOf (now (taps .entry)) ⌝ }
-{
-    let mut sum = 0.0;
-    let mut i = 0;
-    while i < taps.len() {
-        sum = sum + taps[i];
-        i += 1;
-    }
-    sum
-}
-
-// Whether taps can be divided by the sum.
-fn is_usable(sum: f64) -> bool
-    ensures { λ r. ⌜ r ≡ not (unusable sum) ⌝ }
-{
-    if tap::finite::is_finite(sum) {
-        sum != 0.0
-    } else {
-        false
-    }
-}
-
-// Each tap divided by the sum, into the front of the table.
-fn divide(taps: &[f64], sum: f64, table: &mut [f64])
-    requires { ⌜ length (now taps) ≤ length (now table) ⌝ }
-    ensures { λ r. ⌜ now (table .exit) ≡ quotients sum (now (taps .entry)) ++ drop (length (now (taps .entry))) (now (table .entry)) ⌝ }
-{
-    let mut i = 0;
-    while i < taps.len() {
-        table[i] = taps[i] / sum;
-        i += 1;
-    }
 }
 
 // Of two leftovers the larger in magnitude, and the first where they are as large.
@@ -172,6 +122,16 @@ fn not_finite(normalised: bool, place: u32) -> RoundedTaps
     }
 }
 
+// How many of n coefficients are written: all where they are accepted, else none.
+fn accepted(answer: RoundedTaps, n: usize) -> usize
+    ensures { λ r. ⌜ r ≡ acceptedOf (answerOf answer) n ⌝ }
+{
+    match answer {
+        RoundedTaps::Given(_) => n,
+        RoundedTaps::Refused(_) => 0,
+    }
+}
+
 // The coefficients of the numbers: all of them, or none is written. Only where one is turned down
 // is it asked whether all are finite.
 fn settle(
@@ -187,13 +147,11 @@ fn settle(
 {
     let mut buffer = [0i32; 256];
     let answer = round_all(xs, f, divisor, &mut buffer);
+    copy(&buffer, accepted(answer, xs.len()), coefficients);
     match answer {
-        RoundedTaps::Given(report) => {
-            copy(&buffer, xs.len(), coefficients);
-            RoundedTaps::Given(report)
-        }
+        RoundedTaps::Given(report) => RoundedTaps::Given(report),
         RoundedTaps::Refused(refusal) => {
-            let place = first_not_finite(xs);
+            let place = normalise::first_not_finite(xs);
             if place < xs.len() {
                 not_finite(normalised, place as u32)
             } else {
@@ -208,7 +166,7 @@ fn no_sum(taps: &[f64]) -> RoundedTaps
     requires { ⌜ length (now taps) ≤ 256 ⌝ }
     ensures { λ r. ⌜ answerOf r ≡ refuseAt (lowest (λ (x : Float). not (Tap.finite x)) (now (taps .entry))) 5 (refused 7 0) ⌝ }
 {
-    let place = first_not_finite(taps);
+    let place = normalise::first_not_finite(taps);
     if place < taps.len() {
         RoundedTaps::Refused(Refusal::TapNotFinite(place as u32))
     } else {
@@ -223,12 +181,12 @@ fn round_quotients(taps: &[f64], f: u32, coefficients: &mut [i32]) -> RoundedTap
     ensures { λ r. ⌜ answerOf r ≡ settled f true (now (taps .entry)) ⌝ }
     ensures { λ r. ⌜ now (coefficients .exit) ≡ filled (settled f true (now (taps .entry))) (coefficientsOf f (used true (now (taps .entry)))) (now (coefficients .entry)) ⌝ }
 {
-    let sum = total(taps);
-    if !is_usable(sum) {
+    let sum = normalise::total(taps);
+    if !normalise::is_usable(sum) {
         return no_sum(taps);
     }
     let mut table = [0.0f64; 256];
-    divide(taps, sum, &mut table);
+    normalise::divide(taps, sum, &mut table);
     let n = taps.len();
     settle(&table[..n], f, sum, true, coefficients)
 }

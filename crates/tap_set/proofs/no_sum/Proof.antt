@@ -5,7 +5,7 @@ use lib.ListN.{length}
 use Rattle.refusal.specs.Answer.{Place, refused, refuseAt}
 use Rattle.tap_set.specs.declared.Report.{Report}
 use Rattle.tap_set.proofs.Rounds.{notFinite}
-use Rattle.tap_set.proofs.Settled.{found, found-none}
+use Rattle.refusal.proofs.Checks.{found, found-none}
 use Rattle.tap_set.proofs.no_sum.Statement.{statement}
 use Rattle.tap_set.proofs.no_sum.Tie as tie
 

@@ -1,4 +1,4 @@
--- `tap_set::total` meets its contract. The invariant: what is left of the taps, added to the sum so far, is the whole sum. Assumes nothing.
+-- `normalise::total` meets its contract. The invariant: what is left of the taps, added to the sum so far, is the whole sum. Assumes nothing.
 use borrow.Author.Needs.{needs}
 use mathlib.Core.Path.{_≡_, refl, sym, ap, _∙_}
 use mathlib.Core.List.{List, []}
@@ -8,9 +8,9 @@ use lib.ListN.{length, getD, drop, drop-of-length-le}
 use lib.Seq.{drop-cons}
 use lib.Ieee.{Float, nan, binary64, add, ofBits}
 use Rattle.tap.proofs.Value.{zero-is}
-use Rattle.tap_set.specs.Normalised.{sumFrom, sumOf}
-use Rattle.tap_set.proofs.total.Statement.{statement}
-use Rattle.tap_set.proofs.total.Tie as tie
+use Rattle.normalise.specs.Normalised.{sumFrom, sumOf}
+use Rattle.normalise.proofs.total.Statement.{statement}
+use Rattle.normalise.proofs.total.Tie as tie
 
 step : (t : Float) (xs : List Float) (i : ℕ) → i < length xs → sumFrom t (drop i xs) ≡ sumFrom (add binary64 t (getD xs i nan)) (drop (i + 1) xs)
 unfolding sumFrom

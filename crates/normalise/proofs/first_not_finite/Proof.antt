@@ -1,4 +1,4 @@
--- `tap_set::first_not_finite` meets its contract. The invariant: none of the numbers passed breaks the rule. Assumes nothing.
+-- `normalise::first_not_finite` meets its contract. The invariant: none of the numbers passed breaks the rule. Assumes nothing.
 use borrow.Author.Needs.{needs}
 use borrow.Author.Tests.{not-true, not-false}
 use mathlib.Core.Path.{_≡_, refl, sym, ap, _∙_}
@@ -7,12 +7,11 @@ use Prim.Native.Nat.{ℕ, _-_, _≤_}
 use native.Mathlib.Omega.{arith}
 use lib.ListN.{length, drop, getD}
 use lib.Ieee.{Float, nan}
-use Rattle.refusal.specs.Answer.{lowestFrom, lowest}
+use Rattle.refusal.specs.Answer.{lowestFrom, lowest, placeOr}
 use Rattle.refusal.proofs.Checks.{lowest-here, lowest-later, lowest-none}
 use Rattle.tap.specs.Rounding.{finite}
-use Rattle.tap_set.specs.Steps.{placeOr}
-use Rattle.tap_set.proofs.first_not_finite.Statement.{statement}
-use Rattle.tap_set.proofs.first_not_finite.Tie as tie
+use Rattle.normalise.proofs.first_not_finite.Statement.{statement}
+use Rattle.normalise.proofs.first_not_finite.Tie as tie
 
 abbrev breaks : Float → Bool
 breaks x = not (finite x)

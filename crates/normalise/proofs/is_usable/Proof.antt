@@ -1,11 +1,11 @@
--- `tap_set::is_usable` meets its contract. Assumes nothing.
+-- `normalise::is_usable` meets its contract. Assumes nothing.
 use borrow.Author.Needs.{needs}
 use mathlib.Core.Path.{_≡_, sym, ap, _∙_}
 use lib.Ieee.{Float, ne}
 use Rattle.tap.proofs.Value.{zero-is}
-use Rattle.tap_set.proofs.Sizes.{usable-finite, usable-never}
-use Rattle.tap_set.proofs.is_usable.Statement.{statement}
-use Rattle.tap_set.proofs.is_usable.Tie as tie
+use Rattle.normalise.proofs.Usable.{usable-finite, usable-never}
+use Rattle.normalise.proofs.is_usable.Statement.{statement}
+use Rattle.normalise.proofs.is_usable.Tie as tie
 
 is-finite-requires : tie.Need-is-finite-requires
 is-finite-requires c κs = search needs

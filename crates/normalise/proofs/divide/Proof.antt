@@ -1,4 +1,4 @@
--- `tap_set::divide` meets its contract. The invariant: the quotients of the taps passed stand at the front. Assumes nothing.
+-- `normalise::divide` meets its contract. The invariant: the quotients of the taps passed stand at the front. Assumes nothing.
 use borrow.Author.Needs.{needs}
 use mathlib.Core.Path.{_≡_, refl, sym, ap, _∙_}
 use Prim.Native.Nat.{ℕ, _-_, _≤_}
@@ -7,8 +7,8 @@ use lib.ListN.{length, length-set, set, getD}
 use mathlib.Core.List.{List}
 use lib.Ieee.{Float, nan, binary64, div}
 use Rattle.refusal.proofs.Tables.{front, front-next, front-end}
-use Rattle.tap_set.proofs.divide.Statement.{statement}
-use Rattle.tap_set.proofs.divide.Tie as tie
+use Rattle.normalise.proofs.divide.Statement.{statement}
+use Rattle.normalise.proofs.divide.Tie as tie
 
 abbrev over : Float → Float → Float
 over sum x = div binary64 x sum
