@@ -32,7 +32,8 @@ uint64_t fir_round_tap(uint64_t bits, uint32_t fraction_bits);
  *   divisor                          the sum, or 1 where nothing was normalised
  *   leftover                         the largest tap * 2^fraction_bits - N by magnitude, with its
  *                                    sign; the earliest of equals, and +0 where all are exact
- * The lower half of the answer is the place of the refusal, counted from 0. */
+ * The lower half of the answer is the place of the refusal, counted from 0; it is 0 where the set
+ * is accepted. */
 uint64_t fir_round_taps(const double *taps, size_t tap_count, uint32_t fraction_bits,
                         uint32_t normalised, int32_t *coefficients, size_t coefficient_count,
                         double *divisor, double *leftover);
