@@ -126,57 +126,41 @@ pub struct SetRefusal {
     pub place: usize,
 }
 
+fn turned_down(refusal: u32, place: usize) -> SetRefusal {
+    SetRefusal { refusal, place }
+}
+
+// Why a set of finite taps is refused: 0 for none.
+fn refusal_of_numbers(taps: &[f64], divisor: f64, f: u32) -> SetRefusal {
+    let infinite = first_refused(taps, divisor, f, 5);
+    if infinite < taps.len() {
+        return turned_down(7, infinite);
+    }
+    let outside = first_refused(taps, divisor, f, 6);
+    if outside < taps.len() {
+        return turned_down(6, outside);
+    }
+    turned_down(0, 0)
+}
+
 // Why a set with room for its coefficients is refused: 0 for none.
 pub fn refusal_of_set(taps: &[f64], f: u32, normalised: bool) -> SetRefusal {
-    let n = taps.len();
-    if n == 0 {
-        return SetRefusal {
-            refusal: 1,
-            place: 0,
-        };
+    if taps.len() == 0 {
+        return turned_down(1, 0);
     }
-    if n > 256 {
-        return SetRefusal {
-            refusal: 2,
-            place: 0,
-        };
+    if taps.len() > 256 {
+        return turned_down(2, 0);
     }
     if f > 31 {
-        return SetRefusal {
-            refusal: 4,
-            place: 0,
-        };
+        return turned_down(4, 0);
     }
     let given = first_refused(taps, 1.0, f, 5);
-    if given < n {
-        return SetRefusal {
-            refusal: 5,
-            place: given,
-        };
+    if given < taps.len() {
+        return turned_down(5, given);
     }
     let divisor = if normalised { sum(taps) } else { 1.0 };
     if divisor - divisor != 0.0 || divisor == 0.0 {
-        return SetRefusal {
-            refusal: 7,
-            place: 0,
-        };
+        return turned_down(7, 0);
     }
-    let infinite = first_refused(taps, divisor, f, 5);
-    if infinite < n {
-        return SetRefusal {
-            refusal: 7,
-            place: infinite,
-        };
-    }
-    let outside = first_refused(taps, divisor, f, 6);
-    if outside < n {
-        return SetRefusal {
-            refusal: 6,
-            place: outside,
-        };
-    }
-    SetRefusal {
-        refusal: 0,
-        place: 0,
-    }
+    refusal_of_numbers(taps, divisor, f)
 }

@@ -5,7 +5,7 @@ use mathlib.Core.Bool.{Bool, true, false, not, cond}
 use Prim.Native.Nat.{ℕ, zero, suc, _+_, _-_, _*_, _≤_, _<_}
 use native.Mathlib.Nat.{le-trans, le-of-eq, add-mul, one-mul, zero-mul, mul-le-mul-right, le-antisymm}
 use native.Mathlib.Omega.{arith}
-use lib.IntN.{ℤ, pos, negsuc, negℤ, natAbs, subℕ, _+ℤ_, _-ℤ_, _*ℤ_, negℤ-negℤ, negℤ-+ℤ}
+use lib.IntN.{ℤ, pos, negsuc, negℤ, natAbs, _+ℤ_, _-ℤ_, _*ℤ_, negℤ-negℤ, negℤ-+ℤ}
 use lib.Dec.{T, ltb, leb, ltb→lt, nltb→le}
 use borrow.Author.Tests.{lt-ltb, le-ltb, lt-leb, le-leb}
 use Rattle.tap.specs.Rounding.{nearestWhole, signed}
@@ -30,22 +30,42 @@ pub size-signed : (s : Bool) (n : ℕ) → natAbs (signed s n) ≡ n
 size-signed true n = size-neg (pos n)
 size-signed false n = refl
 
+order-leb : (x a : ℕ) → ((leb x a ≡ true) × (x ≤ a)) ⊎ ((leb x a ≡ false) × (a < x))
+order-leb x a = go (order a x)
+  where
+    go : (a < x) ⊎ (x ≤ a) → ((leb x a ≡ true) × (x ≤ a)) ⊎ ((leb x a ≡ false) × (a < x))
+    go (inl h) = inr (lt-leb x a h, h)
+    go (inr h) = inl (le-leb x a h, h)
+
+less-is : (a x : ℕ) → pos a +ℤ negℤ (pos x) ≡ signed (cond (leb x a) false true) (apart a x)
+less-is a x = go (order-leb x a)
+  where
+    up-to : (a x : ℕ) → x ≤ a → pos a +ℤ negℤ (pos x) ≡ pos (apart a x)
+    up-to a zero h = ap pos (nil a)
+      where
+        nil : (a : ℕ) → a + 0 ≡ apart a 0
+        nil a = omega arith
+    up-to a (suc y) h = ap (λ (b : Bool). cond b (negsuc (suc y - suc a)) (pos (a - suc y))) (le-ltb a (suc y) h) ∙ ap pos (rest a y h)
+      where
+        rest : (a y : ℕ) → suc y ≤ a → a - suc y ≡ apart a (suc y)
+        rest a y h = omega arith
+
+    over : (a x : ℕ) → a < x → pos a +ℤ negℤ (pos x) ≡ negℤ (pos (apart a x))
+    over a zero h = absurd (none a h)
+      where
+        none : (a : ℕ) → a < 0 → ⊥
+        none a h = omega arith
+    over a (suc y) h = ap (λ (b : Bool). cond b (negsuc (suc y - suc a)) (pos (a - suc y))) (lt-ltb a (suc y) h) ∙ ap (λ (k : ℕ). negℤ (pos k)) (rest a y h)
+      where
+        rest : (a y : ℕ) → a < suc y → suc (suc y - suc a) ≡ apart a (suc y)
+        rest a y h = omega arith
+
+    go : ((leb x a ≡ true) × (x ≤ a)) ⊎ ((leb x a ≡ false) × (a < x)) → pos a +ℤ negℤ (pos x) ≡ signed (cond (leb x a) false true) (apart a x)
+    go (inl h) = up-to a x (h .1) ∙ ap (λ (b : Bool). signed (cond b false true) (apart a x)) (sym (h .0))
+    go (inr h) = over a x (h .1) ∙ ap (λ (b : Bool). signed (cond b false true) (apart a x)) (sym (h .0))
+
 size-less : (a x : ℕ) → natAbs (pos a +ℤ negℤ (pos x)) ≡ apart a x
-size-less a zero = go a
-  where
-    go : (a : ℕ) → a + 0 ≡ apart a 0
-    go a = omega arith
-size-less a (suc y) = go (order a (suc y))
-  where
-    less : (a y : ℕ) → a < suc y → suc (suc y - suc a) ≡ apart a (suc y)
-    less a y h = omega arith
-
-    more : (a y : ℕ) → suc y ≤ a → a - suc y ≡ apart a (suc y)
-    more a y h = omega arith
-
-    go : (a < suc y) ⊎ (suc y ≤ a) → natAbs (subℕ a (suc y)) ≡ apart a (suc y)
-    go (inl h) = ap (λ (b : Bool). natAbs (cond b (negsuc (suc y - suc a)) (pos (a - suc y)))) (lt-ltb a (suc y) h) ∙ less a y h
-    go (inr h) = ap (λ (b : Bool). natAbs (cond b (negsuc (suc y - suc a)) (pos (a - suc y)))) (le-ltb a (suc y) h) ∙ more a y h
+size-less a x = ap natAbs (less-is a x) ∙ size-signed (cond (leb x a) false true) (apart a x)
 
 pub signed-mul : (s : Bool) (n d : ℕ) → signed s n *ℤ pos d ≡ signed s (n * d)
 signed-mul false n d = refl
@@ -194,40 +214,6 @@ module _ (s : Bool) (a d : ℕ) (D : 0 < d) where
               one-le n = omega arith
 
 -- ---- ±a less ±n * d, with its sign
-order-leb : (x a : ℕ) → ((leb x a ≡ true) × (x ≤ a)) ⊎ ((leb x a ≡ false) × (a < x))
-order-leb x a = go (order a x)
-  where
-    go : (a < x) ⊎ (x ≤ a) → ((leb x a ≡ true) × (x ≤ a)) ⊎ ((leb x a ≡ false) × (a < x))
-    go (inl h) = inr (lt-leb x a h, h)
-    go (inr h) = inl (le-leb x a h, h)
-
-less-is : (a x : ℕ) → pos a +ℤ negℤ (pos x) ≡ signed (cond (leb x a) false true) (apart a x)
-less-is a x = go (order-leb x a)
-  where
-    up-to : (a x : ℕ) → x ≤ a → pos a +ℤ negℤ (pos x) ≡ pos (apart a x)
-    up-to a zero h = ap pos (nil a)
-      where
-        nil : (a : ℕ) → a + 0 ≡ apart a 0
-        nil a = omega arith
-    up-to a (suc y) h = ap (λ (b : Bool). cond b (negsuc (suc y - suc a)) (pos (a - suc y))) (le-ltb a (suc y) h) ∙ ap pos (rest a y h)
-      where
-        rest : (a y : ℕ) → suc y ≤ a → a - suc y ≡ apart a (suc y)
-        rest a y h = omega arith
-
-    over : (a x : ℕ) → a < x → pos a +ℤ negℤ (pos x) ≡ negℤ (pos (apart a x))
-    over a zero h = absurd (none a h)
-      where
-        none : (a : ℕ) → a < 0 → ⊥
-        none a h = omega arith
-    over a (suc y) h = ap (λ (b : Bool). cond b (negsuc (suc y - suc a)) (pos (a - suc y))) (lt-ltb a (suc y) h) ∙ ap (λ (k : ℕ). negℤ (pos k)) (rest a y h)
-      where
-        rest : (a y : ℕ) → a < suc y → suc (suc y - suc a) ≡ apart a (suc y)
-        rest a y h = omega arith
-
-    go : ((leb x a ≡ true) × (x ≤ a)) ⊎ ((leb x a ≡ false) × (a < x)) → pos a +ℤ negℤ (pos x) ≡ signed (cond (leb x a) false true) (apart a x)
-    go (inl h) = up-to a x (h .1) ∙ ap (λ (b : Bool). signed (cond b false true) (apart a x)) (sym (h .0))
-    go (inr h) = over a x (h .1) ∙ ap (λ (b : Bool). signed (cond b false true) (apart a x)) (sym (h .0))
-
 neg-signed : (b : Bool) (k : ℕ) → negℤ (signed (cond b false true) k) ≡ signed (cond b true false) k
 neg-signed true k = refl
 neg-signed false k = negℤ-negℤ (pos k)

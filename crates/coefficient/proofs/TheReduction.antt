@@ -1,0 +1,78 @@
+-- What `reduce` answers is the reduction of n in the sense of signed_digit, and there is no other. Assumes nothing.
+use mathlib.Core.Path.{_≡_, refl, sym, ap, _∙_}
+use mathlib.Core.Logic.{_≢_}
+use Prim.Native.Nat.{ℕ, zero, suc, _%_, _^_, _≤_, _<_}
+use native.Mathlib.Omega.{arith}
+use lib.IntN.{ℤ, pos, negsuc, _*ℤ_}
+use Rattle.signed_digit.specs.Coefficient.{Coefficient}
+use Rattle.signed_digit.specs.Reduction.{Sign, signValue, Reduction}
+use Rattle.signed_digit.proofs.Coefficients.{coefficient-magnitude}
+use Rattle.signed_digit.proofs.Reduction.{reduction}
+use Rattle.coefficient.specs.declared.Reduced.{Reduced}
+use Rattle.coefficient.specs.declared.Reduced.the-variants.{Zero, Split}
+use Rattle.coefficient.specs.Parts.{no-odd-part, parts, signOf, shiftOf, oddPartOf, partsOf, signIf, partsIn}
+use Rattle.coefficient.proofs.PartsOf as PartsOf
+
+-- ---- the statements
+pub record TheReduction (n : ℤ) (s : Sign) (oddPart shift : ℕ) : Type 0 where
+  -- "sign × odd part × 2^shift"
+  pub product : signValue s *ℤ pos oddPart *ℤ pos (2 ^ shift) ≡ n
+  pub odd : oddPart % 2 ≡ 1
+  -- "the odd part positive"
+  pub above-zero : 0 < oddPart
+  -- the only such split
+  pub only : (r : Reduction n) → (r .sign ≡ s) × (r .oddPart ≡ oddPart) × (r .shift ≡ shift)
+  -- of a 32-bit coefficient
+  pub bounds : Coefficient n → (oddPart < 2 ^ 31) × (shift ≤ 31)
+
+-- what each case of `Reduced` tells of n
+abbrev pub Right : Reduced → ℤ → Type 0
+Right Zero n = n ≡ pos 0
+Right (Split r) n = TheReduction n (signIf (r .negative)) (r .«odd_part») (r .shift)
+
+-- ---- the proofs
+-- every reduction of n has the parts of n
+pub reduction-parts : (n : ℤ) (r : Reduction n) → partsOf n ≡ parts (r .sign) (r .oddPart) (r .shift)
+reduction-parts = PartsOf.reduction-parts
+
+-- and so sign × odd part × 2^shift has these
+pub product-parts : (s : Sign) (x i : ℕ) → x % 2 ≡ 1 → partsOf (signValue s *ℤ pos x *ℤ pos (2 ^ i)) ≡ parts s x i
+product-parts s x i o = reduction-parts _ (record { sign = s; oddPart = x; shift = i; odd = o; product = refl })
+
+same-parts : (s t : Sign) (x y i j : ℕ) → parts s x i ≡ parts t y j → (s ≡ t) × (x ≡ y) × (i ≡ j)
+same-parts s t x y i j e = (cc, cc, cc)
+
+module _ (n : ℤ) (r : Reduction n) (s : Sign) (x i : ℕ) (e : parts s x i ≡ partsOf n) where
+  same : (q : Reduction n) → (q .sign ≡ s) × (q .oddPart ≡ x) × (q .shift ≡ i)
+  same q = same-parts (q .sign) s (q .oddPart) x (q .shift) i (sym (e ∙ reduction-parts n q))
+
+  the-reduction : TheReduction n s x i
+  the-reduction =
+      let p = same r in
+      record {
+        product = rw (sym (p .0), sym (p .1), sym (p .2)) (sym (r .product));
+        odd = sym (ap (λ (y : ℕ). y % 2) (p .1)) ∙ r .odd;
+        above-zero = omega (arith, p .1, r .odd);
+        only = same;
+        bounds = λ c. (let b = PartsOf.reduction-bounds n r (coefficient-magnitude n c) in omega (arith, p .1, p .2));
+      }
+
+no-parts : (s : Sign) (x i : ℕ) → no-odd-part ≡ parts s x i → ⊥
+no-parts s x i e = let z : _≡_ {A = ℕ} 0 1 = cc in omega arith
+
+zero-only : (n : ℤ) → no-odd-part ≡ partsOf n → n ≡ pos 0
+unfolding partsOf
+zero-only (pos zero) e = refl
+zero-only (pos (suc m)) e = absurd (no-parts (signOf (pos (suc m))) (oddPartOf (pos (suc m))) (shiftOf (pos (suc m))) e)
+zero-only (negsuc m) e = absurd (no-parts (signOf (negsuc m)) (oddPartOf (negsuc m)) (shiftOf (negsuc m)) e)
+
+split-nonzero : (n : ℤ) (s : Sign) (x i : ℕ) → parts s x i ≡ partsOf n → n ≢ pos 0
+unfolding partsOf
+split-nonzero n s x i e z = no-parts s x i (sym (e ∙ ap partsOf z))
+
+-- an answer that meets the contract of `reduce` is right
+pub answer-right : (n : ℤ) (r : Reduced) → partsIn r ≡ partsOf n → Right r n
+answer-right n Zero e = zero-only n e
+answer-right n (Split r) e =
+    let s = signIf (r .negative) in
+    the-reduction n (reduction n (split-nonzero n s (r .«odd_part») (r .shift) e)) s (r .«odd_part») (r .shift) e

@@ -1,0 +1,56 @@
+-- The theorems on the listing and the canonical form, at the 32 places of document 01's forms: for every number of magnitude at most
+-- 2^31, and so for every 32-bit coefficient, -2^31 and 2^31 - 1 included.
+use mathlib.Core.Path.{_≡_}
+use mathlib.Core.List.{List}
+use mathlib.Core.Logic.{_↔_}
+use Prim.Native.Nat.{suc, _-_, _≤_, _^_}
+use native.Mathlib.Omega.{arith}
+use lib.Dec.{leb→le, le→leb}
+use lib.IntN.{ℤ, pos, negsuc, natAbs}
+use lib.ListN.{length}
+use lib.Signed.{natAbs-le}
+use mir.Syntax.{w32}
+use mir.Val.{SFits}
+use Rattle.signed_digit.specs.String.{DigitString}
+use Rattle.signed_digit.specs.Weight.{weight}
+use Rattle.signed_digit.specs.Minimal.{Minimal}
+use Rattle.signed_digit.specs.Listing.{Once, StandsIn}
+use Rattle.signed_digit.specs.Fibonacci.{fibonacci}
+use Rattle.signed_digit.specs.Coefficient.{Coefficient}
+use Rattle.signed_digit.specs.CanonicalForm.{canonical}
+use Rattle.signed_digit.specs.Forms.{listing}
+use Rattle.signed_digit.proofs.Canonical.{canonical-weight}
+use Rattle.signed_digit.proofs.Fibonacci.{fibonacci-monotone}
+use Rattle.signed_digit.proofs.Listing.{CanonicalForm, listing-stands, listing-count, listing-bound, canonical-form}
+
+-- ---- a coefficient is a number that an i32 holds
+pub coefficient-i32 : (n : ℤ) → Coefficient n → SFits w32 n
+coefficient-i32 (pos n) c = record { sfits = omega (arith, leb→le n (2 ^ 31 - 1) (c .to-greatest .le)) }
+coefficient-i32 (negsuc n) c = record { sfits = omega (arith, leb→le n (2 ^ 31 - 1) (c .from-least .le)) }
+
+pub i32-coefficient : (n : ℤ) → SFits w32 n → Coefficient n
+i32-coefficient (pos n) h = record { from-least = record { le = tt }; to-greatest = record { le = le→leb n (2 ^ 31 - 1) (omega (arith, h .sfits)) } }
+i32-coefficient (negsuc n) h = record { from-least = record { le = le→leb n (2 ^ 31 - 1) (omega (arith, h .sfits)) }; to-greatest = record { le = tt } }
+
+pub coefficient-magnitude : (n : ℤ) → Coefficient n → natAbs n ≤ 2 ^ 31
+coefficient-magnitude n c = natAbs-le n (coefficient-i32 n c .sfits)
+
+-- ---- 32 places
+module _ (n : ℤ) (h : natAbs n ≤ 2 ^ 31) where
+  pub stands-32 : (s : DigitString) → StandsIn s (listing 32 n) ↔ Minimal n s
+  stands-32 = listing-stands 31 n h
+
+  pub count-32 : (l : List DigitString) → Once l → ((s : DigitString) → StandsIn s l ↔ Minimal n s) → length l ≡ length (listing 32 n)
+  count-32 = listing-count 31 n h
+
+  pub canonical-32 : CanonicalForm 32 n
+  canonical-32 = canonical-form 32 n (omega arith)
+
+  pub weight-32 : weight (canonical 32 n) ≤ 16
+  weight-32 = omega (arith, canonical-weight (canonical 32 n) (canonical-32 .is-canonical), canonical-32 .places)
+
+  pub bound-32 : length (listing 32 n) ≤ fibonacci (suc (weight (canonical 32 n)))
+  bound-32 = listing-bound 32 n (canonical 32 n) (canonical-32 .minimal)
+
+  pub at-most-1597 : length (listing 32 n) ≤ 1597
+  at-most-1597 = omega (arith, bound-32, fibonacci-monotone (suc (weight (canonical 32 n))) 17 (omega (arith, weight-32)))

@@ -1,0 +1,23 @@
+-- The statements to read first, Demand before all:
+pub mod Demand
+pub mod Coefficients
+pub mod Listing
+pub mod Order
+pub mod Canonical
+pub mod Masks
+pub mod Reduction
+pub mod Figures
+-- What they rest on, and a caller's proof may cite too:
+pub mod Strings
+pub mod Same
+pub mod Value
+pub mod Minimal
+pub mod CanonicalForm
+pub mod Pairs
+pub mod Forms
+pub mod AnyLength
+pub mod Tails
+pub mod Fibonacci
+pub mod Count
+pub mod Wider
+pub mod Cuts
