@@ -9,16 +9,16 @@ pub struct TapAnswer {
     pub coefficient: i32,
 }
 
-/// What the entry for a set answers. The values are in the memory lent to it.
+/// What any other entry answers. The values are in the memory lent to it.
 #[derive(Clone, Copy, Debug, PartialEq, Eq)]
-pub struct SetAnswer {
+pub struct Answer {
     /// 0 for none.
     pub refusal: u32,
     /// 0 for none.
     pub place: u32,
 }
 
-pub const ACCEPTED: SetAnswer = SetAnswer {
+pub const ACCEPTED: Answer = Answer {
     refusal: 0,
     place: 0,
 };
@@ -41,9 +41,9 @@ impl From<u64> for TapAnswer {
     }
 }
 
-impl From<u64> for SetAnswer {
+impl From<u64> for Answer {
     fn from(packed: u64) -> Self {
-        SetAnswer {
+        Answer {
             refusal: (packed >> 32) as u32,
             place: packed as u32,
         }

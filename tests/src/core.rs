@@ -1,6 +1,6 @@
-//! The core's two C entries, as `fir.h` declares them.
+//! The core's C entries for taps, as `fir.h` declares them.
 
-use crate::answer::{SetAnswer, TapAnswer};
+use crate::answer::{Answer, TapAnswer};
 
 extern "C" {
     fn fir_round_tap(bits: u64, fraction_bits: u32) -> u64;
@@ -31,7 +31,7 @@ pub fn round_taps(
     coefficients: &mut [i32],
     divisor: &mut f64,
     leftover: &mut f64,
-) -> SetAnswer {
+) -> Answer {
     // SAFETY: slices and references are never null, and the mutable ones overlap nothing.
     unsafe {
         fir_round_taps(

@@ -1,6 +1,7 @@
-//! Both entries written by hand for speed, in plain Rust: the core's time is compared with this.
+//! Both entries for taps written by hand for speed, in plain Rust: the core's time is compared with
+//! this.
 
-use crate::answer::{SetAnswer, TapAnswer, ACCEPTED};
+use crate::answer::{Answer, TapAnswer, ACCEPTED};
 use std::mem::MaybeUninit;
 
 /// The largest number below a half. A number plus this, with the number's sign, cut to a whole
@@ -63,8 +64,8 @@ fn round_all<const DIVIDE: bool>(
 
 /// Which refusal it is, once some tap has no coefficient or the divisor is unfit.
 #[cold]
-fn refusal(taps: &[f64], normalised: bool, divisor: f64, place: usize) -> SetAnswer {
-    let refused = |refusal, place: usize| SetAnswer {
+fn refusal(taps: &[f64], normalised: bool, divisor: f64, place: usize) -> Answer {
+    let refused = |refusal, place: usize| Answer {
         refusal,
         place: place as u32,
     };
@@ -105,10 +106,10 @@ pub fn round_taps(
     coefficients: &mut [i32],
     divisor: &mut f64,
     leftover: &mut f64,
-) -> SetAnswer {
+) -> Answer {
     let unseen = refused_unseen(taps.len(), coefficients.len(), fraction_bits);
     if unseen != 0 {
-        return SetAnswer {
+        return Answer {
             refusal: unseen,
             place: 0,
         };

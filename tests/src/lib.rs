@@ -3,8 +3,10 @@
 
 pub mod answer;
 pub mod binary64;
+pub mod coefficients;
 pub mod core;
 pub mod fast;
+pub mod forms;
 pub mod hard;
 pub mod hard_sets;
 pub mod literal;

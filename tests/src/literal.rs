@@ -1,7 +1,7 @@
 //! The rules for taps as the paper states them, in whole numbers throughout; only the sum and the
 //! quotients are left to the machine's binary64 addition and division. Slow on purpose.
 
-use crate::answer::{SetAnswer, TapAnswer, ACCEPTED};
+use crate::answer::{Answer, TapAnswer, ACCEPTED};
 use crate::binary64::{is_finite, put_together, take_apart, Parts, SIGN};
 
 /// One tap, rounded. The leftover is given by its bits.
@@ -115,7 +115,7 @@ fn first(list: &[f64], breaks: impl Fn(f64) -> bool) -> Option<u32> {
 }
 
 /// Every refusal that applies, down the table, each with its lowest place. The first is returned.
-pub fn refusals(taps: &[f64], fraction_bits: u32, normalised: u32, table: usize) -> Vec<SetAnswer> {
+pub fn refusals(taps: &[f64], fraction_bits: u32, normalised: u32, table: usize) -> Vec<Answer> {
     let normalised = normalised != 0;
     let divisor = divisor_of(taps, normalised);
     let values = standing(taps, normalised, divisor);
@@ -132,7 +132,7 @@ pub fn refusals(taps: &[f64], fraction_bits: u32, normalised: u32, table: usize)
     ];
     table
         .into_iter()
-        .filter_map(|(refusal, place)| place.map(|place| SetAnswer { refusal, place }))
+        .filter_map(|(refusal, place)| place.map(|place| Answer { refusal, place }))
         .collect()
 }
 
@@ -143,7 +143,7 @@ pub fn round_taps(
     coefficients: &mut [i32],
     divisor: &mut f64,
     leftover: &mut f64,
-) -> SetAnswer {
+) -> Answer {
     let refusals = refusals(taps, fraction_bits, normalised, coefficients.len());
     if let Some(refusal) = refusals.first() {
         return *refusal;

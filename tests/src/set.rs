@@ -1,9 +1,9 @@
 //! One call of a set entry: what goes in, and everything that comes out.
 
-use crate::answer::SetAnswer;
+use crate::answer::Answer;
 
 /// A set entry: taps, fraction bits, normalised, coefficients, divisor, leftover.
-pub type Entry = fn(&[f64], u32, u32, &mut [i32], &mut f64, &mut f64) -> SetAnswer;
+pub type Entry = fn(&[f64], u32, u32, &mut [i32], &mut f64, &mut f64) -> Answer;
 
 #[derive(Clone, Debug)]
 pub struct Set {
@@ -17,7 +17,7 @@ pub struct Set {
 /// The answer and all lent memory afterwards, the numbers as their bits.
 #[derive(Clone, Debug, PartialEq, Eq)]
 pub struct Outcome {
-    pub answer: SetAnswer,
+    pub answer: Answer,
     /// The table, with `GUARD` further elements on either side.
     pub memory: Vec<i32>,
     pub divisor: u64,

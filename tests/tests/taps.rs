@@ -3,7 +3,7 @@
 mod check;
 
 use check::{check_set, check_tap, show, Tally};
-use fir_tests::answer::{SetAnswer, TapAnswer, ACCEPTED};
+use fir_tests::answer::{Answer, TapAnswer, ACCEPTED};
 use fir_tests::random::Random;
 use fir_tests::set::Set;
 use fir_tests::{hard, hard_sets, literal, mixture};
@@ -25,7 +25,7 @@ fn figure(set: Set, coefficients: &[i32], divisor: f64, leftover: f64) {
 fn refused(set: Set, refusal: u32, place: u32) {
     check_set(&set, &mut Tally::default());
     let answer = set.run(literal::round_taps).answer;
-    assert_eq!(answer, SetAnswer { refusal, place }, "{}", show(&set));
+    assert_eq!(answer, Answer { refusal, place }, "{}", show(&set));
 }
 
 #[test]

@@ -1,11 +1,11 @@
 // Figures on taps. A number is written as its 16 hexadecimal digits, low numbers in decimal.
+use crate::text::coefficient;
+use crate::text::refused;
+use crate::text::text;
+use crate::text::whole;
 use refusal::Refusal;
 use tap::RoundedTap;
 use tap_set::RoundedTaps;
-
-fn text(bytes: &[u8]) {
-    io::write_all(1, bytes);
-}
 
 fn float(x: f64) {
     if x != x {
@@ -13,26 +13,6 @@ fn float(x: f64) {
         return;
     }
     io::print_hex(1, f64::to_bits(x), 16);
-}
-
-fn whole(negative: bool, size: u64) {
-    if negative {
-        if size > 0 {
-            text(b"-");
-        }
-    }
-    io::print_decimal(1, size);
-}
-
-fn coefficient(n: i32) {
-    whole(n < 0, word::magnitude(n) as u64);
-}
-
-fn refused(number: u32, place: u32) {
-    text(b"refusal ");
-    io::print_decimal(1, number as u64);
-    text(b" place ");
-    io::print_decimal(1, place as u64);
 }
 
 fn refusal(r: Refusal) {

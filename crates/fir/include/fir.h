@@ -8,7 +8,9 @@
  *   2 more than 256 taps             6 a coefficient is outside -2^31 to 2^31 - 1
  *   3 a lent table is too short      7 the sum is zero, infinite or not a number (place 0),
  *   4 more than 31 fraction bits       or a quotient is infinite
- * A call that is turned down changes no memory. */
+ *   8 the masks of a form overlap (place: the lowest digit that is in both)
+ * Where nothing else is said, the lower half is the place of the refusal, counted from 0, and 0
+ * where the call is accepted. A call that is turned down changes no memory. */
 #ifndef FIR_H
 #define FIR_H
 
@@ -31,12 +33,38 @@ uint64_t fir_round_tap(uint64_t bits, uint32_t fraction_bits);
  *                                    may be longer, and is then untouched past them
  *   divisor                          the sum, or 1 where nothing was normalised
  *   leftover                         the largest tap * 2^fraction_bits - N by magnitude, with its
- *                                    sign; the earliest of equals, and +0 where all are exact
- * The lower half of the answer is the place of the refusal, counted from 0; it is 0 where the set
- * is accepted. */
+ *                                    sign; the earliest of equals, and +0 where all are exact */
 uint64_t fir_round_taps(const double *taps, size_t tap_count, uint32_t fraction_bits,
                         uint32_t normalised, int32_t *coefficients, size_t coefficient_count,
                         double *divisor, double *leftover);
+
+/* A coefficient n that is not 0 is sign * odd_part * 2^shift with odd_part odd: negative is 1 for a
+ * sign of -1, else 0. For n = 0 all three are 0: zero has no odd part. Nothing is turned down. */
+uint64_t fir_reduce(int32_t n, uint32_t *negative, uint32_t *odd_part, uint32_t *shift);
+
+/* The stretch of coefficients[coefficient_count] from the first that is not 0 to the last: it starts
+ * at *start and ends before *end; 0 and 0 where there is none. Nothing is turned down. */
+uint64_t fir_trimmed(const int32_t *coefficients, size_t coefficient_count, size_t *start,
+                     size_t *end);
+
+/* A form is a string of 32 digits 1, 0 and -1, given by two masks: the places that hold 1 and those
+ * that hold -1, place 0 in the lowest bit. Its value is plus - minus, its weight the number of
+ * digits that are not 0. Turned down with 8. */
+uint64_t fir_form_value(uint32_t plus, uint32_t minus, int64_t *value);
+uint64_t fir_form_weight(uint32_t plus, uint32_t minus, uint32_t *weight);
+
+/* The canonical form of n: no two neighbouring digits are both not 0. Nothing is turned down. */
+uint64_t fir_canonical(int32_t n, uint32_t *plus, uint32_t *minus);
+
+/* Every minimal form of n, of which no string of digits with the value n has fewer that are not 0:
+ * the masks of form i at plus[i] and minus[i]. Of two forms the earlier is the one that is not 0 at
+ * the highest place where they differ, so the canonical form is first. *count is how many there are,
+ * at most 1597; both tables must have room for 1597 (else 3) and are untouched past the count. */
+uint64_t fir_minimal_forms(int32_t n, uint32_t *plus, size_t plus_count, uint32_t *minus,
+                           size_t minus_count, uint32_t *count);
+
+/* How many minimal forms n has, without listing them. Nothing is turned down. */
+uint64_t fir_form_count(int32_t n, uint32_t *count);
 
 #ifdef __cplusplus
 }

@@ -1,0 +1,40 @@
+-- `form_listing::count_of` meets its contract. Assumes nothing.
+use mathlib.Core.Path.{_≡_, refl, sym, ap, subst, _∙_}
+use Prim.Native.Nat.{ℕ, _≤_}
+use native.Mathlib.Omega.{arith}
+use Rattle.form_listing.specs.declared.Walk.{Walk}
+use Rattle.form_listing.proofs.Walked.{Walked, walked-start, walked-small, walked-next, walked-end, next-less}
+use borrow.Author.Needs.{needs}
+use Rattle.form_listing.proofs.count_of.Statement.{statement}
+use Rattle.form_listing.proofs.count_of.Tie as tie
+
+abbrev Inv-loop : tie.InvT-loop
+Inv-loop m w₀ w = Walked 32 m w
+
+abbrev μ-loop : tie.MeasureT-loop
+μ-loop m w₀ w = w .rest
+
+start-requires : tie.Need-start-requires Inv-loop μ-loop
+start-requires c κs = search needs
+
+loop-holds : tie.Need-loop-holds Inv-loop μ-loop
+loop-holds c = subst (Walked 32 (c .before .args .m)) (sym (c .start .ensures)) (walked-start 32 (c .before .args .m) (omega (arith, c .before .pre)))
+
+next-requires : tie.Need-next-requires Inv-loop μ-loop
+next-requires c κs = let o = c .before .before .loop in walked-small 32 (c .before .before .before .before .args .m) (o .w) (o .inv) (omega arith)
+
+loop-less : tie.Need-loop-less Inv-loop μ-loop
+loop-less c = omega (arith, ap (λ (w : Walk). w .rest) (c .next .ensures), next-less (c .before .before .before .loop .w) (c .before .if1 .taken))
+
+loop-again : tie.Need-loop-again Inv-loop μ-loop
+loop-again c =
+    let o = c .before .before .before .loop in
+    subst (Walked 32 (c .before .before .before .before .before .args .m)) (sym (c .next .ensures)) (walked-next 32 (c .before .before .before .before .before .args .m) (o .w) (o .inv) (c .before .if1 .taken))
+
+returns : tie.Need-returns Inv-loop μ-loop
+returns c = let o = c .before .before .loop in walked-end 32 (c .before .before .before .before .args .m) (o .w) (o .inv) (omega (arith, c .before .before .before .before .pre)) (c .if1 .left)
+
+pub count-of-spec : {M : Type 1} → statement M
+count-of-spec =
+    tie.close
+    (tie.spec Inv-loop μ-loop start-requires loop-holds next-requires loop-less loop-again returns)

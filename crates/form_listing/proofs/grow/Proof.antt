@@ -1,0 +1,80 @@
+-- `form_listing::grow` meets its contract. Assumes nothing.
+use mathlib.Core.Path.{_≡_, refl, sym, ap, subst, _∙_}
+use Prim.Native.Nat.{_≤_, _+_, _-_}
+use native.Mathlib.Omega.{arith}
+use lib.ListN.{length, length-set}
+use Rattle.form_listing.proofs.Growth.{Part, part-start, part-next, part-end}
+use borrow.Author.Needs.{needs}
+use Rattle.form_listing.proofs.grow.Statement.{statement}
+use Rattle.form_listing.proofs.grow.Tie as tie
+
+abbrev Inv-loop : tie.InvT-loop
+Inv-loop table₀ at n offset i₀ table i = (i ≤ n) × (length table ≡ length table₀) × Part table₀ at n offset i table
+
+abbrev μ-loop : tie.MeasureT-loop
+μ-loop table₀ at n offset i₀ table i = i
+
+loop-holds : tie.Need-loop-holds Inv-loop μ-loop
+loop-holds c = let s = c .before in (omega arith, refl, part-start (s .args .table .now) (s .args .at) (s .args .n) (s .args .offset))
+
+sub-i : tie.Need-sub-i Inv-loop μ-loop
+sub-i c = omega arith
+
+mul-wrapping-add-u32 : tie.Need-mul-wrapping-add-u32 Inv-loop μ-loop
+mul-wrapping-add-u32 c = omega (arith, c .before .before .before .pre, c .before .before .before .good .0)
+
+slice-read-wrapping-add-u32 : tie.Need-slice-read-wrapping-add-u32 Inv-loop μ-loop
+slice-read-wrapping-add-u32 c = omega (arith, c .before .before .before .before .pre)
+
+wrapping-add-u32-requires : tie.Need-wrapping-add-u32-requires Inv-loop μ-loop
+wrapping-add-u32-requires c κs = tt
+
+add-table : tie.Need-add-table Inv-loop μ-loop
+add-table c = omega (arith, c .before .before .before .before .before .pre, c .before .before .before .before .before .good .0)
+
+mul-table : tie.Need-mul-table Inv-loop μ-loop
+mul-table c = omega (arith, c .before .before .before .before .before .pre, c .before .before .before .before .before .good .0)
+
+slice-write-table : tie.Need-slice-write-table Inv-loop μ-loop
+slice-write-table c = omega (arith, c .before .before .before .before .before .pre)
+
+loop-less : tie.Need-loop-less Inv-loop μ-loop
+loop-less c = omega arith
+
+loop-again : tie.Need-loop-again Inv-loop μ-loop
+loop-again c =
+    let s = c .before .before .before .before .before in
+    let o = c .before .before .before .loop in (
+      omega arith,
+      length-set (o .table) (s .args .at + (o .i - 1)) (c .wrapping-add-u32 .result) ∙ o .inv .1,
+      part-next (s .args .table .now) (s .args .at) (s .args .n) (s .args .offset) (s .pre) (o .table) (o .i) (c .wrapping-add-u32 .result)
+          (c .before .before .loop-test .taken) (o .inv .0) (c .wrapping-add-u32 .ensures) (o .inv .2),
+    )
+
+same-length : tie.Need-same-length Inv-loop μ-loop
+same-length c = c .before .loop .inv .1
+
+returns : tie.Need-returns Inv-loop μ-loop
+returns c =
+    let s = c .before .before .before in
+    let o = c .before .loop in
+    part-end (s .args .table .now) (s .args .at) (s .args .n) (s .args .offset) (s .pre) (o .table) (o .i) (c .loop-test .left) (o .inv .2)
+
+pub grow-spec : {M : Type 1} → statement M
+grow-spec =
+    tie.close
+    (tie.spec
+    Inv-loop
+    μ-loop
+    loop-holds
+    sub-i
+    mul-wrapping-add-u32
+    slice-read-wrapping-add-u32
+    wrapping-add-u32-requires
+    add-table
+    mul-table
+    slice-write-table
+    loop-less
+    loop-again
+    same-length
+    returns)

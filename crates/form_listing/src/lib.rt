@@ -1,0 +1,164 @@
+// Every minimal form of a coefficient, in order, and their number.
+ghost use mathlib.Core.Path.{_≡_};
+ghost use mathlib.Core.List.{_++_, map};
+ghost use Prim.Native.Nat.{_+_, _≤_, _^_};
+ghost use lib.IntN.{pos, natAbs};
+ghost use lib.ListN.{length, drop};
+ghost use mir.Syntax.{w32};
+ghost use mir.Val.{ofZ, toZ};
+ghost use Rattle.refusal.specs.Answer.{filled};
+ghost use Rattle.signed_digit.specs.Masks.{plusMask, minusMask};
+ghost use Rattle.signed_digit.specs.Forms.{listing};
+ghost use Rattle.form_listing.specs.Listing.{formCount, answerOf};
+ghost use Rattle.form_listing.specs.Walk.{startOf, nextOf, Small, widened, Ready};
+ghost use Rattle.form_listing.specs.Growth.{grown, extended};
+use refusal::Refusal;
+
+pub enum Listing {
+    Count(u32),
+    Refused(Refusal),
+}
+
+// How far a walk over the canonical digits has come, from the low end.
+struct Walk {
+    rest: u64,
+    bit: u64,
+    forms: usize,
+    above: usize,
+    below: usize,
+}
+
+fn start(m: u64) -> Walk
+    ensures { λ r. ⌜ r ≡ startOf m ⌝ }
+{
+    Walk {
+        rest: m,
+        bit: 1,
+        forms: 1,
+        above: 0,
+        below: 0,
+    }
+}
+
+fn next(w: Walk) -> Walk
+    requires { ⌜ Small w ⌝ }
+    ensures { λ r. ⌜ r ≡ nextOf w ⌝ }
+{
+    if w.rest % 4 == 1 {
+        return Walk {
+            rest: w.rest / 4,
+            bit: w.bit * 4,
+            forms: w.forms + w.above,
+            above: 0,
+            below: w.forms + w.below,
+        };
+    }
+    if w.rest % 4 == 3 {
+        return Walk {
+            rest: w.rest / 4 + 1,
+            bit: w.bit * 4,
+            forms: w.forms + w.below,
+            above: w.forms + w.above,
+            below: 0,
+        };
+    }
+    Walk {
+        rest: w.rest / 2,
+        bit: w.bit * 2,
+        forms: w.forms,
+        above: 0,
+        below: 0,
+    }
+}
+
+fn count_of(m: u64) -> usize
+    requires { ⌜ m ≤ 2 ^ 31 ⌝ }
+    ensures { λ r. ⌜ r ≡ length (listing 32 (pos m)) ⌝ }
+{
+    let mut w = start(m);
+    while w.rest != 0 {
+        w = next(w);
+    }
+    w.forms
+}
+
+fn grow(table: &mut [u32], at: usize, n: usize, offset: u32)
+    requires { ⌜ at + n ≤ length (now table) ⌝ }
+    ensures { λ r. ⌜ now (table .exit) ≡ grown (now (table .entry)) at n offset ⌝ }
+{
+    let mut i = n;
+    while i > 0 {
+        i -= 1;
+        table[at + i] = std::num::wrapping_add_u32(table[i], offset);
+    }
+}
+
+fn extend(table: &mut [u32], at: usize, n: usize, offset: u32, count: usize)
+    requires { ⌜ (at ≤ count) × (count ≤ length (now table)) ⌝ }
+    ensures { λ r. ⌜ now (table .exit) ≡ extended count (now (table .entry)) at n offset ⌝ }
+{
+    if n <= count - at {
+        grow(table, at, n, offset);
+    }
+}
+
+fn widen(up: &mut [u32], down: &mut [u32], w: Walk, count: usize)
+    requires { ⌜ Small w × (w .forms ≤ count) × (count ≤ length (now up)) × (count ≤ length (now down)) ⌝ }
+    ensures up { λ r. ⌜ now (up .exit) ≡ widened count w (now (up .entry)) ⌝ }
+    ensures down { λ r. ⌜ now (down .exit) ≡ widened count w (now (down .entry)) ⌝ }
+{
+    if w.rest % 2 == 1 {
+        let n = w.above + w.below;
+        let offset = std::num::wrapping_sub_u32(0, (w.bit / 4) as u32);
+        extend(up, w.forms, n, offset, count);
+        extend(down, w.forms, n, offset, count);
+    }
+}
+
+fn list(up: &mut [u32], down: &mut [u32], m: u64, count: usize)
+    requires { ⌜ Ready m count (now up) (now down) ⌝ }
+    ensures up { λ r. ⌜ now (up .exit) ≡ map plusMask (listing 32 (pos m)) ++ drop count (now (up .entry)) ⌝ }
+    ensures down { λ r. ⌜ now (down .exit) ≡ map minusMask (listing 32 (pos m)) ++ drop count (now (down .entry)) ⌝ }
+{
+    let mut w = start(m);
+    while w.rest != 0 {
+        widen(up, down, w, count);
+        w = next(w);
+    }
+}
+
+fn magnitude(n: i32) -> u64
+    ensures { λ r. ⌜ r ≡ natAbs (toZ w32 (ofZ w32 n)) ⌝ }
+{
+    word::magnitude(n) as u64
+}
+
+pub fn form_count(n: i32) -> u32
+    ensures { λ r. ⌜ r ≡ length (listing 32 n) ⌝ }
+{
+    count_of(magnitude(n)) as u32
+}
+
+pub fn minimal_forms(n: i32, plus: &mut [u32], minus: &mut [u32]) -> Listing
+    ensures answer { λ r. ⌜ answerOf r ≡ formCount n (length (now (plus .entry))) (length (now (minus .entry))) ⌝ }
+    ensures plus { λ r. ⌜ now (plus .exit) ≡ filled (formCount n (length (now (plus .entry))) (length (now (minus .entry)))) (map plusMask (listing 32 n)) (now (plus .entry)) ⌝ }
+    ensures minus { λ r. ⌜ now (minus .exit) ≡ filled (formCount n (length (now (plus .entry))) (length (now (minus .entry)))) (map minusMask (listing 32 n)) (now (minus .entry)) ⌝ }
+{
+    if plus.len() < 1597 {
+        return Listing::Refused(Refusal::ShortTable);
+    }
+    if minus.len() < 1597 {
+        return Listing::Refused(Refusal::ShortTable);
+    }
+    let m = magnitude(n);
+    let count = count_of(m);
+    let first = form_masks::canonical(n);
+    plus[0] = first.plus;
+    minus[0] = first.minus;
+    if n < 0 {
+        list(minus, plus, m, count);
+        return Listing::Count(count as u32);
+    }
+    list(plus, minus, m, count);
+    Listing::Count(count as u32)
+}

@@ -1,0 +1,4 @@
+pub mod Forms
+pub mod Sign
+pub mod Overlap
+pub mod CanonicalMasks

@@ -1,0 +1,48 @@
+-- `form_masks::weight` meets its contract. Assumes nothing.
+use borrow.Author.Needs.{needs}
+use mathlib.Core.Path.{_≡_, sym, ap, ap₂, _∙_}
+use Prim.Native.Nat.{ℕ, _+_, _<_, _^_}
+use native.Mathlib.Omega.{arith}
+use lib.Bits.{bitAnd}
+use lib.Count.{ones-le}
+use Rattle.refusal.specs.Answer.{given}
+use Rattle.signed_digit.specs.Weight.{weight}
+use Rattle.form_masks.specs.Form.{stringOf}
+use Rattle.form_masks.specs.Weight.{weightOf}
+use Rattle.form_masks.proofs.Forms.{overlapping, disjoint, string-weight}
+use Rattle.form_masks.proofs.weight.Statement.{statement}
+use Rattle.form_masks.proofs.weight.Tie as tie
+
+lowest-one-requires : tie.Need-lowest-one-requires
+lowest-one-requires c κs = search needs
+
+returns : tie.Need-returns
+unfolding weightOf
+returns c =
+    let form = c .before .before .before .args .form in
+    overlapping (form .plus) (form .minus) (given (weight (stringOf form))) (c .lowest-one .result) (c .lowest-one .ensures)
+
+ones-requires : tie.Need-ones-requires
+ones-requires c κs = search needs
+
+ones-requires-2 : tie.Need-ones-requires-2
+ones-requires-2 c κs = search needs
+
+add-t8 : tie.Need-add-t8
+add-t8 c =
+    let form = c .before .before .before .before .args .form in
+    let x = ones-le 32 (form .plus) (omega arith) in
+    let y = ones-le 32 (form .minus) (omega arith) in
+    record { fits = omega (arith, c .before .ones .ensures, c .ones2 .ensures) }
+
+returns-2 : tie.Need-returns-2
+unfolding weightOf
+returns-2 c =
+    let form = c .before .before .before .before .args .form in
+    let z : bitAnd (form .plus) (form .minus) ≡ 0 = omega (arith, c .before .before .if1 .left) in
+    ap given (ap₂ (λ (x y : ℕ). x + y) (c .before .ones .ensures) (c .ones2 .ensures) ∙ sym (string-weight form (omega arith) (omega arith) z))
+    ∙ disjoint (form .plus) (form .minus) (given (weight (stringOf form))) z
+
+pub weight-spec : {M : Type 1} → statement M
+weight-spec =
+    tie.close (tie.spec lowest-one-requires returns ones-requires ones-requires-2 add-t8 returns-2)

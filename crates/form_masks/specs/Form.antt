@@ -1,0 +1,39 @@
+-- A form by its two masks. Document 01: "A form is stored as two 32-bit masks: places holding 1 and places holding -1. No place is in
+-- both." Definitions only.
+use Prim.Native.Nat.{ℕ, zero, suc, _/_, _%_, _^_}
+use mathlib.Core.Bool.{Bool, _&&_}
+use mathlib.Core.List.{List, [], _∷_}
+use lib.Dec.{eqb}
+use Rattle.refusal.specs.Answer.{Place, lowest}
+use Rattle.signed_digit.specs.String.{DigitString}
+use Rattle.signed_digit.specs.Masks.{plusMask, minusMask, fromMasks}
+use Rattle.form_masks.specs.declared.Form.{Form}
+
+-- the form of a string
+abbrev pub formOf : DigitString → Form
+formOf s = record { plus = plusMask s; minus = minusMask s }
+
+-- "A form is a string of 32 places": the one with these masks
+unfoldable pub stringOf : Form → DigitString
+stringOf form = fromMasks 32 (form .plus) (form .minus)
+
+-- whether a mask holds a place
+abbrev pub holds : ℕ → ℕ → Bool
+holds mask place = eqb (mask / 2 ^ place % 2) 1
+
+-- the p places from k on
+abbrev pub placesFrom : ℕ → ℕ → List ℕ
+placesFrom k zero = []
+placesFrom k (suc p) = k ∷ placesFrom (suc k) p
+
+-- the lowest of p places that a mask holds
+unfoldable pub lowestIn : ℕ → ℕ → Place
+lowestIn p mask = lowest (holds mask) (placesFrom 0 p)
+
+-- the lowest of p places that is in both masks
+unfoldable pub overlapIn : ℕ → ℕ → ℕ → Place
+overlapIn p x y = lowest (λ (place : ℕ). holds x place && holds y place) (placesFrom 0 p)
+
+-- "masks overlap", at the "lowest place"
+abbrev pub overlap : Form → Place
+overlap form = overlapIn 32 (form .plus) (form .minus)

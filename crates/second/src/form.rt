@@ -1,0 +1,50 @@
+// The least weight of a number and how many strings have it, from the high end: of the number x made
+// of the bits passed, and of x + 1.
+
+pub struct Minimal {
+    pub weight: u32,
+    pub count: u32,
+}
+
+// Of an odd number, by the halves of its two neighbours.
+fn of_odd(below: Minimal, above: Minimal) -> Minimal {
+    if below.weight < above.weight {
+        return Minimal {
+            weight: std::num::wrapping_add_u32(below.weight, 1),
+            count: below.count,
+        };
+    }
+    if above.weight < below.weight {
+        return Minimal {
+            weight: std::num::wrapping_add_u32(above.weight, 1),
+            count: above.count,
+        };
+    }
+    Minimal {
+        weight: std::num::wrapping_add_u32(below.weight, 1),
+        count: std::num::wrapping_add_u32(below.count, above.count),
+    }
+}
+
+// Of a magnitude of 32 bits.
+pub fn least(magnitude: u32) -> Minimal {
+    let mut bit: u32 = 2147483648;
+    let mut here = Minimal {
+        weight: 0,
+        count: 1,
+    };
+    let mut next = Minimal {
+        weight: 1,
+        count: 1,
+    };
+    while bit > 0 {
+        let odd = of_odd(here, next);
+        if magnitude / bit % 2 == 0 {
+            next = odd;
+        } else {
+            here = odd;
+        }
+        bit = bit / 2;
+    }
+    here
+}
