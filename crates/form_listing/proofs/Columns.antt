@@ -1,13 +1,13 @@
 -- A mask table on the walk. It holds the masks of one sign: of the strings passed and, at other offsets, of those beside them. The digits
 -- still to come are in the offset, so that at the end it is 0. Assumes nothing.
 use mathlib.Core.Path.{_≡_, refl, ap, ap₂, sym, _∙_, subst}
-use mathlib.Core.List.{List, [], _∷_, _++_, map, map-append, List·Memᴰ, List·Memᴰ·head, List·Memᴰ·tail}
+use mathlib.Core.List.{List, [], _∷_, _++_, map, List·Memᴰ, List·Memᴰ·head, List·Memᴰ·tail}
 use mathlib.Core.Logic.{_⊎_, inl, inr, ⊎-elim}
-use Prim.Native.Nat.{ℕ, zero, suc, _+_, _*_, _-_, _≤_, _<_, _^_, _/_, _%_}
+use Prim.Native.Nat.{ℕ, suc, _+_, _*_, _-_, _≤_, _<_, _^_, _/_, _%_}
 use native.Mathlib.Nat.{pow-suc}
 use native.Mathlib.Omega.{arith}
 use lib.IntN.{pos}
-use lib.ListN.{length, take, length-append, length-map, replicate}
+use lib.ListN.{length, take, length-append, length-map}
 use lib.Pow.{pow-mono}
 use Rattle.signed_digit.specs.Digit.{Digit, one, nought, minus-one, nonzero}
 use Rattle.signed_digit.specs.String.{DigitString}
@@ -15,7 +15,7 @@ use Rattle.signed_digit.specs.Weight.{weight}
 use Rattle.signed_digit.specs.Masks.{mask, plusBit, minusBit}
 use Rattle.signed_digit.specs.CanonicalForm.{opposite, canonicalNat}
 use Rattle.signed_digit.specs.Forms.{top, forms, listing}
-use Rattle.signed_digit.proofs.Strings.{small, top-places, top-mask, opposite-bits, pad, pad-mask}
+use Rattle.signed_digit.proofs.Strings.{small, opposite-bits}
 use Rattle.signed_digit.proofs.Forms.{sound}
 use Rattle.signed_digit.proofs.Listing.{listing-forms, listing-is}
 use Rattle.form_listing.specs.Growth.{shifted, extended}

@@ -19,7 +19,7 @@ use Rattle.signed_digit.proofs.CanonicalForm.{canonicalNat-places}
 use Rattle.form_listing.specs.declared.Walk.{Walk}
 use Rattle.form_listing.specs.Growth.{extended}
 use Rattle.form_listing.specs.Walk.{startOf, past, nextOf, widened}
-use Rattle.form_listing.proofs.Passed.{Passed, passed-nought, passed-digit, more}
+use Rattle.form_listing.proofs.Passed.{passed-nought, passed-digit, more}
 use Rattle.form_listing.proofs.Counts.{ofSide}
 use Rattle.form_listing.proofs.Growth.{extended-rest}
 use Rattle.form_listing.proofs.SignMasks.{bitOf}

@@ -2,12 +2,11 @@
 use mathlib.Core.Path.{_≡_, refl, ap, ap₂, sym, _∙_, subst}
 use mathlib.Core.Bool.{Bool, true, false, cond}
 use mathlib.Core.List.{List, [], _∷_, _++_, map, append-assoc}
-use Prim.Native.Nat.{ℕ, zero, suc, _+_, _-_, _≤_, _<_, _%_, _^_}
-use native.Mathlib.Nat.{not-suc-le-zero}
+use Prim.Native.Nat.{ℕ, zero, suc, _+_, _-_, _≤_, _<_}
 use native.Mathlib.Omega.{arith}
 use borrow.Author.Tests.{le-leb, leb-true}
 use lib.Dec.{leb}
-use lib.ListN.{length, length-set, take-append-drop, take, drop, set, getD, length-append, length-take, length-drop, length-map}
+use lib.ListN.{length, take-append-drop, take, drop, set, getD, length-append, length-take, length-drop, length-map}
 use lib.Seq.{length-take-le, take-at, drop-at, drop-drop}
 use Rattle.form_listing.specs.Growth.{shifted, grown, extended}
 

@@ -1,18 +1,18 @@
 -- The strings of p places, weight k and value a - b, under changes of a and b: only a - b matters, twice the value puts a 0 below, the
 -- opposite value negates every string. Assumes nothing.
 use mathlib.Core.Path.{_≡_, refl, ap, sym, _∙_, subst}
-use mathlib.Core.List.{List, [], _∷_, map, List·Memᴰ, Memᴰ·map, Memᴰ·of-map}
+use mathlib.Core.List.{[], _∷_, map, List·Memᴰ, Memᴰ·map, Memᴰ·of-map}
 use Prim.Native.Nat.{ℕ, zero, suc, _+_, _*_, _<_}
 use native.Mathlib.Omega.{arith}
 use lib.IntN.{ℤ, pos, negsuc, natAbs}
 use lib.ListN.{length, length-map}
-use Rattle.signed_digit.specs.Digit.{Digit, one, nought, minus-one, nonzero}
+use Rattle.signed_digit.specs.Digit.{one, nought, minus-one, nonzero}
 use Rattle.signed_digit.specs.String.{DigitString, digitAt}
 use Rattle.signed_digit.specs.Weight.{weight}
 use Rattle.signed_digit.specs.Order.{Earlier}
 use Rattle.signed_digit.specs.CanonicalForm.{opposite, negated, canonicalNat}
 use Rattle.signed_digit.specs.Forms.{forms, listing}
-use Rattle.signed_digit.proofs.Strings.{bit, opposite-bits, negated-is, negated-twice, negated-digit}
+use Rattle.signed_digit.proofs.Strings.{opposite-bits, negated-is, negated-twice, negated-digit}
 use Rattle.signed_digit.proofs.Pairs.{pairs-map, ordered-unique}
 use Rattle.signed_digit.proofs.Forms.{Form, sound, complete, forms-ordered}
 

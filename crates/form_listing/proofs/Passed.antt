@@ -4,12 +4,11 @@ use mathlib.Core.List.{List, [], _∷_, map}
 use Prim.Native.Nat.{ℕ, zero, suc, _+_, _*_, _≤_, _^_}
 use native.Mathlib.Nat.{pow-suc}
 use native.Mathlib.Omega.{arith}
-use lib.ListN.{length}
 use Rattle.signed_digit.specs.Digit.{Digit, one, nought, minus-one, nonzero}
 use Rattle.signed_digit.specs.String.{DigitString}
 use Rattle.signed_digit.specs.Weight.{weight}
 use Rattle.signed_digit.specs.Canonical.{Canonical}
-use Rattle.signed_digit.specs.Masks.{plusBit, minusBit, plusMask, minusMask}
+use Rattle.signed_digit.specs.Masks.{plusBit, minusBit}
 use Rattle.signed_digit.specs.CanonicalForm.{opposite, canonicalNat}
 use Rattle.signed_digit.specs.Forms.{top, forms}
 use Rattle.signed_digit.proofs.Strings.{bit, pad, pad-places, pad-mask, pad-weight}

@@ -5,17 +5,15 @@ use mathlib.Core.List.{List, [], _∷_, _++_, map, map-append}
 use Prim.Native.Nat.{ℕ, zero, suc, _+_, _*_, _≤_, _^_}
 use native.Mathlib.Nat.{pow-suc}
 use native.Mathlib.Omega.{arith}
-use lib.ListN.{length}
 use Rattle.signed_digit.specs.Digit.{Digit, one, nought, minus-one, nonzero}
 use Rattle.signed_digit.specs.String.{DigitString}
-use Rattle.signed_digit.specs.Weight.{weight}
 use Rattle.signed_digit.specs.Canonical.{Canonical}
 use Rattle.signed_digit.specs.Masks.{plusBit, minusBit}
 use Rattle.signed_digit.specs.CanonicalForm.{opposite, negated}
 use Rattle.signed_digit.specs.Forms.{top, forms}
-use Rattle.signed_digit.proofs.Strings.{bit, small, top-places, top-weight, opposite-bits, negated-top}
+use Rattle.signed_digit.proofs.Strings.{small, negated-top}
 use Rattle.signed_digit.proofs.Minimal.{Lightest}
-use Rattle.signed_digit.proofs.Canonical.{canonical-lightest, canonical-first, canonical-pad, canonical-top}
+use Rattle.signed_digit.proofs.Canonical.{canonical-lightest, canonical-first, canonical-top}
 use Rattle.signed_digit.proofs.CanonicalForm.{negated-canonical}
 use Rattle.signed_digit.proofs.Forms.{Form, sound, form-top, earlier-high}
 use Rattle.signed_digit.proofs.Cuts.{empty, cut-heavy, cut-above, cut-below}

@@ -1,5 +1,5 @@
 -- The walk of src/lib.rt over the digits of a number m: where it has come, and how many forms it counts. Assumes nothing.
-use mathlib.Core.Path.{_≡_, refl, ap, sym, _∙_, subst}
+use mathlib.Core.Path.{_≡_, refl}
 use mathlib.Core.Logic.{_≢_}
 use Prim.Native.Nat.{ℕ, zero, suc, _+_, _*_, _≤_, _<_, _^_, _/_, _%_, suc-le-suc}
 use native.Mathlib.Nat.{pow-suc}
@@ -7,14 +7,13 @@ use native.Mathlib.Omega.{arith}
 use lib.IntN.{pos}
 use lib.ListN.{length}
 use lib.Pow.{pow-mono}
-use Rattle.signed_digit.specs.Digit.{Digit, one, nought, minus-one, nonzero}
-use Rattle.signed_digit.specs.Masks.{plusBit, minusBit}
+use Rattle.signed_digit.specs.Digit.{Digit, one, nought, minus-one}
 use Rattle.signed_digit.specs.CanonicalForm.{lowest}
 use Rattle.signed_digit.specs.Forms.{listing}
 use Rattle.form_listing.specs.declared.Walk.{Walk}
 use Rattle.form_listing.specs.Walk.{startOf, past, nextOf, Small}
 use Rattle.form_listing.proofs.Passed.{Passed, passed-start, passed-nought, passed-digit}
-use Rattle.form_listing.proofs.Counts.{ofSide, Counts, counts-start, counts-room, counts-nought, counts-digit, counts-end}
+use Rattle.form_listing.proofs.Counts.{Counts, counts-start, counts-room, counts-nought, counts-digit, counts-end}
 
 pub record Walked (p m : ℕ) (w : Walk) : Type 0 where
   pub passed : Passed (suc p) m (w .rest)

@@ -8,7 +8,7 @@ use native.Mathlib.Omega.{arith}
 use lib.IntN.{ℤ}
 use lib.ListN.{length, take, drop, length-map}
 use lib.Seq.{take-at, drop-at}
-use Rattle.refusal.specs.Answer.{Answer, given, refused, filled}
+use Rattle.refusal.specs.Answer.{Answer, given, filled}
 use Rattle.signed_digit.specs.String.{DigitString}
 use Rattle.signed_digit.specs.Value.{value}
 use Rattle.signed_digit.specs.Weight.{weight}

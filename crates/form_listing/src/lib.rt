@@ -14,12 +14,16 @@ ghost use Rattle.form_listing.specs.Walk.{startOf, nextOf, Small, widene
 ghost use Rattle.form_listing.specs.Growth.{grown, extended};
 use refusal::Refusal;
 
+// The number of forms, or a refusal.
 pub enum Listing {
     Count(u32),
     Refused(Refusal),
 }
 
-// How far a walk over the canonical digits has come, from the low end.
+// How far a walk over the canonical digits has come, from the low end: `rest` has the digits still
+// to come, and bit is the lowest of them. forms is the number of forms of what has been passed.
+// above and below are the numbers of forms, at the same weight, of what has been passed plus bit / 2
+// and minus bit / 2: a nonzero digit that comes next and moves down one place leaves one of these.
 struct Walk {
     rest: u64,
     bit: u64,
@@ -40,6 +44,7 @@ fn start(m: u64) -> Walk
     }
 }
 
+// Past the next digit, and past the 0 above it where it is not 0 itself.
 fn next(w: Walk) -> Walk
     requires { ⌜ Small w ⌝ }
     ensures { λ r. ⌜ r ≡ nextOf w ⌝ }
@@ -71,6 +76,7 @@ fn next(w: Walk) -> Walk
     }
 }
 
+// The number of forms of m.
 fn count_of(m: u64) -> usize
     requires { ⌜ m ≤ 2 ^ 31 ⌝ }
     ensures { λ r. ⌜ r ≡ length (listing 32 (pos m)) ⌝ }
@@ -82,6 +88,8 @@ fn count_of(m: u64) -> usize
     w.forms
 }
 
+// Copies the first n elements, each with the offset, to the places from `at` on. The last comes first,
+// since the places may begin among these n.
 fn grow(table: &mut [u32], at: usize, n: usize, offset: u32)
     requires { ⌜ at + n ≤ length (now table) ⌝ }
     ensures { λ r. ⌜ now (table .exit) ≡ grown (now (table .entry)) at n offset ⌝ }
@@ -93,6 +101,7 @@ fn grow(table: &mut [u32], at: usize, n: usize, offset: u32)
     }
 }
 
+// The same, but nothing past the count is ever written: what does not fit is not needed.
 fn extend(table: &mut [u32], at: usize, n: usize, offset: u32, count: usize)
     requires { ⌜ (at ≤ count) × (count ≤ length (now table)) ⌝ }
     ensures { λ r. ⌜ now (table .exit) ≡ extended count (now (table .entry)) at n offset ⌝ }
@@ -102,6 +111,8 @@ fn extend(table: &mut [u32], at: usize, n: usize, offset: u32, count: usize)
     }
 }
 
+// At a nonzero digit the forms in which it moves down follow those in which it stays. Their masks
+// are those of the forms beside, in front, less a quarter of the bit: the same in both tables.
 fn widen(up: &mut [u32], down: &mut [u32], w: Walk, count: usize)
     requires { ⌜ Small w × (w .forms ≤ count) × (count ≤ length (now up)) × (count ≤ length (now down)) ⌝ }
     ensures up { λ r. ⌜ now (up .exit) ≡ widened count w (now (up .entry)) ⌝ }
@@ -115,6 +126,8 @@ fn widen(up: &mut [u32], down: &mut [u32], w: Walk, count: usize)
     }
 }
 
+// Lists the forms of m. The canonical form stands in front, with the digits that are still to come
+// in every element, so that each is a whole form at the end.
 fn list(up: &mut [u32], down: &mut [u32], m: u64, count: usize)
     requires { ⌜ Ready m count (now up) (now down) ⌝ }
     ensures up { λ r. ⌜ now (up .exit) ≡ map plusMask (listing 32 (pos m)) ++ drop count (now (up .entry)) ⌝ }
@@ -127,18 +140,22 @@ fn list(up: &mut [u32], down: &mut [u32], m: u64, count: usize)
     }
 }
 
+// The magnitude of n, whose bits are read as a signed number. Nothing is negated.
 fn magnitude(n: i32) -> u64
     ensures { λ r. ⌜ r ≡ natAbs (toZ w32 (ofZ w32 n)) ⌝ }
 {
     word::magnitude(n) as u64
 }
 
+// The number of minimal forms of n.
 pub fn form_count(n: i32) -> u32
     ensures { λ r. ⌜ r ≡ length (listing 32 n) ⌝ }
 {
     count_of(magnitude(n)) as u32
 }
 
+// The minimal forms of n, in order, in the front of the two tables. The forms of a negative number
+// are those of its magnitude with the masks exchanged.
 pub fn minimal_forms(n: i32, plus: &mut [u32], minus: &mut [u32]) -> Listing
     ensures answer { λ r. ⌜ answerOf r ≡ formCount n (length (now (plus .entry))) (length (now (minus .entry))) ⌝ }
     ensures plus { λ r. ⌜ now (plus .exit) ≡ filled (formCount n (length (now (plus .entry))) (length (now (minus .entry)))) (map plusMask (listing 32 n)) (now (plus .entry)) ⌝ }

@@ -1,6 +1,6 @@
 -- Forms and strings, there and back: a form read back gives its string's value and weight, a string's form gives the string, and the
 -- canonical form of a coefficient gives its digits and the coefficient. Assumes nothing.
-use mathlib.Core.Path.{_≡_, refl, sym, ap, ap₂, _∙_}
+use mathlib.Core.Path.{_≡_, sym, ap, ap₂, _∙_}
 use mathlib.Core.Bool.{Bool, true, false, cond}
 use Prim.Native.Nat.{ℕ, zero, suc, _+_, _-_, _<_, _^_}
 use native.Mathlib.Omega.{arith}
@@ -12,14 +12,13 @@ use lib.ListN.{length}
 use lib.Signed.{mag}
 use mir.Syntax.{w64}
 use mir.Val.{SFits}
-use Rattle.refusal.specs.Answer.{Answer, given, refused, refuseAt, Place, nowhere, at-place}
+use Rattle.refusal.specs.Answer.{Answer, given, refused, refuseAt, Place, at-place}
 use Rattle.signed_digit.specs.String.{DigitString}
 use Rattle.signed_digit.specs.Value.{value}
 use Rattle.signed_digit.specs.Weight.{weight}
 use Rattle.signed_digit.specs.Masks.{plusMask, minusMask, fromMasks}
 use Rattle.signed_digit.specs.CanonicalForm.{canonical}
 use Rattle.signed_digit.specs.Coefficient.{Coefficient}
-use Rattle.signed_digit.proofs.Strings.{small}
 use Rattle.signed_digit.proofs.Value.{value-masks}
 use Rattle.signed_digit.proofs.Masks.{masks-disjoint, masks-string, masks-weight, fromMasks-plus, fromMasks-minus}
 use Rattle.signed_digit.proofs.CanonicalForm.{canonical-places, canonical-value}

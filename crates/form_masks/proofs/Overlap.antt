@@ -1,16 +1,15 @@
 -- The lowest place in both of two masks is the lowest place that their bitwise and holds, and a mask that is not 0 holds one. Assumes nothing.
 use mathlib.Core.Path.{_≡_, refl, sym, ap, _∙_, subst}
 use mathlib.Core.Bool.{Bool, true, false, cond, _&&_}
-use mathlib.Core.List.{List, _∷_}
 use mathlib.Core.Logic.{_≢_}
-use Prim.Native.Nat.{ℕ, zero, suc, _+_, _*_, _<_, _^_, _/_, _%_, min}
+use Prim.Native.Nat.{ℕ, zero, suc, _+_, _<_, _^_, _/_, _%_, min}
 use native.Mathlib.Nat.{pow-suc, zero-div, div-div-eq-div-mul}
 use native.Mathlib.Omega.{arith}
 use native.Mathlib.Numerals.{add-one}
 use lib.Bits.{bitAnd, and-step, and-shr}
 use lib.Dec.{eqb}
 use borrow.Author.Tests.{eq-eqb, ne-eqb}
-use Rattle.refusal.specs.Answer.{Place, nowhere, at-place, lowestFrom}
+use Rattle.refusal.specs.Answer.{nowhere, at-place, lowestFrom}
 use Rattle.refusal.proofs.Checks.{lowest-alike}
 use Rattle.form_masks.specs.Form.{holds, placesFrom, lowestIn, overlapIn}
 

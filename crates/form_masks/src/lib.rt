@@ -17,11 +17,13 @@ pub struct Form {
     pub minus: u32,
 }
 
+// The value, or a refusal.
 pub enum FormValue {
     Value(i64),
     Refused(Refusal),
 }
 
+// The weight, or a refusal.
 pub enum FormWeight {
     Weight(u32),
     Refused(Refusal),

@@ -1,6 +1,5 @@
 -- `form_listing::count_of` meets its contract. Assumes nothing.
-use mathlib.Core.Path.{_≡_, refl, sym, ap, subst, _∙_}
-use Prim.Native.Nat.{ℕ, _≤_}
+use mathlib.Core.Path.{sym, ap, subst}
 use native.Mathlib.Omega.{arith}
 use Rattle.form_listing.specs.declared.Walk.{Walk}
 use Rattle.form_listing.proofs.Walked.{Walked, walked-start, walked-small, walked-next, walked-end, next-less}

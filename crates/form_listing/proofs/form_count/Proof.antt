@@ -2,7 +2,7 @@
 use mathlib.Core.Path.{_≡_, ap, _∙_}
 use Prim.Native.Nat.{ℕ, _≤_, _^_}
 use native.Mathlib.Omega.{arith}
-use lib.IntN.{ℤ, pos, natAbs}
+use lib.IntN.{pos, natAbs}
 use lib.ListN.{length}
 use Rattle.signed_digit.specs.Forms.{listing}
 use Rattle.signed_digit.proofs.Coefficients.{i32-coefficient, coefficient-magnitude, at-most-1597}

@@ -1,10 +1,9 @@
 -- `form_listing::grow` meets its contract. Assumes nothing.
-use mathlib.Core.Path.{_≡_, refl, sym, ap, subst, _∙_}
+use mathlib.Core.Path.{_≡_, refl, _∙_}
 use Prim.Native.Nat.{_≤_, _+_, _-_}
 use native.Mathlib.Omega.{arith}
 use lib.ListN.{length, length-set}
 use Rattle.form_listing.proofs.Growth.{Part, part-start, part-next, part-end}
-use borrow.Author.Needs.{needs}
 use Rattle.form_listing.proofs.grow.Statement.{statement}
 use Rattle.form_listing.proofs.grow.Tie as tie
 

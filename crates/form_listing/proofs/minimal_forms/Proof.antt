@@ -2,7 +2,7 @@
 use borrow.Author.Needs.{needs}
 use mathlib.Core.Path.{_≡_, sym, ap, _∙_}
 use mathlib.Core.Bool.{Bool}
-use Prim.Native.Nat.{ℕ, _≤_, _<_, _^_}
+use Prim.Native.Nat.{_≤_, _^_}
 use native.Mathlib.Omega.{arith}
 use lib.IntN.{ℤ, pos, natAbs}
 use lib.ListN.{length, length-set}
@@ -33,13 +33,13 @@ tested s b h = rw (read-once (s .args .n) (s .fits .n)) at h
 returns : tie.Need-returns
 returns c =
     let s = c .before .before .before in
-    let e = plus-short (s .args .n) (length (s .args .plus .now)) (length (s .args .minus .now)) (c .if1 .taken) in
+    let e = plus-short (s .args .n) (length (s .args .plus .now)) (length (s .args .minus .now)) (omega (arith, c .if1 .taken)) in
     (sym e, (untouched _ 3 0 _ (s .args .plus .now) e, untouched _ 3 0 _ (s .args .minus .now) e))
 
 returns-2 : tie.Need-returns-2
 returns-2 c =
     let s = c .before .before .before .before in
-    let e = minus-short (s .args .n) (length (s .args .plus .now)) (length (s .args .minus .now)) (c .before .if1 .left) (c .if2 .taken) in
+    let e = minus-short (s .args .n) (length (s .args .plus .now)) (length (s .args .minus .now)) (omega (arith, c .before .if1 .left)) (omega (arith, c .if2 .taken)) in
     (sym e, (untouched _ 3 0 _ (s .args .plus .now) e, untouched _ 3 0 _ (s .args .minus .now) e))
 
 magnitude-requires : tie.Need-magnitude-requires

@@ -1,17 +1,16 @@
 -- `form_masks::canonical` meets its contract. Assumes nothing.
 use borrow.Author.Needs.{needs}
-use mathlib.Core.Path.{_≡_, ap, subst, _∙_}
+use mathlib.Core.Path.{_≡_, ap, _∙_}
 use mathlib.Core.Bool.{Bool}
 use Prim.Native.Nat.{ℕ}
 use native.Mathlib.Omega.{arith}
-use lib.IntN.{ℤ, pos, natAbs}
+use lib.IntN.{pos, natAbs}
 use lib.Signed.{ltZ}
 use mir.Syntax.{w32}
 use mir.Val.{toZ, ofZ}
 use mir.ValLaws.{toZ-ofZ}
 use Rattle.signed_digit.specs.CanonicalForm.{canonicalNat}
 use Rattle.signed_digit.proofs.Coefficients.{i32-coefficient, coefficient-magnitude}
-use Rattle.form_masks.specs.declared.Form.{Form}
 use Rattle.form_masks.specs.Form.{formOf}
 use Rattle.form_masks.proofs.Sign.{exchanged, canonical-negative, canonical-not-negative}
 use Rattle.form_masks.proofs.canonical.Statement.{statement}

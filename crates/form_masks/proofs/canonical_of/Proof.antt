@@ -6,7 +6,6 @@ use native.Mathlib.Omega.{arith}
 use lib.Bits.{bitXor}
 use Rattle.signed_digit.specs.Masks.{plusMask, minusMask}
 use Rattle.signed_digit.specs.CanonicalForm.{canonicalNat}
-use Rattle.form_masks.specs.declared.Form.{Form}
 use Rattle.form_masks.proofs.CanonicalMasks.{Masks, canonical-masks}
 use Rattle.form_masks.proofs.canonical_of.Statement.{statement}
 use Rattle.form_masks.proofs.canonical_of.Tie as tie

@@ -1,14 +1,9 @@
+-- `form_masks::lowest_one` meets its contract. Assumes nothing.
 use Rattle.form_masks.proofs.Overlap.{Scan, scan-start, scan-room, scan-next, scan-end}
-use Prim.Native.Nat.{ℕ, _≤_, _-_, _+_, _*_, _<_}
-use mathlib.Core.Path.{_≡_, refl, sym, ap, subst, _∙_}
-use mathlib.Core.Logic.{⊎-elim}
+use Prim.Native.Nat.{_-_}
 use native.Mathlib.Omega.{arith}
-use lib.ListN.{length, length-set, take, drop, set, getD}
-use borrow.Author.Needs.{needs}
 use Rattle.form_masks.proofs.lowest_one.Statement.{statement}
 use Rattle.form_masks.proofs.lowest_one.Tie as tie
-use Rattle.form_masks.proofs.lowest_one.Reads as reads
-use Rattle.form_masks.proofs.lowest_one.Lts as lts
 
 abbrev Inv-loop : tie.InvT-loop
 Inv-loop x rest₀ place₀ rest place = Scan 32 x rest place
@@ -16,23 +11,18 @@ Inv-loop x rest₀ place₀ rest place = Scan 32 x rest place
 abbrev μ-loop : tie.MeasureT-loop
 μ-loop x rest₀ place₀ rest place = rest
 
--- src/lib.rt:54:5
 loop-holds : tie.Need-loop-holds Inv-loop μ-loop
 loop-holds c = scan-start 32 (c .args .x) (c .pre) (c .fits .x .fits)
 
--- src/lib.rt:56:9
 add-place : tie.Need-add-place Inv-loop μ-loop
 add-place c = let o = c .before .loop in omega (arith, scan-room 32 (c .before .before .args .x) (o .rest) (o .place) (o .inv))
 
--- src/lib.rt:54:5
 loop-less : tie.Need-loop-less Inv-loop μ-loop
 loop-less c = let o = c .before .loop in omega (arith, o .inv .some)
 
--- src/lib.rt:54:5
 loop-again : tie.Need-loop-again Inv-loop μ-loop
 loop-again c = let o = c .before .loop in scan-next 32 (c .before .before .args .x) (o .rest) (o .place) (o .inv) (c .loop-test .taken)
 
--- src/lib.rt:48:1
 returns : tie.Need-returns Inv-loop μ-loop
 returns c = let o = c .before .loop in scan-end 32 (c .before .before .args .x) (o .rest) (o .place) (o .inv) (c .loop-test .left)
 

@@ -1,7 +1,7 @@
 -- `form_masks::ones` meets its contract: a number has the ones of its bytes. Assumes nothing.
 use borrow.Author.Needs.{needs}
 use mathlib.Core.Path.{_≡_, ap, _∙_}
-use Prim.Native.Nat.{ℕ, _+_, _*_, _<_, _/_, _%_}
+use Prim.Native.Nat.{ℕ, _+_, _*_, _/_, _%_}
 use native.Mathlib.Omega.{arith}
 use lib.Count.{ones, ones-cat}
 use Rattle.form_masks.proofs.ones.Statement.{statement}
