@@ -3,9 +3,10 @@ use mathlib.Core.Path.{_≡_, refl, ap, ap₂, sym, _∙_, subst}
 use mathlib.Core.Bool.{Bool, true, false, cond}
 use mathlib.Core.List.{List, [], _∷_, _++_, map}
 use mathlib.Core.Logic.{_≢_}
-use Prim.Native.Nat.{ℕ, suc, _+_, _*_, _-_, _≤_, _<_, _^_, _/_, _%_}
+use Prim.Native.Nat.{ℕ, zero, suc, _+_, _*_, _-_, _≤_, _<_, _^_, _/_, _%_}
 use native.Mathlib.Omega.{arith}
 use borrow.Author.Tests.{eq-eqb, ne-eqb}
+use lib.Count.{trailingZeros}
 use lib.Dec.{eqb}
 use lib.IntN.{pos}
 use lib.ListN.{length, take, drop, take-append-drop}
@@ -18,13 +19,14 @@ use Rattle.signed_digit.proofs.Strings.{small}
 use Rattle.signed_digit.proofs.CanonicalForm.{canonicalNat-places}
 use Rattle.form_listing.specs.declared.Walk.{Walk}
 use Rattle.form_listing.specs.Growth.{extended}
-use Rattle.form_listing.specs.Walk.{startOf, past, nextOf, widened}
+use Rattle.form_listing.specs.Walk.{startOf, past, noughts, skipOf, nextOf, widened}
 use Rattle.form_listing.proofs.Passed.{passed-nought, passed-digit, more}
 use Rattle.form_listing.proofs.Counts.{ofSide}
 use Rattle.form_listing.proofs.Growth.{extended-rest}
 use Rattle.form_listing.proofs.SignMasks.{bitOf}
 use Rattle.form_listing.proofs.Columns.{Column, column-start, column-nought, column-own, column-other, column-end}
-use Rattle.form_listing.proofs.Walked.{Walked, Reads, next-digit, walked-start, walked-past, walked-end, walked-most}
+use Rattle.form_listing.proofs.Noughts.{parts}
+use Rattle.form_listing.proofs.Walked.{Walked, Reads, next-digit, half-left, walked-start, walked-small, walked-past, walked-end, walked-most}
 
 -- past the first count elements a table is as it was
 pub record Kept (count : ℕ) (old new : List ℕ) : Type 0 where
@@ -125,8 +127,8 @@ module _ (p m count : ℕ) (hp : p ≤ 32) (hm : 3 * m ≤ 2 * 2 ^ p) (hc : coun
             (column-other s v (suc p) m (w .rest) (F .walked .passed) count (firstOf p m s) t C h (w .forms) (w .above) (w .below) (F .walked .counts) room filled-most low
             ((2 ^ 32 - w .bit / 4) % 2 ^ 32) back u y′ e fit)
 
-        zero : (r : Reads nought (w .rest)) → Column s (passed-nought (suc p) m (w .rest) (F .walked .passed) h (w .rest / 2) r) count (firstOf p m s) (widened count w t)
-        zero r =
+        none : (r : Reads nought (w .rest)) → Column s (passed-nought (suc p) m (w .rest) (F .walked .passed) h (w .rest / 2) r) count (firstOf p m s) (widened count w t)
+        none r =
             subst (Column s (passed-nought (suc p) m (w .rest) (F .walked .passed) h (w .rest / 2) r) count (firstOf p m s)) (sym (widened-even count w t (even (w .rest) r)))
             (column-nought s v (suc p) m (w .rest) (F .walked .passed) count (firstOf p m s) t C h (w .rest / 2) r)
           where
@@ -148,14 +150,21 @@ module _ (p m count : ℕ) (hp : p ≤ 32) (hm : 3 * m ≤ 2 * 2 ^ p) (hc : coun
           both one r i minus-one u = other minus-one u down′ (filled-room .1) (F .columns minus-one u) refl r (w .rest / 4) r (omega arith)
           both minus-one r i one u = other one u up′ (filled-room .0) (F .columns one u) refl r (w .rest / 4 + 1) r (omega arith)
           both minus-one r i minus-one u = own minus-one refl down′ (filled-room .1) (F .columns minus-one u) r (w .rest / 4 + 1) r (omega arith)
-          both nought r i one u = zero one u up′ (filled-room .0) (F .columns one u) r
-          both nought r i minus-one u = zero minus-one u down′ (filled-room .1) (F .columns minus-one u) r
+          both nought r i one u = none one u up′ (filled-room .0) (F .columns one u) r
+          both nought r i minus-one u = none minus-one u down′ (filled-room .1) (F .columns minus-one u) r
           both one r i nought u = absurd (omega arith)
           both minus-one r i nought u = absurd (omega arith)
           both nought r i nought u = absurd (omega arith)
 
     pub filled-next : w .rest ≢ 0 → Filled p m count (firstOf p m) (nextOf w) up down (widened count w up′) (widened count w down′)
     filled-next h = filled-past (omega arith) (lowest (w .rest % 4)) (next-digit (w .rest))
+
+    -- a zero passed leaves the tables as they are
+    filled-nought : (h : 1 ≤ w .rest) → Reads nought (w .rest) → Filled p m count (firstOf p m) (past nought w) up down up′ down′
+    filled-nought h r =
+        let e : w .rest % 2 ≢ 1 = λ o. omega arith in
+        subst (λ (t : List ℕ). Filled p m count (firstOf p m) (past nought w) up down t down′) (widened-even count w up′ e)
+        (subst (λ (t : List ℕ). Filled p m count (firstOf p m) (past nought w) up down (widened count w up′) t) (widened-even count w down′ e) (filled-past h nought r))
 
     -- ---- the end
     front : w .rest ≡ 0 → (s : Digit) (u : nonzero s ≡ 1) (t : List ℕ) → Column s (F .walked .passed) count (firstOf p m s) t → take count t ≡ map (mask (bitOf s)) (listing p (pos m))
@@ -168,3 +177,17 @@ module _ (p m count : ℕ) (hp : p ≤ 32) (hm : 3 * m ≤ 2 * 2 ^ p) (hc : coun
       sym (take-append-drop count up′) ∙ ap₂ (λ (x y : List ℕ). x ++ y) (front z one refl up′ (F .columns one refl)) (F .up-kept .rest),
       sym (take-append-drop count down′) ∙ ap₂ (λ (x y : List ℕ). x ++ y) (front z minus-one refl down′ (F .columns minus-one refl)) (F .down-kept .rest),
     )
+
+  filled-noughts : (z y : ℕ) (w : Walk) (up′ down′ : List ℕ) → Filled p m count (firstOf p m) w up down up′ down′ → 1 ≤ y → w .rest ≡ y * 2 ^ z
+      → Filled p m count (firstOf p m) (noughts z w) up down up′ down′
+  filled-noughts zero y w up′ down′ F h e = F
+  filled-noughts (suc z) y w up′ down′ F h e =
+      let s = half-left y z (w .rest) h e in
+      filled-noughts z y (past nought w) up′ down′ (filled-nought w up′ down′ F (s .1) (s .0)) h (s .2)
+
+  pub filled-skipped : (w : Walk) (up′ down′ : List ℕ) → Filled p m count (firstOf p m) w up down up′ down′ → w .rest ≢ 0
+      → (v : Walk) → v ≡ skipOf w → Filled p m count (firstOf p m) v up down up′ down′
+  filled-skipped w up′ down′ F h v e =
+      let s = parts w h (walked-small p m w (F .walked) hp .rest) in
+      subst (λ (u : Walk). Filled p m count (firstOf p m) u up down up′ down′) (sym e)
+      (filled-noughts (trailingZeros 64 (w .rest)) (s .odd-part) w up′ down′ F (omega (arith, s .odd)) (s .is))

@@ -9,7 +9,9 @@ pub mod Growth
 pub mod Offsets
 pub mod SignMasks
 pub mod Columns
+pub mod Noughts
 pub mod Walked
 pub mod Filled
+pub mod Listed
 pub mod Machine
 pub mod Entry

@@ -1,9 +1,10 @@
 -- What the internal functions of the crate give and ask. Definitions only.
-use Prim.Native.Nat.{ℕ, _+_, _*_, _-_, _≤_, _/_, _%_, _^_}
+use Prim.Native.Nat.{ℕ, zero, suc, _+_, _*_, _-_, _≤_, _/_, _%_, _^_}
 use mathlib.Core.Path.{_≡_}
 use mathlib.Core.Bool.{cond}
 use mathlib.Core.List.{List, [], _∷_}
 use lib.Dec.{eqb}
+use lib.Count.{trailingZeros}
 use lib.IntN.{pos}
 use lib.ListN.{length, take}
 use Rattle.signed_digit.specs.Digit.{Digit, one, nought, minus-one}
@@ -25,6 +26,14 @@ past nought w = record { rest = w .rest / 2; bit = w .bit * 2; forms = w .forms;
 abbrev pub nextOf : Walk → Walk
 nextOf w = past (lowest (w .rest % 4)) w
 
+-- past so many zeros, and past all of them
+abbrev pub noughts : ℕ → Walk → Walk
+noughts zero w = w
+noughts (suc k) w = noughts k (past nought w)
+
+abbrev pub skipOf : Walk → Walk
+skipOf w = noughts (trailingZeros 64 (w .rest)) w
+
 -- every number is at most 2^33, so that no sum or product of them is too large
 pub record Small (w : Walk) : Type 0 where
   pub rest : w .rest ≤ 2 ^ 33
@@ -32,6 +41,7 @@ pub record Small (w : Walk) : Type 0 where
   pub forms : w .forms ≤ 2 ^ 33
   pub above : w .above ≤ 2 ^ 33
   pub below : w .below ≤ 2 ^ 33
+  pub whole : w .bit * w .rest ≤ 2 ^ 33
 
 -- a mask table at a nonzero digit: the masks of the forms in which it moves down are a quarter of the bit less than those of the forms
 -- beside, which stand in front

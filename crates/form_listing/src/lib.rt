@@ -1,7 +1,9 @@
 // Every minimal form of a coefficient, in order, and their number.
 ghost use mathlib.Core.Path.{_≡_};
+ghost use mathlib.Core.Logic.{_≢_};
+ghost use mathlib.Core.Bool.{cond};
 ghost use mathlib.Core.List.{_++_, map};
-ghost use Prim.Native.Nat.{_+_, _≤_, _^_};
+ghost use Prim.Native.Nat.{_+_, _≤_, _^_, _%_};
 ghost use lib.IntN.{pos, natAbs};
 ghost use lib.ListN.{length, drop};
 ghost use mir.Syntax.{w32};
@@ -10,7 +12,7 @@ ghost use Rattle.refusal.specs.Answer.{filled};
 ghost use Rattle.signed_digit.specs.Masks.{plusMask, minusMask};
 ghost use Rattle.signed_digit.specs.Forms.{listing};
 ghost use Rattle.form_listing.specs.Listing.{formCount, answerOf};
-ghost use Rattle.form_listing.specs.Walk.{startOf, nextOf, Small, widened, Ready};
+ghost use Rattle.form_listing.specs.Walk.{startOf, skipOf, nextOf, Small, widened, Ready};
 ghost use Rattle.form_listing.specs.Growth.{grown, extended};
 use refusal::Refusal;
 
@@ -25,14 +27,14 @@ pub enum Listing {
 // above and below are the numbers of forms, at the same weight, of what has been passed plus bit / 2
 // and minus bit / 2: a nonzero digit that comes next and moves down one place leaves one of these.
 struct Walk {
-    rest: u64,
-    bit: u64,
+    rest: usize,
+    bit: usize,
     forms: usize,
     above: usize,
     below: usize,
 }
 
-fn start(m: u64) -> Walk
+fn start(m: usize) -> Walk
     ensures { λ r. ⌜ r ≡ startOf m ⌝ }
 {
     Walk {
@@ -44,46 +46,51 @@ fn start(m: u64) -> Walk
     }
 }
 
-// Past the next digit, and past the 0 above it where it is not 0 itself.
+fn choose(first: bool, a: usize, b: usize) -> usize
+    ensures { λ r. ⌜ r ≡ cond first a b ⌝ }
+{
+    if first { a } else { b }
+}
+
+// Past the zeros up to the next nonzero digit.
+fn skip(w: Walk) -> Walk
+    requires { ⌜ Small w × (w .rest ≢ 0) ⌝ }
+    ensures { λ r. ⌜ r ≡ skipOf w ⌝ }
+{
+    let zeros = usize::trailing_zeros(w.rest);
+    Walk {
+        rest: w.rest >> zeros,
+        bit: w.bit << zeros,
+        forms: w.forms,
+        above: choose(zeros == 0, w.above, 0),
+        below: choose(zeros == 0, w.below, 0),
+    }
+}
+
+// Past the next digit, a nonzero one, and past the 0 above it. Nobody can guess the digit, so it
+// chooses among numbers and not among branches.
 fn next(w: Walk) -> Walk
-    requires { ⌜ Small w ⌝ }
+    requires { ⌜ Small w × (w .rest % 2 ≡ 1) ⌝ }
     ensures { λ r. ⌜ r ≡ nextOf w ⌝ }
 {
-    if w.rest % 4 == 1 {
-        return Walk {
-            rest: w.rest / 4,
-            bit: w.bit * 4,
-            forms: w.forms + w.above,
-            above: 0,
-            below: w.forms + w.below,
-        };
-    }
-    if w.rest % 4 == 3 {
-        return Walk {
-            rest: w.rest / 4 + 1,
-            bit: w.bit * 4,
-            forms: w.forms + w.below,
-            above: w.forms + w.above,
-            below: 0,
-        };
-    }
+    let one = w.rest % 4 == 1;
     Walk {
-        rest: w.rest / 2,
-        bit: w.bit * 2,
-        forms: w.forms,
-        above: 0,
-        below: 0,
+        rest: (w.rest + 1) / 4,
+        bit: w.bit * 4,
+        forms: w.forms + choose(one, w.above, w.below),
+        above: choose(one, 0, w.forms + w.above),
+        below: choose(one, w.forms + w.below, 0),
     }
 }
 
 // The number of forms of m.
-fn count_of(m: u64) -> usize
+fn count_of(m: usize) -> usize
     requires { ⌜ m ≤ 2 ^ 31 ⌝ }
     ensures { λ r. ⌜ r ≡ length (listing 32 (pos m)) ⌝ }
 {
     let mut w = start(m);
     while w.rest != 0 {
-        w = next(w);
+        w = next(skip(w));
     }
     w.forms
 }
@@ -114,37 +121,36 @@ fn extend(table: &mut [u32], at: usize, n: usize, offset: u32, count: usize)
 // At a nonzero digit the forms in which it moves down follow those in which it stays. Their masks
 // are those of the forms beside, in front, less a quarter of the bit: the same in both tables.
 fn widen(up: &mut [u32], down: &mut [u32], w: Walk, count: usize)
-    requires { ⌜ Small w × (w .forms ≤ count) × (count ≤ length (now up)) × (count ≤ length (now down)) ⌝ }
+    requires { ⌜ Small w × (w .rest % 2 ≡ 1) × (w .forms ≤ count) × (count ≤ length (now up)) × (count ≤ length (now down)) ⌝ }
     ensures up { λ r. ⌜ now (up .exit) ≡ widened count w (now (up .entry)) ⌝ }
     ensures down { λ r. ⌜ now (down .exit) ≡ widened count w (now (down .entry)) ⌝ }
 {
-    if w.rest % 2 == 1 {
-        let n = w.above + w.below;
-        let offset = std::num::wrapping_sub_u32(0, (w.bit / 4) as u32);
-        extend(up, w.forms, n, offset, count);
-        extend(down, w.forms, n, offset, count);
-    }
+    let n = w.above + w.below;
+    let offset = std::num::wrapping_sub_u32(0, (w.bit / 4) as u32);
+    extend(up, w.forms, n, offset, count);
+    extend(down, w.forms, n, offset, count);
 }
 
 // Lists the forms of m. The canonical form stands in front, with the digits that are still to come
 // in every element, so that each is a whole form at the end.
-fn list(up: &mut [u32], down: &mut [u32], m: u64, count: usize)
+fn list(up: &mut [u32], down: &mut [u32], m: usize, count: usize)
     requires { ⌜ Ready m count (now up) (now down) ⌝ }
     ensures up { λ r. ⌜ now (up .exit) ≡ map plusMask (listing 32 (pos m)) ++ drop count (now (up .entry)) ⌝ }
     ensures down { λ r. ⌜ now (down .exit) ≡ map minusMask (listing 32 (pos m)) ++ drop count (now (down .entry)) ⌝ }
 {
     let mut w = start(m);
-    while w.rest != 0 {
+    while w.forms != count {
+        w = skip(w);
         widen(up, down, w, count);
         w = next(w);
     }
 }
 
 // The magnitude of n, whose bits are read as a signed number. Nothing is negated.
-fn magnitude(n: i32) -> u64
+fn magnitude(n: i32) -> usize
     ensures { λ r. ⌜ r ≡ natAbs (toZ w32 (ofZ w32 n)) ⌝ }
 {
-    word::magnitude(n) as u64
+    word::magnitude(n) as usize
 }
 
 // The number of minimal forms of n.

@@ -1,70 +1,81 @@
 -- `form_listing::next` meets its contract. Assumes nothing.
-use mathlib.Core.Path.{_≡_, refl, sym, ap}
-use mathlib.Core.Logic.{_≢_}
-use Prim.Native.Nat.{ℕ, zero, suc, _<_, _%_}
+use mathlib.Core.Path.{_≡_, refl, ap, _∙_}
+use mathlib.Core.Bool.{Bool, true, false, cond}
+use Prim.Native.Nat.{ℕ, zero, suc, _+_, _*_, _≤_, _/_, _%_}
 use native.Mathlib.Omega.{arith}
-use Rattle.signed_digit.specs.Digit.{Digit, nought}
+use lib.Dec.{eqb}
 use Rattle.signed_digit.specs.CanonicalForm.{lowest}
+use Rattle.form_listing.specs.declared.Walk.{Walk}
 use Rattle.form_listing.specs.Walk.{past}
+use Rattle.form_listing.proofs.Noughts.{walk}
 use borrow.Author.Needs.{needs}
 use Rattle.form_listing.proofs.next.Statement.{statement}
 use Rattle.form_listing.proofs.next.Tie as tie
 
--- a remainder by 4 that is neither 1 nor 3
-even : (r : ℕ) → r < 4 → r ≢ 1 → r ≢ 3 → lowest r ≡ nought
-even zero l h k = refl
-even (suc zero) l h k = absurd (h refl)
-even (suc (suc zero)) l h k = refl
-even (suc (suc (suc zero))) l h k = absurd (k refl)
-even (suc (suc (suc (suc r)))) l h k = absurd (omega arith)
+-- the numbers chosen by an odd remainder by 4
+choice : (w : Walk) (r : ℕ) → w .rest % 4 ≡ r → w .rest % 2 ≡ 1
+    → record {
+      rest = (w .rest + 1) / 4;
+      bit = w .bit * 4;
+      forms = w .forms + cond (eqb r 1) (w .above) (w .below);
+      above = cond (eqb r 1) 0 (w .forms + w .above);
+      below = cond (eqb r 1) (w .forms + w .below) 0;
+    } ≡ past (lowest r) w
+choice w zero e o = absurd (omega arith)
+choice w (suc zero) e o = walk (omega arith) refl refl refl refl
+choice w (suc (suc zero)) e o = absurd (omega arith)
+choice w (suc (suc (suc zero))) e o = walk (omega arith) refl refl refl refl
+choice w (suc (suc (suc (suc r)))) e o = absurd (omega arith)
+
+-- one of two numbers is within a bound of both
+within : (b : Bool) (x y n : ℕ) → x ≤ n → y ≤ n → cond b x y ≤ n
+within true x y n h k = h
+within false x y n h k = k
+
+add-t3 : tie.Need-add-t3
+add-t3 c = search needs
 
 mul-t5 : tie.Need-mul-t5
 mul-t5 c = search needs
 
-add-t6 : tie.Need-add-t6
-add-t6 c = search needs
+choose-requires : tie.Need-choose-requires
+choose-requires c κs = search needs
 
 add-t7 : tie.Need-add-t7
-add-t7 c = search needs
+add-t7 c =
+    let s = c .before .before .before .before .before in
+    let w = s .args .w in
+    omega (arith, s .pre .0 .forms, c .before .choose .ensures, within (eqb (w .rest % 4) 1) (w .above) (w .below) 8589934592 (s .pre .0 .above) (s .pre .0 .below))
+
+add-choose : tie.Need-add-choose
+add-choose c = search needs
+
+choose-requires-2 : tie.Need-choose-requires-2
+choose-requires-2 c κs = search needs
+
+add-choose-2 : tie.Need-add-choose-2
+add-choose-2 c = search needs
+
+choose-requires-3 : tie.Need-choose-requires-3
+choose-requires-3 c κs = search needs
 
 returns : tie.Need-returns
-returns c = ap (λ (r : ℕ). past (lowest r) (c .before .before .before .before .before .before .args .w)) (sym (c .before .before .before .before .if1 .taken))
-
-add-t9 : tie.Need-add-t9
-add-t9 c = search needs
-
-mul-t10 : tie.Need-mul-t10
-mul-t10 c = search needs
-
-add-t11 : tie.Need-add-t11
-add-t11 c = search needs
-
-add-t12 : tie.Need-add-t12
-add-t12 c = search needs
-
-returns-2 : tie.Need-returns-2
-returns-2 c = ap (λ (r : ℕ). past (lowest r) (c .before .before .before .before .before .before .before .before .args .w)) (sym (c .before .before .before .before .if2 .taken))
-
-mul-t13 : tie.Need-mul-t13
-mul-t13 c = search needs
-
-returns-3 : tie.Need-returns-3
-returns-3 c =
-    let w = c .before .before .before .before .before .before .args .w in
-    ap (λ (d : Digit). past d w) (sym (even (w .rest % 4) (omega arith) (c .before .before .before .before .if1 .left) (c .before .before .if2 .left)))
+returns c =
+    let s = c .before .before .before .before .before .before .before .before .before in
+    let w = s .args .w in
+    walk refl refl (ap (λ (i : ℕ). w .forms + i) (c .before .before .before .before .before .choose .ensures)) (c .before .before .choose2 .ensures) (c .choose3 .ensures)
+    ∙ choice w (w .rest % 4) refl (s .pre .1)
 
 pub next-spec : {M : Type 1} → statement M
 next-spec =
     tie.close
     (tie.spec
+    add-t3
     mul-t5
-    add-t6
+    choose-requires
     add-t7
-    returns
-    add-t9
-    mul-t10
-    add-t11
-    add-t12
-    returns-2
-    mul-t13
-    returns-3)
+    add-choose
+    choose-requires-2
+    add-choose-2
+    choose-requires-3
+    returns)

@@ -3,7 +3,7 @@ use mathlib.Core.Path.{_≡_, sym, ap, _∙_}
 use Prim.Native.Nat.{ℕ, _+_, _-_, _≤_, _<_, _/_, _%_, _^_}
 use native.Mathlib.Omega.{arith}
 use Rattle.form_listing.specs.Growth.{extended}
-use Rattle.form_listing.proofs.Filled.{widened-odd, widened-even}
+use Rattle.form_listing.proofs.Filled.{widened-odd}
 use borrow.Author.Needs.{needs}
 use Rattle.form_listing.proofs.widen.Statement.{statement}
 use Rattle.form_listing.proofs.widen.Tie as tie
@@ -35,20 +35,14 @@ same-length-2 c = search needs
 
 returns : tie.Need-returns
 returns c =
-    let s = c .before .before .before .before .before .before .before .before .before .before .before .before .before .before .before in
+    let s = c .before .before .before .before .before .before .before .before .before .before .before .before .before in
     let w = s .args .w in
-    let k = offset-is (c .before .before .before .before .before .before .before .before .wrapping-sub-u32 .result) (w .bit / 4) (omega (arith, c .before .before .before .before .before .before .before .before .wrapping-sub-u32 .ok)) (omega (arith, s .pre .0)) (c .before .before .before .before .before .before .before .before .wrapping-sub-u32 .ensures) in
+    let o = c .before .before .before .before .before .before .before .before .wrapping-sub-u32 in
+    let k = offset-is (o .result) (w .bit / 4) (omega (arith, o .ok)) (omega (arith, s .pre .0)) (o .ensures) in
     let up = s .args .up .now in
     let down = s .args .down .now in (
-      c .before .before .before .before .before .before .extend .ensures ∙ ap (extended (s .args .count) up (w .forms) (w .above + w .below)) k ∙ sym (widened-odd (s .args .count) w up (c .before .before .before .before .before .before .before .before .before .before .before .if1 .taken)),
-      c .before .before .extend2 .ensures ∙ ap (extended (s .args .count) down (w .forms) (w .above + w .below)) k ∙ sym (widened-odd (s .args .count) w down (c .before .before .before .before .before .before .before .before .before .before .before .if1 .taken)),
-    )
-
-returns-2 : tie.Need-returns-2
-returns-2 c =
-    let s = c .before .before .before .before in (
-      sym (widened-even (s .args .count) (s .args .w) (s .args .up .now) (c .if1 .left)),
-      sym (widened-even (s .args .count) (s .args .w) (s .args .down .now) (c .if1 .left)),
+      c .before .before .before .before .before .before .extend .ensures ∙ ap (extended (s .args .count) up (w .forms) (w .above + w .below)) k ∙ sym (widened-odd (s .args .count) w up (s .pre .1)),
+      c .before .before .extend2 .ensures ∙ ap (extended (s .args .count) down (w .forms) (w .above + w .below)) k ∙ sym (widened-odd (s .args .count) w down (s .pre .1)),
     )
 
 pub widen-spec : {M : Type 1} → statement M
@@ -62,5 +56,4 @@ widen-spec =
     extend-requires-2
     same-length
     same-length-2
-    returns
-    returns-2)
+    returns)
