@@ -12,7 +12,8 @@ use lib.ListN.{length, take}
 use lib.Seq.{take-suc, take-length, length-take-le}
 use Rattle.signed_digit.specs.Digit.{Digit, one, nought, minus-one, digitValue}
 use Rattle.signed_digit.specs.String.{DigitString, digitAt}
-use Rattle.signed_digit.specs.Value.{term, sumBelow, value}
+use Rattle.sequence.specs.Sum.{sumBelow}
+use Rattle.signed_digit.specs.Value.{term, value}
 use Rattle.signed_digit.specs.Masks.{plusBit, minusBit, plusMask, minusMask}
 use Rattle.signed_digit.specs.Forms.{positivePart, negativePart}
 use Rattle.signed_digit.proofs.Strings.{top-mask}

@@ -1,0 +1,29 @@
+-- Filling a table from the front: what each place holds while it goes on.
+use mathlib.Core.Path.{_≡_, refl, sym, ap, _∙_}
+use mathlib.Core.List.{List, [], _∷_, _++_}
+use Prim.Native.Nat.{ℕ, zero, suc, _+_, _<_}
+use native.Mathlib.Numerals.{add-one}
+use lib.ListN.{length, getD, drop, set}
+use lib.Seq.{drop-cons, set-at, append-snoc, getD-append-add, getD-drop}
+use Rattle.sequence.specs.UpTo.{upTo, front}
+use Rattle.sequence.proofs.UpTo.{length-upTo}
+
+module _ {ℓ} {A : Type ℓ} (f : ℕ → A) (r : List A) where
+  pub front-start : front f r 0 ≡ r
+  unfolding front upTo
+  front-start = refl
+
+  -- past what has been filled, the table is as it was
+  pub front-read : (k j : ℕ) (d : A) → getD (front f r k) (k + j) d ≡ getD r (k + j) d
+  unfolding front
+  front-read k j d =
+      ap (λ n. getD (upTo k f ++ drop k r) (n + j) d) (sym (length-upTo k f)) ∙ getD-append-add (upTo k f) (drop k r) j d ∙ getD-drop k r j d
+
+  pub front-next : (k : ℕ) (d : A) → k < length r → set (front f r k) k (f k) ≡ front f r (k + 1)
+  unfolding front upTo
+  front-next k d h =
+      rw (add-one k, drop-cons r k d h) (set-at (upTo k f) (getD r k d) (drop (suc k) r) (f k) k (length-upTo k f) ∙ sym (append-snoc (upTo k f) (f k) (drop (suc k) r)))
+
+  pub front-last : (k : ℕ) (v d : A) → k < length r → set (front f r k) k v ≡ upTo k f ++ (v ∷ drop (suc k) r)
+  unfolding front
+  front-last k v d h = rw (drop-cons r k d h) (set-at (upTo k f) (getD r k d) (drop (suc k) r) v k (length-upTo k f))

@@ -1,0 +1,32 @@
+-- The length and the elements of a list given place by place.
+use mathlib.Core.Path.{_≡_, refl, sym, ap, _∙_}
+use mathlib.Core.Bool.{Bool, true, false}
+use mathlib.Core.List.{List, [], _∷_, _++_}
+use Prim.Native.Nat.{ℕ, zero, suc, _+_, _<_, _≤_}
+use native.Mathlib.Omega.{arith}
+use borrow.Author.Tests.{ltb-true, ltb-false}
+use lib.Dec.{ltb}
+use native.Mathlib.Numerals.{add-one}
+use lib.ListN.{length, getD, drop, set, length-append, List·getD-append}
+use lib.Seq.{getD-at, drop-cons, set-at, append-snoc, getD-append-add, getD-drop}
+use Rattle.sequence.specs.UpTo.{upTo}
+
+module _ {ℓ} {A : Type ℓ} where
+  pub length-upTo : (n : ℕ) (f : ℕ → A) → length (upTo n f) ≡ n
+  unfolding upTo
+  length-upTo zero f = refl
+  length-upTo (suc n) f = length-append (upTo n f) (f n ∷ []) ∙ omega (arith, length-upTo n f)
+
+  upTo-last : (n : ℕ) (f : ℕ → A) (d : A) (k : ℕ) → k < suc n → (k < n → getD (upTo n f) k d ≡ f k) → (t : Bool) → ltb k n ≡ t
+      → getD (upTo n f ++ (f n ∷ [])) k d ≡ f k
+  upTo-last n f d k h ih true e =
+      let l : k < n = ltb-true k n e in
+      List·getD-append (upTo n f) (f n ∷ []) d k (omega (arith, length-upTo n f)) ∙ ih l
+  upTo-last n f d k h ih false e =
+      let q : n ≡ k = omega (arith, ltb-false k n e) in
+      getD-at (upTo n f) (f n) [] d k (length-upTo n f ∙ q) ∙ ap f q
+
+  pub getD-upTo : (n : ℕ) (f : ℕ → A) (d : A) (k : ℕ) → k < n → getD (upTo n f) k d ≡ f k
+  unfolding upTo
+  getD-upTo zero f d k h = absurd (omega arith)
+  getD-upTo (suc n) f d k h = upTo-last n f d k h (λ l. getD-upTo n f d k l) (ltb k n) refl
