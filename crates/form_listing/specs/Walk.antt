@@ -1,58 +1,51 @@
--- What the internal functions of the crate give and ask. Definitions only.
-use Prim.Native.Nat.{ℕ, zero, suc, _+_, _*_, _-_, _≤_, _/_, _%_, _^_}
+-- What the internal functions of the crate give. Definitions only.
+use Prim.Native.Nat.{ℕ, _+_, _*_, _<_, _/_, _%_, _^_}
 use mathlib.Core.Path.{_≡_}
 use mathlib.Core.Bool.{cond}
-use mathlib.Core.List.{List, [], _∷_}
-use lib.Dec.{eqb}
+use lib.Bits.{bitAnd, bitOr}
 use lib.Count.{trailingZeros}
-use lib.IntN.{pos}
-use lib.ListN.{length, take}
-use Rattle.signed_digit.specs.Digit.{Digit, one, nought, minus-one}
-use Rattle.signed_digit.specs.Masks.{plusMask, minusMask}
-use Rattle.signed_digit.specs.CanonicalForm.{lowest, canonicalNat}
-use Rattle.signed_digit.specs.Forms.{listing}
+use lib.Dec.{eqb}
+use lib.ListN.{length}
+use Rattle.signed_digit.specs.String.{DigitString}
+use Rattle.form_masks.specs.declared.Form.{Form}
+use Rattle.form_masks.specs.Form.{formOf}
+use Rattle.form_links.specs.Links.{opposed, linksOf, takenLinks}
+use Rattle.form_listing.specs.declared.Chains.{Chains}
 use Rattle.form_listing.specs.declared.Walk.{Walk}
-use Rattle.form_listing.specs.Growth.{extended}
 
-abbrev pub startOf : ℕ → Walk
-startOf m = record { rest = m; bit = 1; forms = 1; above = 0; below = 0 }
+abbrev pub aheadOf : ℕ → Chains → Chains
+aheadOf k a = record {
+  taken = bitOr (a .taken) (bitAnd (a .chained) (a .taken / 2 ^ k));
+  chained = bitAnd (a .chained) (a .chained / 2 ^ k);
+}
 
--- past the next digit, and past the 0 above it where it is not 0
-abbrev pub past : Digit → Walk → Walk
-past one w = record { rest = w .rest / 4; bit = w .bit * 4; forms = w .forms + w .above; above = 0; below = w .forms + w .below }
-past minus-one w = record { rest = w .rest / 4 + 1; bit = w .bit * 4; forms = w .forms + w .below; above = w .forms + w .above; below = 0 }
-past nought w = record { rest = w .rest / 2; bit = w .bit * 2; forms = w .forms; above = 0; below = 0 }
+-- the mask is the one that is `opposite` or `equal` with itself two places further up: no other is so
+abbrev pub IsTaken : ℕ → ℕ → ℕ → Type 0
+IsTaken opposite equal mask = (v : ℕ) → v < 2 ^ 32 → v ≡ bitOr opposite (bitAnd equal (v / 4)) → v ≡ mask
 
-abbrev pub nextOf : Walk → Walk
-nextOf w = past (lowest (w .rest % 4)) w
+-- before the first link of a canonical string s
+abbrev pub startOf : DigitString → Walk
+startOf s = record { links = takenLinks s * 4; opposite = linksOf opposed s * 4; bit = 1; forms = 1; moved = 0 }
 
--- past so many zeros, and past all of them
-abbrev pub noughts : ℕ → Walk → Walk
-noughts zero w = w
-noughts (suc k) w = noughts k (past nought w)
+abbrev pub IsStart : Form → Walk → Type 0
+IsStart form w = (s : DigitString) → length s ≡ 32 → form ≡ formOf s → w ≡ startOf s
 
+-- at the next link
 abbrev pub skipOf : Walk → Walk
-skipOf w = noughts (trailingZeros 64 (w .rest)) w
+skipOf w = record {
+  links = w .links / 2 ^ trailingZeros 64 (w .links);
+  opposite = w .opposite / 2 ^ trailingZeros 64 (w .links);
+  bit = w .bit * 2 ^ trailingZeros 64 (w .links);
+  forms = w .forms;
+  moved = cond (eqb (trailingZeros 64 (w .links)) 0) (w .moved) (w .forms);
+}
 
--- every number is at most 2^33, so that no sum or product of them is too large
-pub record Small (w : Walk) : Type 0 where
-  pub rest : w .rest ≤ 2 ^ 33
-  pub bit : w .bit ≤ 2 ^ 33
-  pub forms : w .forms ≤ 2 ^ 33
-  pub above : w .above ≤ 2 ^ 33
-  pub below : w .below ≤ 2 ^ 33
-  pub whole : w .bit * w .rest ≤ 2 ^ 33
-
--- a mask table at a nonzero digit: the masks of the forms in which it moves down are a quarter of the bit less than those of the forms
--- beside, which stand in front
-abbrev pub widened : ℕ → Walk → List ℕ → List ℕ
-widened count w t = cond (eqb (w .rest % 2) 1) (extended count t (w .forms) (w .above + w .below) ((2 ^ 32 - w .bit / 4) % 2 ^ 32)) t
-
--- what the lister is given: the number of forms of m, room for them, and the canonical form in front
-pub record Ready (m count : ℕ) (up down : List ℕ) : Type 0 where
-  pub bounded : m ≤ 2 ^ 31
-  pub counted : count ≡ length (listing 32 (pos m))
-  pub up-room : count ≤ length up
-  pub down-room : count ≤ length down
-  pub up-first : take 1 up ≡ plusMask (canonicalNat 32 m) ∷ []
-  pub down-first : take 1 down ≡ minusMask (canonicalNat 32 m) ∷ []
+-- past it
+abbrev pub nextOf : Walk → Walk
+nextOf w = record {
+  links = w .links / 4;
+  opposite = w .opposite / 4;
+  bit = w .bit * 4;
+  forms = cond (eqb (w .opposite % 2) 1) (w .forms + w .moved) (w .forms);
+  moved = cond (eqb (w .opposite % 2) 1) (w .forms) (w .forms + w .moved);
+}

@@ -3,17 +3,15 @@ ghost use mathlib.Core.Path.{_≡_};
 ghost use mathlib.Core.Logic.{_≢_};
 ghost use mathlib.Core.Bool.{cond};
 ghost use mathlib.Core.List.{_++_, map};
-ghost use Prim.Native.Nat.{_+_, _≤_, _^_, _%_};
-ghost use lib.IntN.{pos, natAbs};
+ghost use Prim.Native.Nat.{_+_, _*_, _-_, _≤_, _<_, _/_, _%_, _^_};
 ghost use lib.ListN.{length, drop};
-ghost use mir.Syntax.{w32};
-ghost use mir.Val.{ofZ, toZ};
 ghost use Rattle.refusal.specs.Answer.{filled};
 ghost use Rattle.signed_digit.specs.Masks.{plusMask, minusMask};
 ghost use Rattle.signed_digit.specs.Forms.{listing};
+ghost use Rattle.form_links.specs.Growth.{grown};
 ghost use Rattle.form_listing.specs.Listing.{formCount, answerOf};
-ghost use Rattle.form_listing.specs.Walk.{startOf, skipOf, nextOf, Small, widened, Ready};
-ghost use Rattle.form_listing.specs.Growth.{grown, extended};
+ghost use Rattle.form_listing.specs.Walk.{aheadOf, IsTaken, IsStart, skipOf, nextOf};
+use form_masks::Form;
 use refusal::Refusal;
 
 // The number of forms, or a refusal.
@@ -22,27 +20,64 @@ pub enum Listing {
     Refused(Refusal),
 }
 
-// How far a walk over the canonical digits has come, from the low end: `rest` has the digits still
-// to come, and bit is the lowest of them. forms is the number of forms of what has been passed.
-// above and below are the numbers of forms, at the same weight, of what has been passed plus bit / 2
-// and minus bit / 2: a nonzero digit that comes next and moves down one place leaves one of these.
+// Two canonical digits that stand two places apart are linked. A form takes a link by moving its
+// upper digit one place down and turning the sign of its lower digit, as 1 0 -1 becomes 0 1 1. A
+// link between opposite digits can be taken where the link just above is not, one between equal
+// digits where it is.
+//
+// The walk goes over the links that some form takes, from the low end. links and opposite have those
+// still to come, all of them and those between opposite digits; the link in the lowest bit has its
+// upper digit at bit. forms is the number of forms of the digits passed, and moved is the number of
+// forms in which a link comes next that touches the last one and is taken.
 struct Walk {
-    rest: usize,
+    links: usize,
+    opposite: usize,
     bit: usize,
     forms: usize,
-    above: usize,
-    below: usize,
+    moved: usize,
 }
 
-fn start(m: usize) -> Walk
-    ensures { λ r. ⌜ r ≡ startOf m ⌝ }
+// The links known to be taken by some form, and those that are taken where the link at the distance
+// looked ahead is.
+struct Chains {
+    taken: u32,
+    chained: u32,
+}
+
+fn ahead(links: Chains, distance: u32) -> Chains
+    requires { ⌜ distance < 32 ⌝ }
+    ensures { λ r. ⌜ r ≡ aheadOf distance links ⌝ }
 {
+    Chains {
+        taken: links.taken | (links.chained & (links.taken >> distance)),
+        chained: links.chained & (links.chained >> distance),
+    }
+}
+
+// The links that some form takes: those between opposite digits, and those between equal digits with
+// one that is taken just above. No other mask is so.
+fn taken(opposite: u32, equal: u32) -> u32
+    ensures { λ r. ⌜ IsTaken opposite equal r ⌝ }
+{
+    let links = Chains {
+        taken: opposite,
+        chained: equal,
+    };
+    ahead(ahead(ahead(ahead(links, 2), 4), 8), 16).taken
+}
+
+// The walk over the links of a canonical form.
+fn start(form: Form) -> Walk
+    ensures { λ r. ⌜ IsStart form r ⌝ }
+{
+    let opposite = (form.plus & (form.minus / 4)) | (form.minus & (form.plus / 4));
+    let equal = (form.plus & (form.plus / 4)) | (form.minus & (form.minus / 4));
     Walk {
-        rest: m,
+        links: (taken(opposite, equal) as usize) * 4,
+        opposite: (opposite as usize) * 4,
         bit: 1,
         forms: 1,
-        above: 0,
-        below: 0,
+        moved: 0,
     }
 }
 
@@ -52,47 +87,35 @@ fn choose(first: bool, a: usize, b: usize) -> usize
     if first { a } else { b }
 }
 
-// Past the zeros up to the next nonzero digit.
+// Up to the next link. Where it does not touch the last one, nothing binds it.
 fn skip(w: Walk) -> Walk
-    requires { ⌜ Small w × (w .rest ≢ 0) ⌝ }
+    requires { ⌜ (w .links ≢ 0) × (w .links ≤ 2 ^ 35) × (w .bit * w .links ≤ 2 ^ 35) ⌝ }
     ensures { λ r. ⌜ r ≡ skipOf w ⌝ }
 {
-    let zeros = usize::trailing_zeros(w.rest);
+    let places = usize::trailing_zeros(w.links);
     Walk {
-        rest: w.rest >> zeros,
-        bit: w.bit << zeros,
+        links: w.links >> places,
+        opposite: w.opposite >> places,
+        bit: w.bit << places,
         forms: w.forms,
-        above: choose(zeros == 0, w.above, 0),
-        below: choose(zeros == 0, w.below, 0),
+        moved: choose(places == 0, w.moved, w.forms),
     }
 }
 
-// Past the next digit, a nonzero one, and past the 0 above it. Nobody can guess the digit, so it
-// chooses among numbers and not among branches.
+// Past the next link. Nobody can guess its kind, so that chooses among numbers and not among branches.
 fn next(w: Walk) -> Walk
-    requires { ⌜ Small w × (w .rest % 2 ≡ 1) ⌝ }
+    requires { ⌜ (w .forms ≤ 2 ^ 34) × (w .moved ≤ 2 ^ 34) × (w .bit ≤ 2 ^ 33) ⌝ }
     ensures { λ r. ⌜ r ≡ nextOf w ⌝ }
 {
-    let one = w.rest % 4 == 1;
+    let opposite = w.opposite % 2 == 1;
+    let both = w.forms + w.moved;
     Walk {
-        rest: (w.rest + 1) / 4,
+        links: w.links / 4,
+        opposite: w.opposite / 4,
         bit: w.bit * 4,
-        forms: w.forms + choose(one, w.above, w.below),
-        above: choose(one, 0, w.forms + w.above),
-        below: choose(one, w.forms + w.below, 0),
+        forms: choose(opposite, both, w.forms),
+        moved: choose(opposite, w.forms, both),
     }
-}
-
-// The number of forms of m.
-fn count_of(m: usize) -> usize
-    requires { ⌜ m ≤ 2 ^ 31 ⌝ }
-    ensures { λ r. ⌜ r ≡ length (listing 32 (pos m)) ⌝ }
-{
-    let mut w = start(m);
-    while w.rest != 0 {
-        w = next(skip(w));
-    }
-    w.forms
 }
 
 // Copies the first n elements, each with the offset, to the places from `at` on. The last comes first,
@@ -108,60 +131,51 @@ fn grow(table: &mut [u32], at: usize, n: usize, offset: u32)
     }
 }
 
-// The same, but nothing past the count is ever written: what does not fit is not needed.
-fn extend(table: &mut [u32], at: usize, n: usize, offset: u32, count: usize)
-    requires { ⌜ (at ≤ count) × (count ≤ length (now table)) ⌝ }
-    ensures { λ r. ⌜ now (table .exit) ≡ extended count (now (table .entry)) at n offset ⌝ }
+// At a link the forms that take it follow those that do not. Their masks are those of the forms in
+// front less the bit of the lower digit: the same in both tables.
+fn widen(plus: &mut [u32], minus: &mut [u32], w: Walk)
+    requires { ⌜ (w .forms + w .moved ≤ length (now plus)) × (w .forms + w .moved ≤ length (now minus)) × (w .bit ≤ 2 ^ 33) ⌝ }
+    ensures plus { λ r. ⌜ now (plus .exit) ≡ grown (now (plus .entry)) (w .forms) (w .moved) ((2 ^ 32 - w .bit / 4) % 2 ^ 32) ⌝ }
+    ensures minus { λ r. ⌜ now (minus .exit) ≡ grown (now (minus .entry)) (w .forms) (w .moved) ((2 ^ 32 - w .bit / 4) % 2 ^ 32) ⌝ }
 {
-    if n <= count - at {
-        grow(table, at, n, offset);
-    }
-}
-
-// At a nonzero digit the forms in which it moves down follow those in which it stays. Their masks
-// are those of the forms beside, in front, less a quarter of the bit: the same in both tables.
-fn widen(up: &mut [u32], down: &mut [u32], w: Walk, count: usize)
-    requires { ⌜ Small w × (w .rest % 2 ≡ 1) × (w .forms ≤ count) × (count ≤ length (now up)) × (count ≤ length (now down)) ⌝ }
-    ensures up { λ r. ⌜ now (up .exit) ≡ widened count w (now (up .entry)) ⌝ }
-    ensures down { λ r. ⌜ now (down .exit) ≡ widened count w (now (down .entry)) ⌝ }
-{
-    let n = w.above + w.below;
     let offset = std::num::wrapping_sub_u32(0, (w.bit / 4) as u32);
-    extend(up, w.forms, n, offset, count);
-    extend(down, w.forms, n, offset, count);
-}
-
-// Lists the forms of m. The canonical form stands in front, with the digits that are still to come
-// in every element, so that each is a whole form at the end.
-fn list(up: &mut [u32], down: &mut [u32], m: usize, count: usize)
-    requires { ⌜ Ready m count (now up) (now down) ⌝ }
-    ensures up { λ r. ⌜ now (up .exit) ≡ map plusMask (listing 32 (pos m)) ++ drop count (now (up .entry)) ⌝ }
-    ensures down { λ r. ⌜ now (down .exit) ≡ map minusMask (listing 32 (pos m)) ++ drop count (now (down .entry)) ⌝ }
-{
-    let mut w = start(m);
-    while w.forms != count {
-        w = skip(w);
-        widen(up, down, w, count);
-        w = next(w);
-    }
-}
-
-// The magnitude of n, whose bits are read as a signed number. Nothing is negated.
-fn magnitude(n: i32) -> usize
-    ensures { λ r. ⌜ r ≡ natAbs (toZ w32 (ofZ w32 n)) ⌝ }
-{
-    word::magnitude(n) as usize
+    grow(plus, w.forms, w.moved, offset);
+    grow(minus, w.forms, w.moved, offset);
 }
 
 // The number of minimal forms of n.
 pub fn form_count(n: i32) -> u32
     ensures { λ r. ⌜ r ≡ length (listing 32 n) ⌝ }
 {
-    count_of(magnitude(n)) as u32
+    let mut w = start(form_masks::canonical(n));
+    while w.links != 0 {
+        w = next(skip(w));
+    }
+    w.forms as u32
 }
 
-// The minimal forms of n, in order, in the front of the two tables. The forms of a negative number
-// are those of its magnitude with the masks exchanged.
+// Lists the forms of n, and returns their number. The canonical form comes first; every copy has the
+// digits that are still to come, so that each is a whole form. Nothing past the last is ever written,
+// since each copy is in some form.
+fn list(n: i32, plus: &mut [u32], minus: &mut [u32]) -> usize
+    requires { ⌜ (1597 ≤ length (now plus)) × (1597 ≤ length (now minus)) ⌝ }
+    ensures count { λ r. ⌜ r ≡ length (listing 32 n) ⌝ }
+    ensures plus { λ r. ⌜ now (plus .exit) ≡ map plusMask (listing 32 n) ++ drop (length (listing 32 n)) (now (plus .entry)) ⌝ }
+    ensures minus { λ r. ⌜ now (minus .exit) ≡ map minusMask (listing 32 n) ++ drop (length (listing 32 n)) (now (minus .entry)) ⌝ }
+{
+    let first = form_masks::canonical(n);
+    plus[0] = first.plus;
+    minus[0] = first.minus;
+    let mut w = start(first);
+    while w.links != 0 {
+        w = skip(w);
+        widen(plus, minus, w);
+        w = next(w);
+    }
+    w.forms
+}
+
+// The minimal forms of n, in order, in the front of the two tables.
 pub fn minimal_forms(n: i32, plus: &mut [u32], minus: &mut [u32]) -> Listing
     ensures answer { λ r. ⌜ answerOf r ≡ formCount n (length (now (plus .entry))) (length (now (minus .entry))) ⌝ }
     ensures plus { λ r. ⌜ now (plus .exit) ≡ filled (formCount n (length (now (plus .entry))) (length (now (minus .entry)))) (map plusMask (listing 32 n)) (now (plus .entry)) ⌝ }
@@ -173,15 +187,5 @@ pub fn minimal_forms(n: i32, plus: &mut [u32], minus: &mut [u32]) -> Listing
     if minus.len() < 1597 {
         return Listing::Refused(Refusal::ShortTable);
     }
-    let m = magnitude(n);
-    let count = count_of(m);
-    let first = form_masks::canonical(n);
-    plus[0] = first.plus;
-    minus[0] = first.minus;
-    if n < 0 {
-        list(minus, plus, m, count);
-        return Listing::Count(count as u32);
-    }
-    list(plus, minus, m, count);
-    Listing::Count(count as u32)
+    Listing::Count(list(n, plus, minus) as u32)
 }

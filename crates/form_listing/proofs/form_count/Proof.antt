@@ -1,40 +1,102 @@
 -- `form_listing::form_count` meets its contract. Assumes nothing.
 use mathlib.Core.Path.{_≡_, ap, _∙_}
-use Prim.Native.Nat.{ℕ, _≤_, _^_}
+use Prim.Native.Nat.{_≤_, _^_}
 use native.Mathlib.Omega.{arith}
-use lib.IntN.{pos, natAbs}
+use lib.IntN.{ℤ, natAbs}
 use lib.ListN.{length}
+use mir.Syntax.{w32}
+use mir.Val.{toZ, ofZ}
 use Rattle.signed_digit.specs.Forms.{listing}
 use Rattle.signed_digit.proofs.Coefficients.{i32-coefficient, coefficient-magnitude, at-most-1597}
-use Rattle.form_listing.proofs.Lists.{listing-length}
-use Rattle.form_listing.proofs.Machine.{read-twice}
+use Rattle.form_listing.proofs.Machine.{read-once}
+use Rattle.form_listing.proofs.Stands.{at-link, skip-fits, next-fits}
+use Rattle.form_listing.proofs.Counted.{OnWay, itself, over-nought, over-digit, Counting, CountingLink, count-start, counting-next, count-end, fewer}
 use borrow.Author.Needs.{needs}
 use Rattle.form_listing.proofs.form_count.Statement.{statement}
 use Rattle.form_listing.proofs.form_count.Tie as tie
 
-bounded : (s : tie.Start) → natAbs (s .args .n) ≤ 2 ^ 31
-bounded s = coefficient-magnitude (s .args .n) (i32-coefficient (s .args .n) (s .fits .n))
+abbrev Inv-loop : tie.InvT-loop
+Inv-loop n w₀ w = Counting (natAbs (toZ w32 n)) w
 
-size : (c : tie.After-magnitude) → c .magnitude .result ≡ natAbs (c .before .args .n)
-size c = c .magnitude .ensures ∙ ap natAbs (read-twice (c .before .args .n) (c .before .fits .n))
+abbrev μ-loop : tie.MeasureT-loop
+μ-loop n w₀ w = w .links
 
-counted : (c : tie.After-count-of) → c .count-of .result ≡ length (listing 32 (c .before .before .args .n))
-counted c = c .count-of .ensures ∙ ap (λ (m : ℕ). length (listing 32 (pos m))) (size (c .before)) ∙ listing-length 32 (c .before .before .args .n)
+-- n as the machine hands it on
+abbrev given : tie.Start Inv-loop μ-loop → ℤ
+given s = toZ w32 (ofZ w32 (s .args .n))
 
-magnitude-requires : tie.Need-magnitude-requires
-magnitude-requires c κs = search needs
+same : (s : tie.Start Inv-loop μ-loop) → given s ≡ s .args .n
+same s = read-once (s .args .n) (s .fits .n)
 
-count-of-requires : tie.Need-count-of-requires
-count-of-requires c κs = omega (arith, size c, bounded (c .before))
+bounded : (s : tie.Start Inv-loop μ-loop) → natAbs (given s) ≤ 2 ^ 31
+bounded s = omega (arith, ap natAbs (same s), coefficient-magnitude (s .args .n) (i32-coefficient (s .args .n) (s .fits .n)))
 
-cast-result : tie.Need-cast-result
-cast-result c =
+canonical-requires : tie.Need-canonical-requires Inv-loop μ-loop
+canonical-requires c κs = search needs
+
+start-requires : tie.Need-start-requires Inv-loop μ-loop
+start-requires c κs = search needs
+
+loop-holds : tie.Need-loop-holds Inv-loop μ-loop
+loop-holds c =
     let s = c .before .before in
-    let e = counted c in
-    record { fits = omega (arith, e, at-most-1597 (s .args .n) (bounded s)) }
+    count-start (given s) (bounded s) (c .before .canonical .result) (c .before .canonical .ensures) (c .start .result) (c .start .ensures)
 
-returns : tie.Need-returns
+skip-requires : tie.Need-skip-requires Inv-loop μ-loop
+skip-requires c κs =
+    let m = natAbs (given (c .before .before .before .before .before)) in
+    let o = c .before .before .loop in
+    skip-fits m (OnWay m) (itself m) (over-nought m) (over-digit m) (o .w) (o .inv) (c .if1 .taken)
+
+next-requires : tie.Need-next-requires Inv-loop μ-loop
+next-requires c κs =
+    let m = natAbs (given (c .before .before .before .before .before .before)) in
+    let o = c .before .before .before .loop in
+    let k = c .skip in
+    next-fits m (OnWay m) (itself m) (over-nought m) (over-digit m) (k .result)
+    (at-link m (OnWay m) (itself m) (over-nought m) (over-digit m) (o .w) (o .inv) (c .before .if1 .taken) (k .result) (k .ensures))
+
+loop-less : tie.Need-loop-less Inv-loop μ-loop
+loop-less c =
+    let o = c .before .before .before .before .loop in
+    let k = c .before .skip in
+    fewer (o .w) (k .result) (c .next .result) (c .before .before .if1 .taken) (k .ensures) (c .next .ensures)
+
+loop-again : tie.Need-loop-again Inv-loop μ-loop
+loop-again c =
+    let m = natAbs (given (c .before .before .before .before .before .before .before)) in
+    let o = c .before .before .before .before .loop in
+    let k = c .before .skip in
+    counting-next m (k .result) (c .next .result)
+    (at-link m (OnWay m) (itself m) (over-nought m) (over-digit m) (o .w) (o .inv) (c .before .before .if1 .taken) (k .result) (k .ensures)) (c .next .ensures)
+
+counted : (c : tie.After-struct-known2 Inv-loop μ-loop) → c .before .before .before .loop .w .forms ≡ length (listing 32 (c .before .before .before .before .before .before .args .n))
+counted c =
+    let s = c .before .before .before .before .before .before in
+    let o = c .before .before .before .loop in
+    count-end (given s) (bounded s) (o .w) (o .inv) (c .before .if1 .left) ∙ ap (λ (z : ℤ). length (listing 32 z)) (same s)
+
+cast-result : tie.Need-cast-result Inv-loop μ-loop
+cast-result c =
+    let s = c .before .before .before .before .before .before in
+    let e = counted c in
+    record { fits = omega (arith, e, at-most-1597 (s .args .n) (coefficient-magnitude (s .args .n) (i32-coefficient (s .args .n) (s .fits .n)))) }
+
+returns : tie.Need-returns Inv-loop μ-loop
 returns c = counted c
 
 pub form-count-spec : {M : Type 1} → statement M
-form-count-spec = tie.close (tie.spec magnitude-requires count-of-requires cast-result returns)
+form-count-spec =
+    tie.close
+    (tie.spec
+    Inv-loop
+    μ-loop
+    canonical-requires
+    start-requires
+    loop-holds
+    skip-requires
+    next-requires
+    loop-less
+    loop-again
+    cast-result
+    returns)

@@ -3,7 +3,7 @@ use mathlib.Core.Path.{_≡_, refl, _∙_}
 use Prim.Native.Nat.{_≤_, _+_, _-_}
 use native.Mathlib.Omega.{arith}
 use lib.ListN.{length, length-set}
-use Rattle.form_listing.proofs.Growth.{Part, part-start, part-next, part-end}
+use Rattle.form_links.proofs.Growth.{Part, part-start, part-next, part-end}
 use Rattle.form_listing.proofs.grow.Statement.{statement}
 use Rattle.form_listing.proofs.grow.Tie as tie
 
@@ -47,7 +47,7 @@ loop-again c =
       omega arith,
       length-set (o .table) (s .args .at + (o .i - 1)) (c .wrapping-add-u32 .result) ∙ o .inv .1,
       part-next (s .args .table .now) (s .args .at) (s .args .n) (s .args .offset) (s .pre) (o .table) (o .i) (c .wrapping-add-u32 .result)
-          (c .before .before .loop-test .taken) (o .inv .0) (c .wrapping-add-u32 .ensures) (o .inv .2),
+          (omega (arith, c .before .before .loop-test .taken)) (o .inv .0) (c .wrapping-add-u32 .ensures) (o .inv .2),
     )
 
 same-length : tie.Need-same-length Inv-loop μ-loop
@@ -57,7 +57,7 @@ returns : tie.Need-returns Inv-loop μ-loop
 returns c =
     let s = c .before .before .before in
     let o = c .before .loop in
-    part-end (s .args .table .now) (s .args .at) (s .args .n) (s .args .offset) (s .pre) (o .table) (o .i) (c .loop-test .left) (o .inv .2)
+    part-end (s .args .table .now) (s .args .at) (s .args .n) (s .args .offset) (s .pre) (o .table) (o .i) (omega (arith, c .loop-test .left)) (o .inv .2)
 
 pub grow-spec : {M : Type 1} → statement M
 grow-spec =

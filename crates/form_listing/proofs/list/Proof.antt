@@ -1,80 +1,135 @@
 -- `form_listing::list` meets its contract. Assumes nothing.
-use mathlib.Core.Path.{sym, ap, subst}
+use mathlib.Core.Path.{_≡_, ap, ap₂, subst, _∙_}
+use mathlib.Core.List.{List, _++_, map}
+use Prim.Native.Nat.{ℕ, _≤_, _^_}
 use native.Mathlib.Omega.{arith}
-use native.Mathlib.Nat.{le-refl}
-use Rattle.form_listing.specs.declared.Walk.{Walk}
-use Rattle.form_listing.proofs.Walked.{next-less}
-use Rattle.form_listing.proofs.Filled.{Filled, firstOf}
-use Rattle.form_listing.proofs.Listed.{listed-start, small, more-left, after-zeros, room, listed-next, full}
+use lib.IntN.{ℤ, natAbs}
+use lib.ListN.{length, length-set, drop, set}
+use mir.Syntax.{w32}
+use mir.Val.{toZ, ofZ}
+use Rattle.signed_digit.specs.Masks.{plusMask, minusMask}
+use Rattle.signed_digit.specs.Forms.{listing}
+use Rattle.signed_digit.proofs.Coefficients.{i32-coefficient, coefficient-magnitude}
+use Rattle.form_listing.proofs.Machine.{read-once}
+use Rattle.form_listing.proofs.Counted.{fewer}
+use Rattle.form_listing.proofs.Listed.{Ready, ready, Listing, list-start, list-skip, list-link, widen-fits, link-fits, list-next, same-lengths, list-end, past-front}
 use borrow.Author.Needs.{needs}
 use Rattle.form_listing.proofs.list.Statement.{statement}
 use Rattle.form_listing.proofs.list.Tie as tie
 
+-- where the tables are ready, the walk stands on its way
 abbrev Inv-loop : tie.InvT-loop
-Inv-loop up₀ down₀ m count w₀ up down w = Filled 32 m count (firstOf 32 m) w up₀ down₀ up down
+Inv-loop n plus₀ minus₀ w₀ plus minus w = (R : Ready (toZ w32 n) plus₀ minus₀) → Listing (toZ w32 n) plus₀ minus₀ R plus minus w
 
 abbrev μ-loop : tie.MeasureT-loop
-μ-loop up₀ down₀ m count w₀ up down w = w .rest
+μ-loop n plus₀ minus₀ w₀ plus minus w = w .links
+
+-- n as the machine hands it on
+abbrev given : tie.Start Inv-loop μ-loop → ℤ
+given s = toZ w32 (ofZ w32 (s .args .n))
+
+same : (s : tie.Start Inv-loop μ-loop) → given s ≡ s .args .n
+same s = read-once (s .args .n) (s .fits .n)
+
+bounded : (s : tie.Start Inv-loop μ-loop) → natAbs (given s) ≤ 2 ^ 31
+bounded s = omega (arith, ap natAbs (same s), coefficient-magnitude (s .args .n) (i32-coefficient (s .args .n) (s .fits .n)))
+
+-- the tables with the canonical form in front
+abbrev plus-start : tie.After-canonical Inv-loop μ-loop → List ℕ
+plus-start c = set (c .before .before .before .args .plus .now) 0 (c .canonical .result .plus)
+
+abbrev minus-start : tie.After-canonical Inv-loop μ-loop → List ℕ
+minus-start c = set (c .before .before .before .args .minus .now) 0 (c .canonical .result .minus)
+
+are-ready : (c : tie.After-canonical Inv-loop μ-loop) → Ready (given (c .before .before .before)) (plus-start c) (minus-start c)
+are-ready c =
+    let s = c .before .before .before in
+    ready (given s) (bounded s) (c .canonical .result) (c .canonical .ensures) (s .args .plus .now) (s .args .minus .now) (s .pre .0) (s .pre .1)
+
+canonical-requires : tie.Need-canonical-requires Inv-loop μ-loop
+canonical-requires c κs = search needs
+
+slice-write-plus : tie.Need-slice-write-plus Inv-loop μ-loop
+slice-write-plus c = search needs
+
+slice-write-minus : tie.Need-slice-write-minus Inv-loop μ-loop
+slice-write-minus c = search needs
 
 start-requires : tie.Need-start-requires Inv-loop μ-loop
 start-requires c κs = search needs
 
 loop-holds : tie.Need-loop-holds Inv-loop μ-loop
-loop-holds c =
-    let s = c .before .before .before in
-    subst (λ (w : Walk). Filled 32 (s .args .m) (s .args .count) (firstOf 32 (s .args .m)) w (s .args .up .now) (s .args .down .now) (s .args .up .now) (s .args .down .now)) (sym (c .start .ensures))
-    (listed-start (s .args .m) (s .args .count) (s .args .up .now) (s .args .down .now) (s .pre))
+loop-holds c R =
+    let k = c .before in
+    list-start (given (k .before .before .before)) (plus-start k) (minus-start k) R (k .canonical .result) (k .canonical .ensures) (c .start .result) (c .start .ensures)
 
 skip-requires : tie.Need-skip-requires Inv-loop μ-loop
 skip-requires c κs =
-    let s = c .before .before .before .before .before .before in
+    let k = c .before .before .before .before in
     let o = c .before .before .loop in
-    (small (s .args .m) (s .args .count) (s .args .up .now) (s .args .down .now) (s .pre) (o .w) (o .up) (o .down) (o .inv), more-left (s .args .m) (s .args .count) (s .args .up .now) (s .args .down .now) (s .pre) (o .w) (o .up) (o .down) (o .inv) (c .if1 .taken))
+    list-skip (given (k .before .before .before)) (plus-start k) (minus-start k) (are-ready k) (o .plus) (o .minus) (o .w) (o .inv (are-ready k)) (c .if1 .taken)
 
 widen-requires : tie.Need-widen-requires Inv-loop μ-loop
 widen-requires c κs =
-    let s = c .before .before .before .before .before .before .before .before .before in
+    let k = c .before .before .before .before .before .before .before in
     let o = c .before .before .before .before .before .loop in
-    let k = c .before .before .skip in
-    let z = after-zeros (s .args .m) (s .args .count) (s .args .up .now) (s .args .down .now) (s .pre) (o .w) (o .up) (o .down) (o .inv) (c .before .before .before .if1 .taken) (k .result) (k .ensures) in
-    room (s .args .m) (s .args .count) (s .args .up .now) (s .args .down .now) (s .pre) (k .result) (o .up) (o .down) (z .0) (z .1)
+    let v = c .before .before .skip in
+    widen-fits (given (k .before .before .before)) (plus-start k) (minus-start k) (are-ready k) (o .plus) (o .minus) (v .result)
+    (list-link (given (k .before .before .before)) (plus-start k) (minus-start k) (are-ready k) (o .plus) (o .minus) (o .w) (o .inv (are-ready k)) (c .before .before .before .if1 .taken) (v .result) (v .ensures))
 
 next-requires : tie.Need-next-requires Inv-loop μ-loop
 next-requires c κs =
-    let s = c .before .before .before .before .before .before .before .before .before .before .before .before .before .before in
+    let k = c .before .before .before .before .before .before .before .before .before .before .before .before in
     let o = c .before .before .before .before .before .before .before .before .before .before .loop in
-    let k = c .before .before .before .before .before .before .before .skip in
-    let z = after-zeros (s .args .m) (s .args .count) (s .args .up .now) (s .args .down .now) (s .pre) (o .w) (o .up) (o .down) (o .inv) (c .before .before .before .before .before .before .before .before .if1 .taken) (k .result) (k .ensures) in
-    (small (s .args .m) (s .args .count) (s .args .up .now) (s .args .down .now) (s .pre) (k .result) (o .up) (o .down) (z .0), z .1)
+    let v = c .before .before .before .before .before .before .before .skip in
+    link-fits (given (k .before .before .before)) (plus-start k) (minus-start k) (are-ready k) (o .plus) (o .minus) (v .result)
+    (list-link (given (k .before .before .before)) (plus-start k) (minus-start k) (are-ready k) (o .plus) (o .minus) (o .w) (o .inv (are-ready k)) (c .before .before .before .before .before .before .before .before .if1 .taken) (v .result) (v .ensures))
 
 loop-less : tie.Need-loop-less Inv-loop μ-loop
 loop-less c =
-    let s = c .before .before .before .before .before .before .before .before .before .before .before .before .before .before .before in
     let o = c .before .before .before .before .before .before .before .before .before .before .before .loop in
-    let k = c .before .before .before .before .before .before .before .before .skip in
-    let z = after-zeros (s .args .m) (s .args .count) (s .args .up .now) (s .args .down .now) (s .pre) (o .w) (o .up) (o .down) (o .inv) (c .before .before .before .before .before .before .before .before .before .if1 .taken) (k .result) (k .ensures) in
-    omega (arith, ap (λ (w : Walk). w .rest) (c .next .ensures), next-less (k .result) (λ e. omega (arith, z .1)), z .2)
+    let v = c .before .before .before .before .before .before .before .before .skip in
+    fewer (o .w) (v .result) (c .next .result) (c .before .before .before .before .before .before .before .before .before .if1 .taken) (v .ensures) (c .next .ensures)
 
 loop-again : tie.Need-loop-again Inv-loop μ-loop
-loop-again c =
-    let s = c .before .before .before .before .before .before .before .before .before .before .before .before .before .before .before in
+loop-again c R =
+    let k = c .before .before .before .before .before .before .before .before .before .before .before .before .before in
     let o = c .before .before .before .before .before .before .before .before .before .before .before .loop in
-    let k = c .before .before .before .before .before .before .before .before .skip in
+    let v = c .before .before .before .before .before .before .before .before .skip in
     let x = c .before .before .before .before .before .widen in
-    let z = after-zeros (s .args .m) (s .args .count) (s .args .up .now) (s .args .down .now) (s .pre) (o .w) (o .up) (o .down) (o .inv) (c .before .before .before .before .before .before .before .before .before .if1 .taken) (k .result) (k .ensures) in
-    listed-next (s .args .m) (s .args .count) (s .args .up .now) (s .args .down .now) (s .pre) (k .result) (c .next .result) (o .up) (o .down) (x .last .0) (x .last .1 .0) (z .0) (λ e. omega (arith, z .1)) (c .next .ensures) (x .ensures .0) (x .ensures .1)
+    list-next (given (k .before .before .before)) (plus-start k) (minus-start k) R (o .plus) (o .minus) (v .result)
+    (list-link (given (k .before .before .before)) (plus-start k) (minus-start k) R (o .plus) (o .minus) (o .w) (o .inv R) (c .before .before .before .before .before .before .before .before .before .if1 .taken) (v .result) (v .ensures))
+    (c .next .result) (x .last .0) (x .last .1 .0) (c .next .ensures) (x .ensures .0) (x .ensures .1)
 
 same-length : tie.Need-same-length Inv-loop μ-loop
-same-length c = c .before .before .loop .inv .up-kept .long
+same-length c =
+    let k = c .before .before .before .before in
+    let o = c .before .before .loop in
+    same-lengths (given (k .before .before .before)) (plus-start k) (minus-start k) (are-ready k) (o .plus) (o .minus) (o .w) (o .inv (are-ready k)) .0
+    ∙ length-set (k .before .before .before .args .plus .now) 0 (k .canonical .result .plus)
 
 same-length-2 : tie.Need-same-length-2 Inv-loop μ-loop
-same-length-2 c = c .before .before .loop .inv .down-kept .long
+same-length-2 c =
+    let k = c .before .before .before .before in
+    let o = c .before .before .loop in
+    same-lengths (given (k .before .before .before)) (plus-start k) (minus-start k) (are-ready k) (o .plus) (o .minus) (o .w) (o .inv (are-ready k)) .1
+    ∙ length-set (k .before .before .before .args .minus .now) 0 (k .canonical .result .minus)
 
 returns : tie.Need-returns Inv-loop μ-loop
 returns c =
-    let s = c .before .before .before .before .before .before in
+    let k = c .before .before .before .before in
+    let s = k .before .before .before in
     let o = c .before .before .loop in
-    full (s .args .m) (s .args .count) (s .args .up .now) (s .args .down .now) (s .pre) (o .w .rest) (o .w) (o .up) (o .down) (o .inv) (le-refl (o .w .rest)) (c .if1 .left)
+    let n = given s in
+    let e = list-end n (plus-start k) (minus-start k) (are-ready k) (o .plus) (o .minus) (o .w) (o .inv (are-ready k)) (c .if1 .left) in (
+      e .0 ∙ ap (λ (z : ℤ). length (listing 32 z)) (same s),
+      (
+        e .1 ∙ ap (λ (t : List ℕ). map plusMask (listing 32 n) ++ t) (past-front n (bounded s) (s .args .plus .now) (k .canonical .result .plus))
+            ∙ ap (λ (z : ℤ). map plusMask (listing 32 z) ++ drop (length (listing 32 z)) (s .args .plus .now)) (same s),
+        e .2 ∙ ap (λ (t : List ℕ). map minusMask (listing 32 n) ++ t) (past-front n (bounded s) (s .args .minus .now) (k .canonical .result .minus))
+            ∙ ap (λ (z : ℤ). map minusMask (listing 32 z) ++ drop (length (listing 32 z)) (s .args .minus .now)) (same s),
+      ),
+    )
 
 pub list-spec : {M : Type 1} → statement M
 list-spec =
@@ -82,6 +137,9 @@ list-spec =
     (tie.spec
     Inv-loop
     μ-loop
+    canonical-requires
+    slice-write-plus
+    slice-write-minus
     start-requires
     loop-holds
     skip-requires

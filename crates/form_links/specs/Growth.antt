@@ -1,8 +1,6 @@
 -- What copies within a mask table leave in it. Definitions only.
 use Prim.Native.Nat.{ℕ, _+_, _%_, _^_}
-use mathlib.Core.Bool.{cond}
 use mathlib.Core.List.{List, _++_, map}
-use lib.Dec.{leb}
 use lib.ListN.{take, drop}
 
 -- a mask with an offset, modulo 2^32
@@ -12,7 +10,3 @@ shifted offset mask = (mask + offset) % 2 ^ 32
 -- the first n elements, with the offset, are copied to the n places from `at` on
 abbrev pub grown : List ℕ → ℕ → ℕ → ℕ → List ℕ
 grown old at n offset = take at old ++ (map (shifted offset) (take n old) ++ drop (at + n) old)
-
--- the same where the first count elements hold the copies too, and else nothing
-abbrev pub extended : ℕ → List ℕ → ℕ → ℕ → ℕ → List ℕ
-extended count old at n offset = cond (leb (at + n) count) (grown old at n offset) old

@@ -15,9 +15,9 @@ use Rattle.signed_digit.specs.Masks.{plusBit, minusBit}
 use Rattle.signed_digit.specs.CanonicalForm.{opposite, canonicalNat}
 use Rattle.signed_digit.specs.Forms.{top, forms, listing}
 use Rattle.signed_digit.proofs.Listing.{listing-forms}
-use Rattle.form_listing.proofs.Lists.{raised}
-use Rattle.form_listing.proofs.Steps.{two}
-use Rattle.form_listing.proofs.Passed.{Passed, here, side, passed-start, passed-nought, passed-digit, here-nought, side-nought, here-digit, side-same, side-opposite, here-all}
+use Rattle.form_links.proofs.Lists.{raised}
+use Rattle.form_links.proofs.Steps.{two}
+use Rattle.form_links.proofs.Passed.{Passed, here, side, passed-start, passed-nought, passed-digit, here-nought, side-nought, here-digit, side-same, side-opposite, here-all}
 
 pub two-length : (d : Digit) (l m : List DigitString) → length (two d l m) ≡ length l + length m
 two-length d l m =

@@ -4,11 +4,9 @@ use mathlib.Core.Bool.{Bool, true, false, cond}
 use mathlib.Core.List.{List, [], _∷_, _++_, map, append-assoc}
 use Prim.Native.Nat.{ℕ, zero, suc, _+_, _-_, _≤_, _<_}
 use native.Mathlib.Omega.{arith}
-use borrow.Author.Tests.{le-leb, leb-true}
-use lib.Dec.{leb}
 use lib.ListN.{length, take-append-drop, take, drop, set, getD, length-append, length-take, length-drop, length-map}
 use lib.Seq.{length-take-le, take-at, drop-at, drop-drop}
-use Rattle.form_listing.specs.Growth.{shifted, grown, extended}
+use Rattle.form_links.specs.Growth.{shifted, grown}
 
 -- ---- the copies down to the element i are made
 abbrev pub Part : List ℕ → ℕ → ℕ → ℕ → ℕ → List ℕ → Type 0
@@ -100,23 +98,22 @@ module _ (old : List ℕ) (at n offset : ℕ) where
     grown-length : length (grown old at n offset) ≡ length old
     grown-length = omega (arith, ap length split, length-append (take at old ++ copies) (drop (at + n) old), copies-length, length-drop (at + n) old)
 
--- ---- the same of a table that has grown only where count elements hold all
-module _ (count : ℕ) (old : List ℕ) (at n offset : ℕ) (whole : count ≤ length old) where
-  pub extended-front : at ≤ count → take at (extended count old at n offset) ≡ take at old
-  extended-front h = go (leb (at + n) count) (leb-true (at + n) count)
-    where
-      go : (b : Bool) → (b ≡ true → at + n ≤ count) → take at (cond b (grown old at n offset) old) ≡ take at old
-      go true k = let r = k refl in grown-front old at n offset (omega arith)
-      go false k = refl
+-- ---- a table that has grown, or has not
+abbrev pub grownIf : Bool → List ℕ → ℕ → ℕ → ℕ → List ℕ
+grownIf copied old at n offset = cond copied (grown old at n offset) old
 
-  pub extended-all : at + n ≤ count → take (at + n) (extended count old at n offset) ≡ take at old ++ map (shifted offset) (take n old)
-  extended-all h =
-      ap (λ (b : Bool). take (at + n) (cond b (grown old at n offset) old)) (le-leb (at + n) count h) ∙ grown-all old at n offset (omega arith)
+module _ (old : List ℕ) (at n offset : ℕ) where
+  pub if-front : (copied : Bool) → (copied ≡ true → at + n ≤ length old) → take at (grownIf copied old at n offset) ≡ take at old
+  if-front true room = grown-front old at n offset (room refl)
+  if-front false room = refl
 
-  pub extended-rest : (drop count (extended count old at n offset) ≡ drop count old) × (length (extended count old at n offset) ≡ length old)
-  extended-rest = go (leb (at + n) count) (leb-true (at + n) count)
-    where
-      go : (b : Bool) → (b ≡ true → at + n ≤ count)
-          → (drop count (cond b (grown old at n offset) old) ≡ drop count old) × (length (cond b (grown old at n offset) old) ≡ length old)
-      go true k = let r = k refl in let i : at + n ≤ length old = omega arith in (grown-rest old at n offset i count r, grown-length old at n offset i)
-      go false k = (refl, refl)
+  pub if-all : (copied : Bool) → copied ≡ true → at + n ≤ length old → take (at + n) (grownIf copied old at n offset) ≡ take at old ++ map (shifted offset) (take n old)
+  if-all copied e room = ap (λ (b : Bool). take (at + n) (grownIf b old at n offset)) e ∙ grown-all old at n offset room
+
+  pub if-rest : (copied : Bool) (count : ℕ) → count ≤ length old → (copied ≡ true → at + n ≤ count)
+      → (drop count (grownIf copied old at n offset) ≡ drop count old) × (length (grownIf copied old at n offset) ≡ length old)
+  if-rest true count whole room =
+      let r = room refl in
+      let i : at + n ≤ length old = omega arith in
+      (grown-rest old at n offset i count r, grown-length old at n offset i)
+  if-rest false count whole room = (refl, refl)

@@ -17,8 +17,8 @@ use Rattle.signed_digit.proofs.Value.{values-eq}
 use Rattle.signed_digit.proofs.Canonical.{canonical-pad, canonical-top, canonical-unique}
 use Rattle.signed_digit.proofs.CanonicalForm.{canonicalNat-worth, canonicalNat-places, canonicalNat-canonical}
 use Rattle.signed_digit.proofs.Forms.{Form, form-top}
-use Rattle.form_listing.proofs.Lists.{forms-same, raised, doubled}
-use Rattle.form_listing.proofs.Steps.{beside, two, step-nought, digit-on-top, beside-nought, beside-same, beside-opposite}
+use Rattle.form_links.proofs.Lists.{forms-same, raised, doubled}
+use Rattle.form_links.proofs.Steps.{beside, two, step-nought, digit-on-top, beside-nought, beside-same, beside-opposite}
 
 -- Of the n canonical digits of 2m the walk has passed q, which are `low`: a canonical string of weight k and value a - b. Above it there
 -- is a 0, and above that the canonical digits of y.

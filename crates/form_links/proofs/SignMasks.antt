@@ -11,9 +11,9 @@ use Rattle.signed_digit.specs.Masks.{mask, plusBit, minusBit}
 use Rattle.signed_digit.specs.CanonicalForm.{opposite}
 use Rattle.signed_digit.specs.Forms.{top}
 use Rattle.signed_digit.proofs.Strings.{top-places, top-mask, pad, pad-mask}
-use Rattle.form_listing.proofs.Steps.{two}
-use Rattle.form_listing.proofs.Counts.{ofSide}
-use Rattle.form_listing.proofs.Offsets.{plus}
+use Rattle.form_links.proofs.Steps.{two}
+use Rattle.form_links.proofs.Counts.{ofSide}
+use Rattle.form_links.proofs.Offsets.{plus}
 
 -- the bits of a sign's mask
 abbrev pub bitOf : Digit → Digit → ℕ

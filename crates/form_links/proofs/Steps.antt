@@ -17,7 +17,7 @@ use Rattle.signed_digit.proofs.Canonical.{canonical-lightest, canonical-first, 
 use Rattle.signed_digit.proofs.CanonicalForm.{negated-canonical}
 use Rattle.signed_digit.proofs.Forms.{Form, sound, form-top, earlier-high}
 use Rattle.signed_digit.proofs.Cuts.{empty, cut-heavy, cut-above, cut-below}
-use Rattle.form_listing.proofs.Lists.{forms-same, form-negated, forms-negated}
+use Rattle.form_links.proofs.Lists.{forms-same, form-negated, forms-negated}
 
 -- the strings of q places and weight k whose value is a - b + e * 2^q: their value is beside that of c
 abbrev pub beside : Digit → ℕ → ℕ → ℕ → ℕ → List DigitString

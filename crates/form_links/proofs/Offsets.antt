@@ -2,12 +2,13 @@
 -- of numbers, and no digits yet. Assumes nothing.
 use mathlib.Core.Path.{_≡_, refl, ap, ap₂, sym, _∙_}
 use mathlib.Core.List.{List, [], _∷_, _++_, map, map-append}
-use mathlib.Core.Logic.{_⊎_, inl, inr}
+use mathlib.Core.Bool.{Bool, true}
+use mathlib.Core.Logic.{_⊎_, ⊎-elim}
 use Prim.Native.Nat.{ℕ, _+_, _*_, _-_, _≤_, _/_, _%_, _^_}
 use native.Mathlib.Omega.{arith}
 use lib.ListN.{length, take, length-append, length-map}
-use Rattle.form_listing.specs.Growth.{shifted, extended}
-use Rattle.form_listing.proofs.Growth.{extended-front, extended-all}
+use Rattle.form_links.specs.Growth.{shifted}
+use Rattle.form_links.proofs.Growth.{grownIf, if-front, if-all}
 
 abbrev pub plus : ℕ → ℕ → ℕ
 plus c x = x + c
@@ -57,42 +58,48 @@ move-own κ e b K l q h z =
     flat x = omega arith
 
 -- ---- the fronts of a table
--- One list stands there at the offset κ, two others at κ - e and κ + e, as far as they fit into count elements.
-pub record Fronts (count e κ : ℕ) (t flat own other : List ℕ) : Type 0 where
+-- One list stands there at the offset κ, and where they are needed two others at κ - e and κ + e.
+pub record Fronts (needed : Type 0) (e κ : ℕ) (t flat own other : List ℕ) : Type 0 where
   pub is-flat : take (length flat) t ≡ map (shifted κ) flat
-  pub is-own : length own ≤ count → take (length own) t ≡ map (shifted (κ + (2 ^ 32 - e))) own
-  pub is-other : length other ≤ count → take (length other) t ≡ map (shifted (κ + e)) other
+  pub is-own : needed → take (length own) t ≡ map (shifted (κ + (2 ^ 32 - e))) own
+  pub is-other : needed → take (length other) t ≡ map (shifted (κ + e)) other
 
 append-nil : (l : List ℕ) → l ++ [] ≡ l
 append-nil [] = refl
 append-nil (s ∷ l) = ap (λ (x : List ℕ). s ∷ x) (append-nil l)
 
-empty : (l : List ℕ) → length l ≡ 0 → l ≡ []
-empty [] h = refl
-empty (x ∷ l) h = absurd (omega arith)
-
-module _ (count e κ b K : ℕ) (t A S O : List ℕ) (F : Fronts count e κ t A S O) (whole : count ≤ length t) (le : e ≤ 2 ^ 32) (lb : b ≤ 2 ^ 32)
-    (four : 1 ≤ length S + length O → b ≡ 4 * e) (back : (K + e) % 2 ^ 32 ≡ 0) (one-of : (length S ≡ 0) ⊎ (length O ≡ 0)) (fit : length A ≤ count) where
+module _ (needed : Type 0) (copied : Bool) (e κ b K : ℕ) (t A S O : List ℕ) (F : Fronts needed e κ t A S O) (le : e ≤ 2 ^ 32) (lb : b ≤ 2 ^ 32)
+    (four : 1 ≤ length S + length O → b ≡ 4 * e) (back : (K + e) % 2 ^ 32 ≡ 0) (one-of : (length S ≡ 0) ⊎ (length O ≡ 0))
+    (room : copied ≡ true → length A + (length S + length O) ≤ length t) where
   -- the table afterwards
   abbrev pub after : List ℕ
-  after = extended count t (length A) (length S + length O) K
+  after = grownIf copied t (length A) (length S + length O) K
+
+  -- a list that is not empty was needed, and it was copied
+  abbrev pub Copied : List ℕ → Type 0
+  Copied X = 1 ≤ length X → (copied ≡ true) × needed
 
   front : take (length A) after ≡ map (shifted κ) A
-  front = extended-front count t (length A) (length S + length O) K whole fit ∙ F .is-flat
+  front = if-front t (length A) (length S + length O) K copied room ∙ F .is-flat
 
-  all : (X : List ℕ) → length S + length O ≡ length X → length A + length X ≤ count → take (length A + length X) after ≡ map (shifted κ) A ++ map (shifted K) (take (length X) t)
-  all X q h =
+  all : (X : List ℕ) → length S + length O ≡ length X → copied ≡ true → take (length A + length X) after ≡ map (shifted κ) A ++ map (shifted K) (take (length X) t)
+  all X q c =
       ap (λ (n : ℕ). take (length A + n) after) (sym q)
-      ∙ extended-all count t (length A) (length S + length O) K whole (omega arith)
+      ∙ if-all t (length A) (length S + length O) K copied c (room c)
       ∙ ap₂ (λ (u : List ℕ) (n : ℕ). u ++ map (shifted K) (take n t)) (F .is-flat) q
 
   -- nothing but the first list
   alone : (X : List ℕ) → length X ≡ 0 → take (length A + length X) after ≡ map (shifted κ) A
   alone X z = let q : length A + length X ≡ length A = omega arith in ap (λ (n : ℕ). take n after) q ∙ front
 
-  new-own : length (map (plus b) A ++ map (plus (b / 2)) S) ≤ count
-      → take (length (map (plus b) A ++ map (plus (b / 2)) S)) after ≡ map (shifted (κ + (2 ^ 32 - b))) (map (plus b) A ++ map (plus (b / 2)) S)
-  new-own h = ap (λ (n : ℕ). take n after) long ∙ go one-of ∙ sym (map-append (shifted κ′) (map (plus b) A) (map (plus (b / 2)) S))
+  no-other : 1 ≤ length S → length O ≡ 0
+  no-other h = ⊎-elim (λ z. absurd (omega arith)) (λ z. z) one-of
+
+  no-own : 1 ≤ length O → length S ≡ 0
+  no-own h = ⊎-elim (λ z. z) (λ z. absurd (omega arith)) one-of
+
+  new-own : Copied S → take (length (map (plus b) A ++ map (plus (b / 2)) S)) after ≡ map (shifted (κ + (2 ^ 32 - b))) (map (plus b) A ++ map (plus (b / 2)) S)
+  new-own h = ap (λ (n : ℕ). take n after) long ∙ go S refl ∙ sym (map-append (shifted κ′) (map (plus b) A) (map (plus (b / 2)) S))
     where
       κ′ : ℕ
       κ′ = κ + (2 ^ 32 - b)
@@ -100,29 +107,33 @@ module _ (count e κ b K : ℕ) (t A S O : List ℕ) (F : Fronts count e κ t A 
       long : length (map (plus b) A ++ map (plus (b / 2)) S) ≡ length A + length S
       long = omega (arith, length-append (map (plus b) A) (map (plus (b / 2)) S), length-map A (plus b), length-map S (plus (b / 2)))
 
-      moved : (s : List ℕ) → s ≡ S → length O ≡ 0 → map (shifted K) (map (shifted (κ + (2 ^ 32 - e))) s) ≡ map (shifted κ′) (map (plus (b / 2)) s)
-      moved [] q z = refl
-      moved (y ∷ s) q z = move-own κ e b K (y ∷ s) (four (omega (arith, ap length q))) lb back
-
-      go : (length S ≡ 0) ⊎ (length O ≡ 0) → take (length A + length S) after ≡ map (shifted κ′) (map (plus b) A) ++ map (shifted κ′) (map (plus (b / 2)) S)
-      go (inl z) =
-          alone S z
+      go : (s : List ℕ) → s ≡ S → take (length A + length S) after ≡ map (shifted κ′) (map (plus b) A) ++ map (shifted κ′) (map (plus (b / 2)) S)
+      go [] q =
+          alone S (sym (ap length q))
           ∙ stay κ b A lb
           ∙ sym (append-nil (map (shifted κ′) (map (plus b) A)))
-          ∙ ap (λ (s : List ℕ). map (shifted κ′) (map (plus b) A) ++ map (shifted κ′) (map (plus (b / 2)) s)) (sym (empty S z))
-      go (inr z) = all S (omega arith) (omega (arith, long)) ∙ ap₂ (λ (u v : List ℕ). u ++ v) (stay κ b A lb) (ap (map (shifted K)) (F .is-own (omega (arith, long))) ∙ moved S refl z)
+          ∙ ap (λ (s : List ℕ). map (shifted κ′) (map (plus b) A) ++ map (shifted κ′) (map (plus (b / 2)) s)) q
+      go (y ∷ s) q =
+          let i : 1 ≤ length S = omega (arith, ap length q) in
+          let c = h i in
+          let z = no-other i in
+          all S (omega arith) (c .0)
+          ∙ ap₂ (λ (u v : List ℕ). u ++ v) (stay κ b A lb) (ap (map (shifted K)) (F .is-own (c .1)) ∙ move-own κ e b K S (four (omega arith)) lb back)
 
-  new-other : length (A ++ O) ≤ count → take (length (A ++ O)) after ≡ map (shifted κ) (A ++ O)
-  new-other h = ap (λ (n : ℕ). take n after) (length-append A O) ∙ go one-of ∙ sym (map-append (shifted κ) A O)
+  new-other : Copied O → take (length (A ++ O)) after ≡ map (shifted κ) (A ++ O)
+  new-other h = ap (λ (n : ℕ). take n after) (length-append A O) ∙ go O refl ∙ sym (map-append (shifted κ) A O)
     where
-      go : (length S ≡ 0) ⊎ (length O ≡ 0) → take (length A + length O) after ≡ map (shifted κ) A ++ map (shifted κ) O
-      go (inr z) = alone O z ∙ sym (append-nil (map (shifted κ) A)) ∙ ap (λ (s : List ℕ). map (shifted κ) A ++ map (shifted κ) s) (sym (empty O z))
-      go (inl z) =
-          all O (omega arith) (omega (arith, length-append A O))
-          ∙ ap (λ (v : List ℕ). map (shifted κ) A ++ v) (ap (map (shifted K)) (F .is-other (omega (arith, length-append A O))) ∙ move-other κ e K O le back)
+      go : (s : List ℕ) → s ≡ O → take (length A + length O) after ≡ map (shifted κ) A ++ map (shifted κ) O
+      go [] q = alone O (sym (ap length q)) ∙ sym (append-nil (map (shifted κ) A)) ∙ ap (λ (s : List ℕ). map (shifted κ) A ++ map (shifted κ) s) q
+      go (y ∷ s) q =
+          let i : 1 ≤ length O = omega (arith, ap length q) in
+          let c = h i in
+          let z = no-own i in
+          all O (omega arith) (c .0) ∙ ap (λ (v : List ℕ). map (shifted κ) A ++ v) (ap (map (shifted K)) (F .is-other (c .1)) ∙ move-other κ e K O le back)
 
-  pub own-step : length (map (plus b) A ++ map (plus (b / 2)) S) ≤ count → Fronts count b (κ + (2 ^ 32 - b)) after (map (plus b) A ++ map (plus (b / 2)) S) [] (A ++ O)
-  own-step h = record { is-flat = new-own h; is-own = λ i. refl; is-other = λ i. new-other i ∙ around κ b (A ++ O) lb }
+  -- later says whether the lists beside are needed after this
+  pub own-step : (later : Type 0) → Copied S → (later → Copied O) → Fronts later b (κ + (2 ^ 32 - b)) after (map (plus b) A ++ map (plus (b / 2)) S) [] (A ++ O)
+  own-step later h k = record { is-flat = new-own h; is-own = λ i. refl; is-other = λ i. new-other (k i) ∙ around κ b (A ++ O) lb }
 
-  pub other-step : length (A ++ O) ≤ count → Fronts count b κ after (A ++ O) (map (plus b) A ++ map (plus (b / 2)) S) []
-  other-step h = record { is-flat = new-other h; is-own = new-own; is-other = λ i. refl }
+  pub other-step : (later : Type 0) → Copied O → (later → Copied S) → Fronts later b κ after (A ++ O) (map (plus b) A ++ map (plus (b / 2)) S) []
+  other-step later h k = record { is-flat = new-other h; is-own = λ i. new-own (k i); is-other = λ i. refl }

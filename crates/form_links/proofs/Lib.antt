@@ -1,0 +1,14 @@
+pub mod Lists
+pub mod Steps
+pub mod Passed
+pub mod Counts
+pub mod Growth
+pub mod Offsets
+pub mod SignMasks
+pub mod Columns
+pub mod LinkMasks
+pub mod LookAhead
+pub mod Spots
+pub mod Needed
+pub mod Filled
+pub mod Found
