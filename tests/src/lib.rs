@@ -11,5 +11,7 @@ pub mod hard;
 pub mod hard_sets;
 pub mod literal;
 pub mod mixture;
+pub mod network;
 pub mod random;
+pub mod running;
 pub mod set;

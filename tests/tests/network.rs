@@ -1,0 +1,248 @@
+//! The core's checks of networks and their coefficients, and the fast version's, against the literal
+//! ones.
+
+mod rules;
+
+use fir_tests::answer::{Answer, ACCEPTED};
+use fir_tests::network::{call, damage, literal, mixture, Network};
+use fir_tests::network::{MINUS, NONE, PLUS, REVERSED, ROW_WORDS, TAP_WORDS};
+use fir_tests::random::Random;
+use rules::{check, show, Tally};
+use std::collections::HashSet;
+
+const RANDOM_NETWORKS: usize = 8_000;
+const DAMAGED_NETWORKS: usize = 150_000;
+
+/// The network of the paper's sheet.
+fn sheet() -> Network {
+    Network::new(
+        &[[0, 0, 0, PLUS, 1], [0, 0, 1, PLUS, 3], [1, 1, 4, MINUS, 45]],
+        &[[PLUS, 1, 0], [MINUS, 1, 1], [PLUS, 2, 0], [NONE, 0, 0]],
+    )
+}
+
+/// Rows of every sign, at the bounds of value and shift, with a row that no tap uses and two rows of
+/// one value; taps at both ends of the range.
+fn edges() -> Network {
+    Network::new(
+        &[
+            [0, 0, 0, PLUS, 1],
+            [0, 0, 31, MINUS, 0x7fff_ffff],
+            [1, 1, 1, MINUS, 0x7fff_ffff],
+            [0, 0, 1, PLUS, 3],
+            [0, 1, 30, REVERSED, 0x3fff_ffff],
+            [0, 0, 30, PLUS, 0x4000_0001],
+            [3, 5, 30, MINUS, 0x7fff_ffff],
+            [4, 0, 1, PLUS, 0x7fff_ffff],
+            [0, 3, 1, REVERSED, 1],
+            [8, 8, 2, MINUS, 3],
+        ],
+        &[
+            [PLUS, 1, 0],
+            [MINUS, 2, 0],
+            [MINUS, 0, 31],
+            [PLUS, 0, 30],
+            [NONE, 0, 0],
+            [MINUS, 8, 31],
+            [PLUS, 9, 29],
+            [MINUS, 9, 29],
+            [PLUS, 0, 0],
+        ],
+    )
+}
+
+fn refused(network: &Network, refusal: u32, place: u32) {
+    let answer = check(network, 256, &mut Tally::default());
+    assert_eq!(answer, Answer { refusal, place }, "{}", show(network));
+}
+
+#[test]
+fn figures_of_networks() {
+    let figure = |network: &Network, coefficients: &[i32]| {
+        assert_eq!(check(network, 256, &mut Tally::default()), ACCEPTED);
+        let given = literal::coefficients(network, false);
+        assert_eq!(given.unwrap(), coefficients);
+    };
+    figure(&sheet(), &[3, -6, 45, 0]);
+    let (most, least) = (i32::MAX, i32::MIN);
+    let middle = 3 << 29;
+    let wanted = [most, -most, least, 1 << 30, 0, least, middle, -middle, 1];
+    figure(&edges(), &wanted);
+}
+
+/// Each check before the next, with all the later ones broken as well.
+#[test]
+fn order_of_refusals() {
+    let mut network = sheet();
+    network.taps[TAP_WORDS] = REVERSED;
+    refused(&network, 11, 1);
+    network.rows[2 * ROW_WORDS + 4] = 44;
+    refused(&network, 10, 2);
+    network.row_count = 5000;
+    refused(&network, 10, 0);
+    network.rows.pop();
+    refused(&network, 3, 0);
+    network.tap_count = 257;
+    refused(&network, 2, 0);
+    network.tap_count = 0;
+    refused(&network, 1, 0);
+}
+
+/// Every field of every row and tap row of a network, changed to everything that it might be.
+#[test]
+fn every_field_changed() {
+    let mut tally = Tally::default();
+    for network in [sheet(), edges()] {
+        for (i, field) in places(network.row_count, ROW_WORDS) {
+            for word in damage::row_words(&network, i, field) {
+                let mut damaged = network.clone();
+                damaged.rows[ROW_WORDS * i + field] = word;
+                check(&damaged, 256, &mut tally);
+            }
+        }
+        for (j, field) in places(network.tap_count, TAP_WORDS) {
+            for word in damage::tap_words(&network, j, field) {
+                let mut damaged = network.clone();
+                damaged.taps[TAP_WORDS * j + field] = word;
+                check(&damaged, 256, &mut tally);
+            }
+        }
+    }
+    let (rows, taps) = (tally.refused[10], tally.refused[11]);
+    println!("accepted {}, refused {rows} and {taps}", tally.accepted);
+    assert!(rows > 900 && taps > 300 && tally.accepted > 100);
+    assert!(tally.places[10].len() == 10 && tally.places[11].len() == 9);
+}
+
+fn places(count: usize, words: usize) -> impl Iterator<Item = (usize, usize)> {
+    (0..count).flat_map(move |i| (0..words).map(move |field| (i, field)))
+}
+
+/// Every pair of counts with every pair of tables, over rules that are kept and broken.
+#[test]
+fn counts_and_tables() {
+    let mut tally = Tally::default();
+    let mut random = Random::new(10);
+    let whole = mixture::network_of(&mut random, 4096, 256);
+    let mut broken = whole.clone();
+    broken.rows[3] = MINUS;
+    broken.taps[0] = REVERSED;
+    for network in [whole, broken] {
+        for (row_count, row_words) in pairs(&damage::ROW_COUNTS, &damage::ROW_TABLES) {
+            for (tap_count, tap_words) in pairs(&damage::TAP_COUNTS, &damage::TAP_TABLES) {
+                let network = Network {
+                    rows: network.rows[..row_words].to_vec(),
+                    row_count,
+                    taps: network.taps[..tap_words].to_vec(),
+                    tap_count,
+                };
+                let table = random.pick(&[0, 1, 255, 256, 300]);
+                check(&network, table, &mut tally);
+            }
+        }
+    }
+    println!("accepted {}, refused {:?}", tally.accepted, tally.refused);
+    assert!(tally.accepted > 0 && tally.refused[3] > 1000);
+    assert_pairs("1-3 1-10 2-3 2-10 2-11 3-10 3-11 10-11", &tally, 5);
+}
+
+fn pairs(counts: &[usize], tables: &[usize]) -> Vec<(usize, usize)> {
+    let with_tables = |count: usize| tables.iter().map(move |table| (count, *table));
+    counts.iter().copied().flat_map(with_tables).collect()
+}
+
+/// Coefficients for every number of taps, in tables that are just long enough, longer and shorter.
+#[test]
+fn tables_of_coefficients() {
+    let mut random = Random::new(11);
+    let mut tally = Tally::default();
+    for taps in 1..=256 {
+        let network = mixture::network_of(&mut random, 20, taps);
+        for table in [0, taps - 1, taps, taps + 1, 300] {
+            check(&network, table, &mut tally);
+        }
+    }
+    assert_eq!((tally.accepted, tally.refused[3]), (3 * 256, 2 * 256));
+}
+
+#[test]
+fn random_networks() {
+    let mut random = Random::new(12);
+    let mut tally = Tally::default();
+    let [mut fullest, mut rows, mut shared] = [0; 3];
+    for _ in 0..RANDOM_NETWORKS {
+        let network = mixture::network(&mut random);
+        let table = network.tap_count + random.pick(&[0, 0, 1, 50]);
+        assert_eq!(check(&network, table, &mut tally), ACCEPTED);
+        fullest += (network.row_count == 4096) as usize;
+        rows += network.row_count;
+        shared += has_equal_values(&network) as usize;
+    }
+    println!("rows {rows}, full {fullest}, with equal values {shared}");
+    println!("least {}, greatest {}", tally.least, tally.greatest);
+    assert_eq!(tally.accepted, RANDOM_NETWORKS);
+    let often = RANDOM_NETWORKS / 40;
+    assert!(fullest > often && shared > often);
+    assert!(tally.least > often && tally.greatest > often && tally.zeros > often);
+}
+
+fn has_equal_values(network: &Network) -> bool {
+    let rows = network.rows.chunks(ROW_WORDS).take(network.row_count);
+    let values: HashSet<u32> = rows.map(|row| row[4]).collect();
+    values.len() < network.row_count
+}
+
+#[test]
+fn damaged_networks() {
+    let mut random = Random::new(13);
+    let mut tally = Tally::default();
+    let mut network = mixture::network(&mut random);
+    for i in 0..DAMAGED_NETWORKS {
+        if i % 8 == 0 {
+            network = mixture::network(&mut random);
+        }
+        let mut damaged = network.clone();
+        if !random.one_in(12) {
+            damage::fields(&mut random, &mut damaged);
+        }
+        if random.one_in(6) {
+            damage::counts_and_tables(&mut random, &mut damaged);
+        }
+        let table = random.pick(&[0, 200, 256, 256, 256, 300]);
+        check(&damaged, table, &mut tally);
+    }
+    println!("accepted {}, refused {:?}", tally.accepted, tally.refused);
+    println!(
+        "places {} and {}",
+        tally.places[10].len(),
+        tally.places[11].len()
+    );
+    let often = DAMAGED_NETWORKS / 200;
+    assert!(tally.accepted > often);
+    assert!([1, 2, 3, 10, 11].map(|n| tally.refused[n] > often) == [true; 5]);
+    assert!(tally.places[10].len() > 500 && tally.places[11].len() > 200);
+    let all = "1-3 1-10 2-3 2-10 2-11 3-10 3-11 10-11";
+    assert_pairs(all, &tally, DAMAGED_NETWORKS / 1000);
+}
+
+/// Each pair of refusals has come up often.
+fn assert_pairs(pairs: &str, tally: &Tally, often: usize) {
+    for pair in pairs.split(' ') {
+        let (first, second) = pair.split_once('-').unwrap();
+        let [first, second] = [first, second].map(|number| number.parse::<usize>().unwrap());
+        let count = tally.beside[first][second];
+        println!("{first} beside {second}: {count}");
+        assert!(count > often, "{pair}: {count}");
+    }
+}
+
+/// Nothing is written where a table is empty.
+#[test]
+fn empty_table() {
+    let outcome = call::run(&sheet(), 0, fir_tests::network::core::coefficients);
+    let answer = Answer {
+        refusal: 3,
+        place: 0,
+    };
+    assert_eq!(outcome, call::wanted(0, &Err(answer)));
+}
