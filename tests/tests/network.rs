@@ -11,7 +11,7 @@ use rules::{check, show, Tally};
 use std::collections::HashSet;
 
 const RANDOM_NETWORKS: usize = 8_000;
-const DAMAGED_NETWORKS: usize = 150_000;
+const DAMAGED_NETWORKS: usize = 60_000;
 
 /// The network of the paper's sheet.
 fn sheet() -> Network {
