@@ -1,4 +1,4 @@
-//! Times the core beside the fast version, in one run and on the same input. A benchmark, no test.
+//! Times the core beside the fast versions, in one run and on the same input. A benchmark, no test.
 
 mod bench;
 
@@ -7,7 +7,7 @@ fn main() {
         "A benchmark, no test. Nanoseconds, best of {}.",
         bench::REPETITIONS
     );
-    println!("Both versions run on the same input, in turns. No call is inlined. Tables are not");
+    println!("All versions run on the same input, in turns. No call is inlined. Tables are not");
     println!("cleared between calls, so each call writes over the results of the last.");
     println!(
         "\nTaps to coefficients at F = {}, a tap",
@@ -16,4 +16,11 @@ fn main() {
     bench::taps::run();
     println!("\nMinimal forms");
     bench::forms::run();
+    println!("\nNetworks");
+    bench::network::run();
+    println!(
+        "\nRunning, best of {}; each call checks its network",
+        bench::running::REPETITIONS
+    );
+    bench::running::run();
 }

@@ -1,11 +1,13 @@
-//! Times two versions in one run, in turns.
+//! Times versions of the same in one run, in turns.
 
 pub mod forms;
+pub mod network;
+pub mod running;
 pub mod taps;
 
 use std::time::Instant;
 
-/// Each repetition times both versions, one after the other; the best time of each counts.
+/// Each repetition times every version, one after the other; the best time of each counts.
 pub const REPETITIONS: usize = 400;
 
 /// Nanoseconds that a run takes.
@@ -15,12 +17,19 @@ fn time(run: &mut dyn FnMut()) -> f64 {
     start.elapsed().as_nanos() as f64
 }
 
-/// The best time of each, the two taking turns to go first.
-pub fn best(run: [&mut dyn FnMut(); 2]) -> [f64; 2] {
-    let mut best = [f64::INFINITY; 2];
-    for turn in 0..2 * REPETITIONS {
-        let which = (turn ^ (turn >> 1)) & 1;
-        best[which] = best[which].min(time(run[which]));
+/// The best time of each, all taking turns to go first.
+pub fn best<const N: usize>(run: [&mut dyn FnMut(); N]) -> [f64; N] {
+    best_of(REPETITIONS, run)
+}
+
+/// The same with so many repetitions.
+pub fn best_of<const N: usize>(repetitions: usize, run: [&mut dyn FnMut(); N]) -> [f64; N] {
+    let mut best = [f64::INFINITY; N];
+    for first in 0..repetitions {
+        for turn in 0..N {
+            let which = (first + turn) % N;
+            best[which] = best[which].min(time(run[which]));
+        }
     }
     best
 }
