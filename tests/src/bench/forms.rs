@@ -71,8 +71,8 @@ fn measure(coefficients: &[i32]) {
 pub fn run() {
     let mut random = Random::new(9);
     let coefficients = (0..RANDOM_COEFFICIENTS).map(|_| mixture::uniform(&mut random));
-    print_head("20000 random coefficients");
+    print_head("20000 random coefficients", &["fast"]);
     measure(&coefficients.collect::<Vec<i32>>());
-    print_head("858993459, 1597 forms");
+    print_head("858993459, 1597 forms", &["fast"]);
     measure(&[858_993_459; 100]);
 }

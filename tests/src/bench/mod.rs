@@ -34,13 +34,27 @@ pub fn best_of<const N: usize>(repetitions: usize, run: [&mut dyn FnMut(); N]) -
     best
 }
 
-pub fn print_head(what: &str) {
-    println!("\n{what:<26}{:>8}{:>8}{:>12}", "core", "fast", "core/fast");
+/// The names of the columns: the core, what it is compared with, and its time over theirs.
+pub fn print_head(what: &str, others: &[&str]) {
+    print!("\n{what:<26}{:>10}", "core");
+    for other in others {
+        print!("{other:>10}");
+    }
+    for other in others {
+        print!("{:>12}", format!("core/{other}"));
+    }
+    println!();
 }
 
-/// Two times, each for so many of something.
-pub fn print(what: &str, times: [f64; 2], many: usize) {
-    let [core, fast] = times.map(|time| time / many as f64);
-    let ratio = core / fast;
-    println!("  {what:<24}{core:8.2}{fast:8.2}{ratio:12.2}");
+/// The times, the core's first, each for so many of something.
+pub fn print<const N: usize>(what: &str, times: [f64; N], many: usize) {
+    let times = times.map(|time| time / many as f64);
+    print!("  {what:<24}");
+    for time in times {
+        print!("{time:10.2}");
+    }
+    for time in &times[1..] {
+        print!("{:12.2}", times[0] / time);
+    }
+    println!();
 }

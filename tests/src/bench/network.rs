@@ -1,4 +1,4 @@
-//! Nanoseconds a call and a row for checking a network.
+//! Nanoseconds a call for checking a network.
 
 use super::{best, print, print_head};
 use fir_tests::answer::ACCEPTED;
@@ -19,9 +19,8 @@ fn measure(rows: usize, calls: usize) {
     let times = best([&mut || check(&network, calls, core::check), &mut || {
         check(&network, calls, fast::check)
     }]);
-    print_head(&format!("{rows} rows, {MOST_TAPS} taps"));
+    print_head(&format!("{rows} rows, {MOST_TAPS} taps"), &["fast"]);
     print("checking, a call", times, calls);
-    print("checking, a row", times, calls * rows);
 }
 
 pub fn run() {

@@ -1,6 +1,6 @@
 //! Nanoseconds a sample, and a sample and tap, for running beside a plain loop and a fast one.
 
-use super::best_of;
+use super::{best_of, print, print_head};
 use fir_tests::answer::ACCEPTED;
 use fir_tests::network::{mixture, Network};
 use fir_tests::random::Random;
@@ -42,20 +42,6 @@ impl Run {
     }
 }
 
-fn print_head(what: &str) {
-    println!(
-        "\n{what:<26}{:>8}{:>8}{:>8}{:>12}{:>12}",
-        "core", "plain", "fast", "core/plain", "core/fast"
-    );
-}
-
-/// Three times, each for so many of something.
-fn print(what: &str, times: [f64; 3], many: usize) {
-    let [core, plain, fast] = times.map(|time| time / many as f64);
-    let [to_plain, to_fast] = [core / plain, core / fast];
-    println!("  {what:<24}{core:8.3}{plain:8.3}{fast:8.3}{to_plain:12.2}{to_fast:12.2}");
-}
-
 fn measure(taps: usize) {
     let mut random = Random::new(19);
     let network = mixture::network_of(&mut random, ROWS, taps);
@@ -70,7 +56,7 @@ fn measure(taps: usize) {
         ],
     );
     assert!(by_core == by_plain && by_plain == by_fast);
-    print_head(&format!("{taps} taps"));
+    print_head(&format!("{taps} taps"), &["plain", "fast"]);
     print("a sample", times, SAMPLES);
     print("a sample and tap", times, SAMPLES * taps);
 }

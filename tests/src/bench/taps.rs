@@ -82,7 +82,7 @@ pub fn run() {
         ("256 random taps", random_taps()),
         ("101-tap Hamming low-pass", low_pass()),
     ] {
-        print_head(what);
+        print_head(what, &["fast"]);
         measure(&taps);
     }
 }

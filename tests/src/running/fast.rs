@@ -1,6 +1,6 @@
 //! Running written by hand for speed: the core's time is compared with this.
 //!
-//! Eight samples a pass, over a window that holds outputs to come and registers alike: a sample adds
+//! Twelve samples a pass, over a window that holds outputs to come and registers alike: a sample adds
 //! its products to the places from its own output on, and nothing is moved before the block ends.
 //! The factors of a product are made unsigned, the coefficient c by adding 2^31 and the sample x by
 //! adding 2^15, so that two products are one instruction. With C and X for these sums,
@@ -13,9 +13,9 @@ use crate::network::fast::examine;
 use crate::network::Network;
 
 /// Samples of a pass.
-const PASS: usize = 8;
+const PASS: usize = 12;
 /// Samples of a block, at the end of which the window is copied back.
-const BLOCK: usize = 512;
+const BLOCK: usize = 43 * PASS;
 /// The places that a pass changes, at most.
 const PLACES: usize = REGISTERS + PASS;
 
@@ -49,7 +49,7 @@ impl Tables {
     }
 }
 
-/// Adds the products of eight samples, each already plus 2^15.
+/// Adds the products of the samples of a pass, each already plus 2^15. Slower where it is inlined.
 #[inline(never)]
 fn pass(tables: &Tables, samples: [u16; PASS], window: &mut [u64]) {
     let sum: u64 = samples.iter().map(|y| *y as u64).sum();
