@@ -4,52 +4,15 @@
 mod rules;
 
 use fir_tests::answer::{Answer, ACCEPTED};
-use fir_tests::network::{call, damage, literal, mixture, Network};
-use fir_tests::network::{MINUS, NONE, PLUS, REVERSED, ROW_WORDS, TAP_WORDS};
+use fir_tests::network::hard::{edges, sheet};
+use fir_tests::network::{damage, literal, mixture, Network};
+use fir_tests::network::{MINUS, PLUS, REVERSED, ROW_WORDS, TAP_WORDS};
 use fir_tests::random::Random;
 use rules::{check, show, Tally};
 use std::collections::HashSet;
 
 const RANDOM_NETWORKS: usize = 8_000;
 const DAMAGED_NETWORKS: usize = 60_000;
-
-/// The network of the paper's sheet.
-fn sheet() -> Network {
-    Network::new(
-        &[[0, 0, 0, PLUS, 1], [0, 0, 1, PLUS, 3], [1, 1, 4, MINUS, 45]],
-        &[[PLUS, 1, 0], [MINUS, 1, 1], [PLUS, 2, 0], [NONE, 0, 0]],
-    )
-}
-
-/// Rows of every sign, at the bounds of value and shift, with a row that no tap uses and two rows of
-/// one value; taps at both ends of the range.
-fn edges() -> Network {
-    Network::new(
-        &[
-            [0, 0, 0, PLUS, 1],
-            [0, 0, 31, MINUS, 0x7fff_ffff],
-            [1, 1, 1, MINUS, 0x7fff_ffff],
-            [0, 0, 1, PLUS, 3],
-            [0, 1, 30, REVERSED, 0x3fff_ffff],
-            [0, 0, 30, PLUS, 0x4000_0001],
-            [3, 5, 30, MINUS, 0x7fff_ffff],
-            [4, 0, 1, PLUS, 0x7fff_ffff],
-            [0, 3, 1, REVERSED, 1],
-            [8, 8, 2, MINUS, 3],
-        ],
-        &[
-            [PLUS, 1, 0],
-            [MINUS, 2, 0],
-            [MINUS, 0, 31],
-            [PLUS, 0, 30],
-            [NONE, 0, 0],
-            [MINUS, 8, 31],
-            [PLUS, 9, 29],
-            [MINUS, 9, 29],
-            [PLUS, 0, 0],
-        ],
-    )
-}
 
 fn refused(network: &Network, refusal: u32, place: u32) {
     let answer = check(network, 256, &mut Tally::default());
@@ -68,6 +31,58 @@ fn figures_of_networks() {
     let middle = 3 << 29;
     let wanted = [most, -most, least, 1 << 30, 0, least, middle, -middle, 1];
     figure(&edges(), &wanted);
+}
+
+/// Rows whose stored value is the one worked out, or its lower 32 bits, and is not within the bounds.
+#[test]
+fn rows_past_the_bounds() {
+    let edge = |left, right, shift, sign, value: i64| {
+        let row = [left, right, shift, sign, value as u32];
+        let largest = [0, 0, 31, MINUS, 0x7fff_ffff];
+        let rows = [[0, 0, 0, PLUS, 1], largest, row];
+        Network::new(&rows, &[[PLUS, 2, 0]])
+    };
+    let largest = (1 << 31) - 1;
+    let past = [
+        edge(0, 0, 31, PLUS, (1 << 31) + 1),
+        edge(0, 1, 1, PLUS, (1 << 31) + 1),
+        edge(1, 0, 1, MINUS, (1 << 32) - 3),
+        edge(1, 0, 1, PLUS, (1 << 32) - 1),
+        edge(1, 1, 31, PLUS, (largest << 31) + largest),
+        edge(1, 1, 31, MINUS, (largest << 31) - largest),
+        edge(1, 1, 31, REVERSED, largest - (largest << 31)),
+        edge(0, 0, 1, REVERSED, -1),
+        edge(1, 1, 2, REVERSED, -3 * largest),
+        edge(0, 1, 1, MINUS, 2 - largest),
+        edge(0, 0, 32, PLUS, (1 << 32) + 1),
+        edge(0, 0, 0, PLUS, 2),
+    ];
+    past.iter().for_each(|network| refused(network, 10, 2));
+    for within in [edge(0, 0, 1, MINUS, 1), edge(1, 1, 1, MINUS, largest)] {
+        assert_eq!(check(&within, 1, &mut Tally::default()), ACCEPTED);
+    }
+}
+
+/// Taps whose product is just within the bounds and just not.
+#[test]
+fn taps_past_the_bounds() {
+    let rows = [[0, 0, 0, PLUS, 1], [0, 0, 31, MINUS, 0x7fff_ffff]];
+    let rows = [&rows[..], &[[0, 0, 1, PLUS, 3]]].concat();
+    let network = |tap| Network::new(&rows, &[[PLUS, 0, 0], tap]);
+    for sign in [PLUS, MINUS] {
+        for (row, most) in [(0, 30), (1, 0), (2, 29)] {
+            for shift in most + 1..=40 {
+                let least = (sign, row, shift) == (MINUS, 0, 31);
+                if !least {
+                    refused(&network([sign, row, shift]), 11, 1);
+                }
+            }
+            let within = network([sign, row, most]);
+            assert_eq!(check(&within, 2, &mut Tally::default()), ACCEPTED);
+        }
+    }
+    let least = network([MINUS, 0, 31]);
+    assert_eq!(check(&least, 2, &mut Tally::default()), ACCEPTED);
 }
 
 /// Each check before the next, with all the later ones broken as well.
@@ -234,15 +249,4 @@ fn assert_pairs(pairs: &str, tally: &Tally, often: usize) {
         println!("{first} beside {second}: {count}");
         assert!(count > often, "{pair}: {count}");
     }
-}
-
-/// Nothing is written where a table is empty.
-#[test]
-fn empty_table() {
-    let outcome = call::run(&sheet(), 0, fir_tests::network::core::coefficients);
-    let answer = Answer {
-        refusal: 3,
-        place: 0,
-    };
-    assert_eq!(outcome, call::wanted(0, &Err(answer)));
 }

@@ -4,7 +4,8 @@ mod calls;
 
 use calls::{Registers, Tally};
 use fir_tests::answer::Answer;
-use fir_tests::network::{mixture as networks, Network, MINUS, NONE, PLUS};
+use fir_tests::network::hard::sheet;
+use fir_tests::network::{mixture as networks, Network, MINUS, PLUS};
 use fir_tests::random::Random;
 use fir_tests::running::call::Call;
 use fir_tests::running::{mixture, REGISTERS};
@@ -13,14 +14,6 @@ const CLEARED: [u64; REGISTERS] = [0; REGISTERS];
 const STREAMS: usize = 1_500;
 const CALLS_OF_A_STREAM: usize = 20;
 const CALLS_ON_ANY_CONTENT: usize = 10_000;
-
-/// The paper's filter: 3, -6, 45, 0.
-fn sheet() -> Network {
-    Network::new(
-        &[[0, 0, 0, PLUS, 1], [0, 0, 1, PLUS, 3], [1, 1, 4, MINUS, 45]],
-        &[[PLUS, 1, 0], [MINUS, 1, 1], [PLUS, 2, 0], [NONE, 0, 0]],
-    )
-}
 
 #[test]
 fn figures_of_running() {

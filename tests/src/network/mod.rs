@@ -4,6 +4,7 @@ pub mod call;
 pub mod core;
 pub mod damage;
 pub mod fast;
+pub mod hard;
 pub mod literal;
 pub mod mixture;
 
