@@ -21,7 +21,7 @@ const SIGNS: [u32; 12] = [
 const SHIFTS: [u32; 10] = [0, 1, 2, 30, 31, 32, 33, 63, 64, u32::MAX];
 const VALUES: [u32; 8] = [0, 1, 2, 3, 0x7fff_ffff, 0x8000_0000, 0x8000_0001, u32::MAX];
 
-/// Just beside a word, one bit away from it, or past 31 bits.
+/// Just beside a word, or a power of two away from it.
 fn beside(word: u32) -> Vec<u32> {
     let near = [1, 2, u32::MAX, u32::MAX - 1, 32, 64, 256];
     let far = [1 << 16, 1 << 31];
@@ -95,13 +95,13 @@ fn exchanged(random: &mut Random, network: &mut Network) {
     }
 }
 
-/// A tap whose product is 2^31, with either sign.
+/// A tap whose product is 2^31 or -2^31.
 fn product_past(random: &mut Random, network: &mut Network) {
     let at = TAP_WORDS * place(random, network.tap_count);
     network.taps[at..at + TAP_WORDS].copy_from_slice(&[random.pick(&[PLUS, MINUS]), 0, 31]);
 }
 
-/// Rows whose value is worked out and is 2^31 or more, or negative.
+/// A row with the lower 32 bits of the value worked out, which is often negative or past 2^31.
 fn value_past(random: &mut Random, network: &mut Network) {
     let i = place(random, network.row_count);
     let shift = 1 + random.below(31) as u32;
@@ -163,7 +163,7 @@ pub fn fields(random: &mut Random, network: &mut Network) {
     }
 }
 
-/// Counts and tables; after this the network may have no rows in its tables.
+/// Counts and tables. The tables may then be shorter than the counts say.
 pub fn counts_and_tables(random: &mut Random, network: &mut Network) {
     let which = 1 + random.below(15);
     if which & 1 != 0 {
