@@ -1,0 +1,5 @@
+-- The statements to read first:
+pub mod Rules
+pub mod Passed
+-- What they and the proofs of the functions rest on:
+pub mod Booleans

@@ -60,22 +60,30 @@ RowRule rows (suc i) = LaterRow rows (suc i)
 abbrev pub isFirst : Row → Bool
 isFirst r = eqb (r .left) 0 && eqb (r .right) 0 && eqb (r .shift) 0 && eqb (r .sign) plus && eqb (r .value) 1
 
+abbrev pub shiftWithin : ℕ → Bool
+shiftWithin s = leb 1 s && leb s 31
+
 -- z is the natural number n
 abbrev pub isNatural : ℤ → ℕ → Bool
 isNatural (pos m) n = eqb m n
 isNatural (negsuc m) n = false
 
+-- the value v is the one that the sign gives for a and b
+abbrev pub isWorked : ℕ → ℕ → ℕ → ℕ → Bool
+isWorked sign a b v = isRowSign sign && isNatural (combined sign (pos a) (pos b)) v
+
+abbrev pub valueWithin : ℕ → Bool
+valueWithin v = eqb (v % 2) 1 && leb 1 v && leb v (2 ^ 31 - 1)
+
 -- shift, sign and value of a later row, left and right being the values of the rows that it names
-abbrev pub isWorked : Row → ℕ → ℕ → Bool
-isWorked r left right =
-    leb 1 (r .shift) && leb (r .shift) 31
-    && isRowSign (r .sign) && isNatural (combined (r .sign) (pos (lifted (r .shift) left)) (pos right)) (r .value)
-    && eqb (r .value % 2) 1 && leb 1 (r .value) && leb (r .value) (2 ^ 31 - 1)
-    && leb (lifted (r .shift) left) (2 ^ 32)
+abbrev pub isSum : Row → ℕ → ℕ → Bool
+isSum r left right =
+    shiftWithin (r .shift) && isWorked (r .sign) (lifted (r .shift) left) right (r .value) && valueWithin (r .value) && leb (lifted (r .shift) left) (2 ^ 32)
 
 abbrev pub isLater : List Row → ℕ → Row → Bool
-isLater rows i r = ltb (r .left) i && ltb (r .right) i && isWorked r (rowIn rows (r .left) .value) (rowIn rows (r .right) .value)
+isLater rows i r = ltb (r .left) i && ltb (r .right) i && isSum r (rowIn rows (r .left) .value) (rowIn rows (r .right) .value)
 
 -- row i of a network keeps the row rule
 unfoldable pub keepsRowRule : List Row → ℕ → Bool
-keepsRowRule rows i = cond (eqb i 0) (isFirst (rowIn rows i)) (isLater rows i (rowIn rows i))
+keepsRowRule rows zero = isFirst (rowIn rows 0)
+keepsRowRule rows (suc i) = isLater rows (suc i) (rowIn rows (suc i))

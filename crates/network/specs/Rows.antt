@@ -50,10 +50,16 @@ pub record Network : Type 0 where
 abbrev pub networkOf : List ℕ → ℕ → List ℕ → ℕ → Network
 networkOf rows rowCount taps tapCount = record { rows = upTo rowCount (rowAt rows); taps = upTo tapCount (tapRowAt taps) }
 
--- row i of a network; where it has none, a row of zeros stands there
-abbrev pub rowIn : List Row → ℕ → Row
-rowIn rows i = getD rows i (record { left = 0; right = 0; shift = 0; sign = none; value = 0 })
+-- what stands where a network has no such row or tap row: zeros
+abbrev pub noRow : Row
+noRow = record { left = 0; right = 0; shift = 0; sign = none; value = 0 }
 
--- tap row j of a network; where it has none, an empty one stands there
+abbrev pub noTap : TapRow
+noTap = record { sign = none; row = 0; shift = 0 }
+
+-- row i and tap row j of a network
+abbrev pub rowIn : List Row → ℕ → Row
+rowIn rows i = getD rows i noRow
+
 abbrev pub tapRowIn : List TapRow → ℕ → TapRow
-tapRowIn taps j = getD taps j (record { sign = none; row = 0; shift = 0 })
+tapRowIn taps j = getD taps j noTap
