@@ -22,3 +22,9 @@ four a b c d e = let p = both (a && b && c) d e in let q = three a b c (p .0) in
 
 pub five : (a b c d f : Bool) → (a && b && c && d && f) ≡ true → (a ≡ true) × (b ≡ true) × (c ≡ true) × (d ≡ true) × (f ≡ true)
 five a b c d f e = let p = both (a && b && c && d) f e in let q = four a b c d (p .0) in (q .0, q .1, q .2, q .3, p .1)
+
+-- two truth values that hold together are the same
+pub same-truth : (a b : Bool) → (a ≡ true → b ≡ true) → (b ≡ true → a ≡ true) → a ≡ b
+same-truth true b f g = sym (f refl)
+same-truth false true f g = g refl
+same-truth false false f g = refl

@@ -3,3 +3,5 @@ pub mod Rules
 pub mod Passed
 -- What they and the proofs of the functions rest on:
 pub mod Booleans
+pub mod RowTests
+pub mod TapTests

@@ -19,11 +19,11 @@ use Rattle.network.proofs.Booleans.{holds, is-true, both, three, four, 
 
 -- ---- rows
 
-natural-is : (z : ℤ) (n : ℕ) → isNatural z n ≡ true → pos n ≡ z
+pub natural-is : (z : ℤ) (n : ℕ) → isNatural z n ≡ true → pos n ≡ z
 natural-is (pos m) n e = ap pos (sym (eqb-true m n e))
 natural-is (negsuc m) n e = absurd (false≢true e)
 
-is-natural : (z : ℤ) (n : ℕ) → pos n ≡ z → isNatural z n ≡ true
+pub is-natural : (z : ℤ) (n : ℕ) → pos n ≡ z → isNatural z n ≡ true
 is-natural z n e = ap (λ (w : ℤ). isNatural w n) (sym e) ∙ eq-eqb n n refl
 
 first-row : (r : Row) → isFirst r ≡ true → FirstRow r

@@ -4,3 +4,4 @@ pub mod Coefficients
 pub mod TapRowRule
 pub mod Check
 pub mod Evaluation
+pub mod Products

@@ -46,9 +46,16 @@ pub record Network : Type 0 where
   pub rows : List Row
   pub taps : List TapRow
 
+-- the first n rows and the first m tap rows of a table
+abbrev pub rowsOf : List ℕ → ℕ → List Row
+rowsOf table n = upTo n (rowAt table)
+
+abbrev pub tapRowsOf : List ℕ → ℕ → List TapRow
+tapRowsOf table m = upTo m (tapRowAt table)
+
 -- the network that two tables hold: as many of their rows and tap rows as the counts say
 abbrev pub networkOf : List ℕ → ℕ → List ℕ → ℕ → Network
-networkOf rows rowCount taps tapCount = record { rows = upTo rowCount (rowAt rows); taps = upTo tapCount (tapRowAt taps) }
+networkOf rows rowCount taps tapCount = record { rows = rowsOf rows rowCount; taps = tapRowsOf taps tapCount }
 
 -- what stands where a network has no such row or tap row: zeros
 abbrev pub noRow : Row

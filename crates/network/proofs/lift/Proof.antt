@@ -1,0 +1,35 @@
+use Prim.Native.Nat.{_%_, _^_}
+use native.Mathlib.Nat.{mul-comm, le-of-lt, lt-of-lt-of-le}
+use lib.Pow.{shl-exact, shl-lt, pow-mono}
+use Prim.Native.Nat.{ℕ, _≤_, _-_, _+_, _*_, _<_}
+use mathlib.Core.Path.{_≡_, refl, sym, ap, subst, _∙_}
+use mathlib.Core.Logic.{⊎-elim}
+use native.Mathlib.Omega.{arith}
+use lib.ListN.{length, length-set, take, drop, set, getD}
+use borrow.Author.Needs.{needs}
+use Rattle.network.proofs.lift.Statement.{statement}
+use Rattle.network.proofs.lift.Tie as tie
+use Rattle.network.proofs.lift.Reads as reads
+use Rattle.network.proofs.lift.Lts as lts
+use Rattle.network.proofs.wide.Reads as wide-reads
+
+-- src/lib.rt:89:5
+wide-requires : tie.Need-wide-requires
+wide-requires c κs = search needs
+
+-- src/lib.rt:89:5
+shl-result : tie.Need-shl-result
+shl-result c = search needs
+
+-- src/lib.rt:85:1
+returns : tie.Need-returns
+returns c =
+    let s = c .before .args .s in
+    let v = c .before .args .value in
+    let e : (c .wide .result * 2 ^ s) % 18446744073709551616 ≡ v * 2 ^ s =
+    ap (λ (n : ℕ). (n * 2 ^ s) % 18446744073709551616) (c .wide .ensures) ∙ shl-exact 32 s 64 (c .before .fits .value .fits) (omega arith) in
+    let l : v * 2 ^ s < 9223372036854775808 = lt-of-lt-of-le (shl-lt 32 s (c .before .fits .value .fits)) (pow-mono {j = 63} (omega arith)) in
+    (e ∙ mul-comm v (2 ^ s), omega (arith, e, l))
+
+pub lift-spec : {M : Type 1} → statement M
+lift-spec = tie.close (tie.spec wide-requires shl-result returns)
