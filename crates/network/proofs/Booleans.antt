@@ -1,6 +1,6 @@
 -- Truth values: what holds of each part of a conjunction that holds. Assumes nothing.
 use mathlib.Core.Path.{_≡_, refl, sym, subst}
-use mathlib.Core.Bool.{Bool, true, false, _&&_, _||_, false≢true}
+use mathlib.Core.Bool.{Bool, true, false, _&&_, false≢true}
 use lib.Dec.{T}
 
 pub holds : (b : Bool) → b ≡ true → T b

@@ -1,17 +1,16 @@
 -- The computed rules are the rules in document 01's words: `row-rule` and `row-kept`, `tap-rule` and `tap-kept`. Assumes nothing.
 use mathlib.Core.Path.{_≡_, refl, sym, ap, _∙_}
-use mathlib.Core.Bool.{Bool, true, false, cond, _&&_, _||_, false≢true}
+use mathlib.Core.Bool.{Bool, true, false, _||_, false≢true}
 use mathlib.Core.List.{List}
-use Prim.Native.Nat.{ℕ, zero, suc, _-_, _%_, _^_, _≤_, _<_}
-use native.Mathlib.Omega.{arith}
+use Prim.Native.Nat.{ℕ, zero, suc, _-_, _%_, _^_}
 use borrow.Author.Tests.{ltb-true, leb-true, eqb-true, lt-ltb, le-leb, eq-eqb}
-use lib.Dec.{T, eqb, leb, ltb}
+use lib.Dec.{eqb, leb, ltb}
 use lib.IntN.{ℤ, pos, negsuc, negℤ}
 use lib.ListN.{length}
 use lib.Signed.{leZ}
 use Rattle.network.specs.declared.Row.{Row}
 use Rattle.network.specs.declared.TapRow.{TapRow}
-use Rattle.network.specs.Rows.{none, plus, minus, rowIn}
+use Rattle.network.specs.Rows.{none, plus, rowIn}
 use Rattle.network.specs.RowRule.{combined, isRowSign, lifted, FirstRow, LaterRow, RowRule, isFirst, shiftWithin, isNatural, isWorked, valueWithin, isSum, isLater, keepsRowRule}
 use Rattle.network.specs.Coefficients.{coefficientOf}
 use Rattle.network.specs.TapRowRule.{isTapSign, EmptyTap, ProductTap, TapRowRule, is-empty, is-product, isEmpty, withinBounds, isProduct, keepsTapRowRule}

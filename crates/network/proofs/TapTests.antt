@@ -14,9 +14,9 @@ use mir.ValLaws.{toZ-neg}
 use Rattle.network.specs.declared.Row.{Row}
 use Rattle.network.specs.declared.TapRow.{TapRow}
 use Rattle.network.specs.declared.tap_row_rule.TapProduct.the-variants.{Coefficient, Broken}
-use Rattle.network.specs.Rows.{none, plus, minus, rowIn}
+use Rattle.network.specs.Rows.{none, plus, minus}
 use Rattle.network.specs.Coefficients.{signed, coefficientOf}
-use Rattle.network.specs.TapRowRule.{isTapSign, isEmpty, withinBounds, isProduct, keepsTapRowRule}
+use Rattle.network.specs.TapRowRule.{isTapSign, withinBounds, isProduct, keepsTapRowRule}
 use Rattle.network.specs.Products.{productIf, productOf}
 
 -- ---- a number p with a sign
@@ -101,3 +101,21 @@ module _ (rows : List Row) (t : TapRow) where
         ap (λ (b : Bool). productIf b (coefficientOf rows t))
         (others (isTapSign (t .sign)) (ltb (t .row) (length rows)) (leb (t .shift) 31) (withinBounds (coefficientOf rows t)) (lt-ltb (t .row) (length rows) l) (le-leb (t .shift) 31 m))
         ∙ product-is
+
+-- ---- what a product that was read tells
+
+if-coefficient : (b : Bool) (z y : ℤ) → productIf b z ≡ Coefficient y → (b ≡ true) × (y ≡ z)
+if-coefficient true z y e = (refl, cc)
+if-coefficient false z y e = let q : _≡_ {A = ℕ} 0 1 = cc in absurd (omega arith)
+
+if-broken : (b : Bool) (z : ℤ) → productIf b z ≡ Broken → b ≡ false
+if-broken true z e = let q : _≡_ {A = ℕ} 0 1 = cc in absurd (omega arith)
+if-broken false z e = refl
+
+pub product-kept : (rows : List Row) (t : TapRow) (y : ℤ) → productOf rows t ≡ Coefficient y → (keepsTapRowRule rows t ≡ true) × (y ≡ coefficientOf rows t)
+unfolding productOf
+product-kept rows t y e = if-coefficient (keepsTapRowRule rows t) (coefficientOf rows t) y e
+
+pub product-broken : (rows : List Row) (t : TapRow) → productOf rows t ≡ Broken → keepsTapRowRule rows t ≡ false
+unfolding productOf
+product-broken rows t e = if-broken (keepsTapRowRule rows t) (coefficientOf rows t) e

@@ -1,27 +1,18 @@
-use Prim.Native.Nat.{_%_, _^_}
-use native.Mathlib.Nat.{mul-comm, le-of-lt, lt-of-lt-of-le}
+use Prim.Native.Nat.{_%_, _^_, ℕ, _*_, _<_}
+use native.Mathlib.Nat.{mul-comm, lt-of-lt-of-le}
 use lib.Pow.{shl-exact, shl-lt, pow-mono}
-use Prim.Native.Nat.{ℕ, _≤_, _-_, _+_, _*_, _<_}
-use mathlib.Core.Path.{_≡_, refl, sym, ap, subst, _∙_}
-use mathlib.Core.Logic.{⊎-elim}
+use mathlib.Core.Path.{_≡_, ap, _∙_}
 use native.Mathlib.Omega.{arith}
-use lib.ListN.{length, length-set, take, drop, set, getD}
 use borrow.Author.Needs.{needs}
 use Rattle.network.proofs.lift.Statement.{statement}
 use Rattle.network.proofs.lift.Tie as tie
-use Rattle.network.proofs.lift.Reads as reads
-use Rattle.network.proofs.lift.Lts as lts
-use Rattle.network.proofs.wide.Reads as wide-reads
 
--- src/lib.rt:89:5
 wide-requires : tie.Need-wide-requires
 wide-requires c κs = search needs
 
--- src/lib.rt:89:5
 shl-result : tie.Need-shl-result
 shl-result c = search needs
 
--- src/lib.rt:85:1
 returns : tie.Need-returns
 returns c =
     let s = c .before .args .s in

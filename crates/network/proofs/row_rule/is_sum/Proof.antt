@@ -1,39 +1,23 @@
 use Rattle.network.proofs.RowTests.{sum-shift, sum-tests}
-use Prim.Native.Nat.{ℕ, _≤_, _-_, _+_, _*_, _<_}
-use mathlib.Core.Path.{_≡_, refl, sym, ap, subst, _∙_}
-use mathlib.Core.Logic.{⊎-elim}
-use native.Mathlib.Omega.{arith}
-use lib.ListN.{length, length-set, take, drop, set, getD}
 use borrow.Author.Needs.{needs}
 use Rattle.network.proofs.row_rule.is_sum.Statement.{statement}
 use Rattle.network.proofs.row_rule.is_sum.Tie as tie
-use Rattle.network.proofs.row_rule.is_sum.Reads as reads
-use Rattle.network.proofs.row_rule.is_sum.Lts as lts
-use Rattle.network.proofs.lift.Reads as lift-reads
-use Rattle.network.proofs.row_rule.is_worked.Reads as is-worked-reads
-use Rattle.network.proofs.wide.Reads as wide-reads
 
--- src/row_rule.rt:31:9
 returns : tie.Need-returns
 returns c = let a = c .before .before .args in sum-shift (a .row) (a .left) (a .right) (c .if1 .taken)
 
--- src/row_rule.rt:33:9
 lift-requires : tie.Need-lift-requires
 lift-requires c κs = search needs
 
--- src/row_rule.rt:35:34
 wide-requires : tie.Need-wide-requires
 wide-requires c κs = search needs
 
--- src/row_rule.rt:35:54
 wide-requires-2 : tie.Need-wide-requires-2
 wide-requires-2 c κs = search needs
 
--- src/row_rule.rt:35:11
 is-worked-requires : tie.Need-is-worked-requires
 is-worked-requires c κs = search needs
 
--- src/row_rule.rt:27:1
 returns-2 : tie.Need-returns-2
 returns-2 c =
     let w = c .before .before .before in

@@ -2,37 +2,26 @@ use mir.Syntax.{w32}
 use mir.ValLaws.{toZ-pos, toZ-ofZ}
 use Rattle.network.specs.declared.tap_row_rule.TapProduct.the-variants.{Coefficient}
 use Rattle.network.proofs.TapTests.{plus-within, plus-outside, minus-within, minus-outside, no-sign}
-use Prim.Native.Nat.{ℕ, _≤_, _-_, _+_, _*_, _<_}
-use mathlib.Core.Path.{_≡_, refl, sym, ap, subst, _∙_}
-use mathlib.Core.Logic.{⊎-elim}
+use mathlib.Core.Path.{ap, _∙_}
 use native.Mathlib.Omega.{arith}
-use lib.ListN.{length, length-set, take, drop, set, getD}
 use borrow.Author.Needs.{needs}
 use Rattle.network.proofs.tap_row_rule.signed_product.Statement.{statement}
 use Rattle.network.proofs.tap_row_rule.signed_product.Tie as tie
-use Rattle.network.proofs.tap_row_rule.signed_product.Reads as reads
-use Rattle.network.proofs.tap_row_rule.signed_product.Lts as lts
-use Rattle.network.proofs.tap_row_rule.negated.Reads as negated-reads
 
--- src/tap_row_rule.rt:37:44
 cast-t5 : tie.Need-cast-t5
 cast-t5 c = search needs
 
--- src/tap_row_rule.rt:37:13
 returns : tie.Need-returns
 returns c =
     let a = c .before .before .args in
     ap Coefficient (toZ-pos w32 (a .p) (omega arith)) ∙ plus-within (a .sign) (a .p) (c .before .if1 .taken) (c .if2 .taken)
 
--- src/tap_row_rule.rt:39:9
 returns-2 : tie.Need-returns-2
 returns-2 c = let a = c .before .before .args in plus-outside (a .sign) (a .p) (c .before .if1 .taken) (c .if2 .left)
 
--- src/tap_row_rule.rt:43:44
 negated-requires : tie.Need-negated-requires
 negated-requires c κs = search needs
 
--- src/tap_row_rule.rt:43:13
 returns-3 : tie.Need-returns-3
 returns-3 c =
     let f = c .before .before in
@@ -40,14 +29,12 @@ returns-3 c =
     ap Coefficient (toZ-ofZ w32 (c .negated .result) (record { sfits = c .negated .ok }) ∙ c .negated .ensures)
     ∙ minus-within (a .sign) (a .p) (f .before .if1 .left) (f .if3 .taken) (c .before .if4 .taken)
 
--- src/tap_row_rule.rt:45:9
 returns-4 : tie.Need-returns-4
 returns-4 c =
     let f = c .before in
     let a = f .before .before .args in
     minus-outside (a .sign) (a .p) (f .before .if1 .left) (f .if3 .taken) (c .if4 .left)
 
--- src/tap_row_rule.rt:32:1
 returns-5 : tie.Need-returns-5
 returns-5 c = let a = c .before .before .args in no-sign (a .sign) (a .p) (c .before .if1 .left) (c .if3 .left)
 

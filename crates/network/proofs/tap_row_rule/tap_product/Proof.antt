@@ -9,31 +9,19 @@ use Rattle.network.specs.Coefficients.{signed, coefficientOf}
 use Rattle.network.specs.TapRowRule.{isTapSign, withinBounds}
 use Rattle.network.specs.Products.{productIf, productOf}
 use Rattle.network.proofs.TapTests.{tap-empty, tap-row, tap-shift, tap-signed}
-use Prim.Native.Nat.{ℕ, _≤_, _-_, _+_, _*_, _<_}
-use mathlib.Core.Path.{_≡_, refl, sym, ap, subst, _∙_}
-use mathlib.Core.Logic.{⊎-elim}
+use Prim.Native.Nat.{ℕ, _<_}
+use mathlib.Core.Path.{_≡_, sym, ap, _∙_}
 use native.Mathlib.Omega.{arith}
-use lib.ListN.{length, length-set, take, drop, set, getD}
 use borrow.Author.Needs.{needs}
 use Rattle.network.proofs.tap_row_rule.tap_product.Statement.{statement}
 use Rattle.network.proofs.tap_row_rule.tap_product.Tie as tie
-use Rattle.network.proofs.tap_row_rule.tap_product.Reads as reads
-use Rattle.network.proofs.tap_row_rule.tap_product.Lts as lts
-use Rattle.network.proofs.lift.Reads as lift-reads
-use Rattle.network.proofs.number.Reads as number-reads
-use Rattle.network.proofs.read_tap_row.Reads as read-tap-row-reads
-use Rattle.network.proofs.read_value.Reads as read-value-reads
-use Rattle.network.proofs.tap_row_rule.signed_product.Reads as signed-product-reads
 
--- src/tap_row_rule.rt:55:9
 read-tap-row-requires : tie.Need-read-tap-row-requires
 read-tap-row-requires c κs = search needs
 
--- src/tap_row_rule.rt:56:9
 number-requires : tie.Need-number-requires
 number-requires c κs = search needs
 
--- src/tap_row_rule.rt:59:13
 returns : tie.Need-returns
 returns c =
     let f = c .before .before in
@@ -47,7 +35,6 @@ returns c =
     ∙ tap-empty rows p (f .if1 .taken)
     ∙ ap (productOf rows) (t .read-tap-row .ensures)
 
--- src/tap_row_rule.rt:61:9
 returns-2 : tie.Need-returns-2
 returns-2 c =
     let f = c .before .before in
@@ -61,7 +48,6 @@ returns-2 c =
     ∙ tap-empty rows p (f .if1 .taken)
     ∙ ap (productOf rows) (t .read-tap-row .ensures)
 
--- src/tap_row_rule.rt:64:9
 returns-3 : tie.Need-returns-3
 returns-3 c =
     let f = c .before in
@@ -71,7 +57,6 @@ returns-3 c =
     let rows = rowsOf (a .rows .now) (a .n) in
     tap-row rows (t .read-tap-row .result) (f .if1 .left) (omega (arith, c .if3 .taken, m .number .ensures, length-upTo (a .n) (rowAt (a .rows .now)))) ∙ ap (productOf rows) (t .read-tap-row .ensures)
 
--- src/tap_row_rule.rt:67:9
 returns-4 : tie.Need-returns-4
 returns-4 c =
     let f = c .before .before .before in
@@ -81,19 +66,15 @@ returns-4 c =
     let rows = rowsOf (a .rows .now) (a .n) in
     tap-shift rows (t .read-tap-row .result) (f .if1 .left) (c .if4 .taken) ∙ ap (productOf rows) (t .read-tap-row .ensures)
 
--- src/tap_row_rule.rt:69:53
 read-value-requires : tie.Need-read-value-requires
 read-value-requires c κs = search needs
 
--- src/tap_row_rule.rt:69:30
 lift-requires : tie.Need-lift-requires
 lift-requires c κs = search needs
 
--- src/tap_row_rule.rt:69:5
 signed-product-requires : tie.Need-signed-product-requires
 signed-product-requires c κs = search needs
 
--- src/tap_row_rule.rt:51:1
 returns-5 : tie.Need-returns-5
 unfolding coefficientOf
 returns-5 c =
