@@ -11,10 +11,9 @@ use lib.ListN.{length, take, drop, replicate, length-append, length-replicate}
 use lib.Seq.{take-at}
 use Rattle.refusal.specs.Answer.{Answer, given, refused, refuseIf, refuseAt, Place, nowhere, at-place, lowest, filled}
 use Rattle.refusal.proofs.Checks.{check-applies, check-passes}
-use Rattle.refusal.proofs.Tables.{length-map}
 use Rattle.sequence.proofs.UpTo.{length-upTo}
-use Rattle.network.specs.Rows.{rowWords, tapWords, rowAt, tapRowAt, rowsOf, tapRowsOf, networkOf}
-use Rattle.network.specs.Coefficients.{coefficientOf, coefficients}
+use Rattle.network.specs.Rows.{rowWords, tapWords, rowAt, rowsOf, tapRowsOf, networkOf}
+use Rattle.network.specs.Coefficients.{coefficients}
 use Rattle.network.specs.Check.{breaksRowRule, breaksTapRowRule, numbers, checked, shortTables, networkAnswer, outcome}
 use Rattle.network_check.specs.Steps.{isGiven, padded, Holds}
 
@@ -38,9 +37,6 @@ zeros-left (suc m) (suc n) = zeros-left m n ∙ ap (λ (k : ℕ). replicate k (p
   where
     less-one : (m n : ℕ) → n - m ≡ suc n - suc m
     less-one m n = omega arith
-
-pub length-coefficients : (rows : List ℕ) (n : ℕ) (taps : List ℕ) (m : ℕ) → length (coefficients (networkOf rows n taps m)) ≡ m
-length-coefficients rows n taps m = length-map (coefficientOf (rowsOf rows n)) (tapRowsOf taps m) ∙ length-upTo m (tapRowAt taps)
 
 pub padded-is : (h old : List ℤ) (m : ℕ) → length h ≡ m → old ≡ replicate 256 (pos 0) → h ++ drop m old ≡ padded h
 unfolding padded

@@ -1,3 +1,4 @@
+-- `network_check::fill` meets its contract. The invariant: none of the taps passed breaks the rule, and the buffer's front holds their coefficients. Assumes nothing.
 use mathlib.Core.Bool.{not}
 use mathlib.Core.List.{List, _++_, map}
 use lib.IntN.{ℤ}

@@ -1,3 +1,4 @@
+-- `network_check::first_broken_row` meets its contract. The invariant: none of the rows passed breaks the rule. Assumes nothing.
 use mathlib.Core.Bool.{not}
 use Rattle.network.specs.Rows.{rowsOf}
 use Rattle.network.specs.Check.{breaksRowRule}

@@ -1,3 +1,4 @@
+-- `network::tap_row_rule::signed_product` meets its contract: each return is a law of proofs/TapTests.antt. Assumes nothing.
 use mir.Syntax.{w32}
 use mir.ValLaws.{toZ-pos, toZ-ofZ}
 use Rattle.network.specs.declared.tap_row_rule.TapProduct.the-variants.{Coefficient}

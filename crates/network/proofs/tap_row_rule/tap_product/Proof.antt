@@ -1,3 +1,4 @@
+-- `network::tap_row_rule::tap_product` meets its contract: each return is a law of proofs/TapTests.antt. Assumes nothing.
 use mathlib.Core.Bool.{Bool, _&&_}
 use lib.Dec.{eqb}
 use lib.IntN.{ℤ, pos}
