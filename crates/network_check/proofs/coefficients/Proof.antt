@@ -11,7 +11,8 @@ use Rattle.network.specs.Check.{networkAnswer}
 use Rattle.network.proofs.Passed.{Accepted, given-accepted}
 use Rattle.network.proofs.Given.{length-coefficients}
 use Rattle.network_check.specs.Steps.{isGiven}
-use Rattle.network_check.proofs.Answers.{Result, result, length-padded, copied, unchanged}
+use Rattle.network_check.proofs.Padded.{length-padded}
+use Rattle.network_check.proofs.Answers.{Result, result, copied, unchanged}
 use mathlib.Core.Path.{_≡_, sym, ap, _∙_}
 use lib.ListN.{length}
 use borrow.Author.Needs.{needs}

@@ -8,7 +8,8 @@ use Rattle.network.specs.Check.{breaksRowRule, breaksTapRowRule, numbers, check
 use Rattle.network.proofs.Given.{length-coefficients}
 use Rattle.network_check.specs.Steps.{Holds}
 use Rattle.network_check.proofs.Scans.{scan-found, scan-none}
-use Rattle.network_check.proofs.Answers.{turned, padded-is, no-rows, many-rows, broken-row, broken-tap, kept}
+use Rattle.network_check.proofs.Padded.{padded-is}
+use Rattle.network_check.proofs.Answers.{turned, no-rows, many-rows, broken-row, broken-tap, kept}
 use Prim.Native.Nat.{ℕ}
 use mathlib.Core.Path.{_≡_, ap, subst, _∙_}
 use borrow.Author.Needs.{needs}
