@@ -9,6 +9,8 @@
  *   3 a lent table is too short      7 the sum is zero, infinite or not a number (place 0),
  *   4 more than 31 fraction bits       or a quotient is infinite
  *   8 the masks of a form overlap (place: the lowest digit that is in both)
+ *  10 a row breaks the row rule, or there are none or more than 4096 rows (place 0)
+ *  11 a tap row breaks the tap row rule
  * Where nothing else is said, the lower half is the place of the refusal, counted from 0, and 0
  * where the call is accepted. A call that is turned down changes no memory. */
 #ifndef FIR_H
@@ -65,6 +67,28 @@ uint64_t fir_minimal_forms(int32_t n, uint32_t *plus, size_t plus_count, uint32_
 
 /* How many minimal forms n has, without listing them. Nothing is turned down. */
 uint64_t fir_form_count(int32_t n, uint32_t *count);
+
+/* A network, in two tables. A row is five words: left, right, shift, sign and value; row i starts at
+ * rows[5 * i]. Row 0 is 0, 0, 0, '+', 1. A later row names two earlier rows, a shift s from 1 to 31
+ * and a sign; with the values of those two rows, '+' is 2^s * left + right, '-' is
+ * 2^s * left - right, 'r' is right - 2^s * left. That is its value, which is odd and from 1 to
+ * 2^31 - 1, and 2^s * left is at most 2^32. A tap row is three words: sign, row and shift; tap row j
+ * starts at taps[3 * j]. It is 0, 0, 0 for a coefficient of 0, or '+' or '-', a row of the network
+ * and a shift from 0 to 31, and its coefficient is sign * value * 2^shift, from -2^31 to 2^31 - 1.
+ *   rows[rows_length]  at least 20480 words, of which row_count rows are the network's
+ *   taps[taps_length]  at least 768 words, of which tap_count tap rows are the network's
+ * What lies past them in the tables does not matter. */
+
+/* Whether the tables hold a network that keeps the rules. Turned down with 1, 2, 3, 10 or 11. */
+uint64_t fir_check(const uint32_t *rows, size_t rows_length, size_t row_count,
+                   const uint32_t *taps, size_t taps_length, size_t tap_count);
+
+/* The coefficients of such a network: tap_count of them are written, from the start of
+ * coefficients[coefficient_count], which is untouched past them. Turned down with 1, 2, 3, 10 or
+ * 11. */
+uint64_t fir_coefficients(const uint32_t *rows, size_t rows_length, size_t row_count,
+                          const uint32_t *taps, size_t taps_length, size_t tap_count,
+                          int32_t *coefficients, size_t coefficient_count);
 
 #ifdef __cplusplus
 }

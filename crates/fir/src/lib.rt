@@ -2,4 +2,5 @@
 mod answers;
 mod coefficients;
 mod forms;
+mod networks;
 mod taps;
