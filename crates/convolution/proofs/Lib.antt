@@ -1,0 +1,5 @@
+pub mod Words
+pub mod Sizes
+pub mod Terms
+pub mod Steps
+pub mod Theorems
