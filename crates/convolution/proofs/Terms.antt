@@ -44,11 +44,11 @@ from-next h xs x k =
     let n = length h in
     let f : ℕ → ℤ = λ j. getD h (k + j) (pos 0) *ℤ before (xs ++ (x ∷ [])) j in
     let none : f n ≡ pos 0 =
-        ap (λ a. a *ℤ before (xs ++ (x ∷ [])) n) (List·getD-eq-default h (pos 0) {n = k + n} (omega arith)) ∙ zero-*ℤ (before (xs ++ (x ∷ [])) n) in
+    ap (λ a. a *ℤ before (xs ++ (x ∷ [])) n) (List·getD-eq-default h (pos 0) {n = k + n} (omega arith)) ∙ zero-*ℤ (before (xs ++ (x ∷ [])) n) in
     let first : f 0 ≡ getD h k (pos 0) *ℤ x =
-        ap₂ (λ i p. getD h i (pos 0) *ℤ getD p 0 (pos 0)) (let e : k + 0 ≡ k = omega arith in e) (reverse-snoc xs x) in
+    ap₂ (λ i p. getD h i (pos 0) *ℤ getD p 0 (pos 0)) (let e : k + 0 ≡ k = omega arith in e) (reverse-snoc xs x) in
     let rest : sumBelow n (λ j. f (suc j)) ≡ sumFrom h xs (suc k) =
-        ap (sumBelow n) (fun-ext (λ j. ap₂ (λ i p. getD h i (pos 0) *ℤ getD p (suc j) (pos 0)) (let e : k + suc j ≡ suc k + j = omega arith in e) (reverse-snoc xs x))) in
+    ap (sumBelow n) (fun-ext (λ j. ap₂ (λ i p. getD h i (pos 0) *ℤ getD p (suc j) (pos 0)) (let e : k + suc j ≡ suc k + j = omega arith in e) (reverse-snoc xs x))) in
     sym (+ℤ-idr (sumBelow n f)) ∙ ap (λ z. sumBelow n f +ℤ z) (sym none) ∙ sum-front n f ∙ ap₂ _+ℤ_ rest first
 
 -- no samples: nothing

@@ -127,5 +127,5 @@ module _ (h : List ℤ) (few : length h ≤ 256) (sized : Within w32 h) (r₀ : 
   outputs-exact (x ∷ xs) acc r past f i =
       let past′ = within-snoc acc x past (f 0) in
       let o : toZ w64 (sumAt h x r 0) ≡ outputSum h (acc ++ (x ∷ [])) =
-          ap (toZ w64) (output-is h few r₀ acc r x i) ∙ exact (acc ++ (x ∷ [])) (length acc) 0 past′ ∙ sym (output-from h (acc ++ (x ∷ []))) in
+      ap (toZ w64) (output-is h few r₀ acc r x i) ∙ exact (acc ++ (x ∷ [])) (length acc) 0 past′ ∙ sym (output-from h (acc ++ (x ∷ []))) in
       ap₂ _∷_ o (outputs-exact xs (acc ++ (x ∷ [])) (next h x r) past′ (λ k. f (suc k)) (holds-next h few r₀ acc r x i))

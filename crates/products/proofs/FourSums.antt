@@ -77,8 +77,8 @@ module _ (v a0 a1 a2 a3 y0 y1 y2 y3 : ℕ) (h0 : a0 < 4294967296) (h1 : a1 < 429
       let e = 1125899906842624 - 32768 * (a0 + a1 + a2 + a3) in
       let z = sampleCorrection y0 y1 y2 y3 in
       let k : cost a0 y0 + cost a1 y1 + cost a2 y2 + cost a3 y3 ≡ (e + z) + 55340232221128654848 =
-          costs a0 a1 a2 a3 y0 y1 y2 y3 (cost a0 y0) (cost a1 y1) (cost a2 y2) (cost a3 y3) e z (cost-exact a0 y0 h0 g0) (cost-exact a1 y1 h1 g1)
-          (cost-exact a2 y2 h2 g2) (cost-exact a3 y3 h3 g3) (coefficient-exact a0 a1 a2 a3 h0 h1 h2 h3) (sample-exact y0 y1 y2 y3 g0 g1 g2 g3) in
+      costs a0 a1 a2 a3 y0 y1 y2 y3 (cost a0 y0) (cost a1 y1) (cost a2 y2) (cost a3 y3) e z (cost-exact a0 y0 h0 g0) (cost-exact a1 y1 h1 g1)
+      (cost-exact a2 y2 h2 g2) (cost-exact a3 y3 h3 g3) (coefficient-exact a0 a1 a2 a3 h0 h1 h2 h3) (sample-exact y0 y1 y2 y3 g0 g1 g2 g3) in
       three-more (v + (a0 * y0 + a1 * y1 + a2 * y2 + a3 * y3)) (cost a0 y0 + cost a1 y1 + cost a2 y2 + cost a3 y3) (e + z) k
       ∙ ap (λ n. n % 18446744073709551616) (spread v (a0 * y0) (a1 * y1) (a2 * y2) (a3 * y3) (cost a0 y0) (cost a1 y1) (cost a2 y2) (cost a3 y3)) ∙ sym sums
 

@@ -1,0 +1,29 @@
+// The coefficients in offset binary, with four zeros before and after them, and the corrections.
+ghost use mathlib.Core.Path.{_≡_};
+ghost use lib.ListN.{length, replicate};
+ghost use Rattle.kernel.specs.Tables.{coefficientsIn, Padded, Corrected};
+use products::coefficient_correction;
+use products::offset_coefficient;
+
+// Fills a table that holds zeros in offset binary.
+pub fn offset_all(h: &[i32; 256], c: &mut [u64; 264])
+    requires { ⌜ (length (now h) ≡ 256) × (now c ≡ replicate 264 2147483648) ⌝ }
+    ensures { λ _. ⌜ (Padded (now (c .exit))) × (coefficientsIn (now (c .exit)) ≡ now (h .entry)) ⌝ }
+{
+    let mut k: usize = 0;
+    while k < 256 {
+        c[k + 4] = offset_coefficient(h[k]);
+        k += 1;
+    }
+}
+
+pub fn corrections(c: &[u64; 264], t: &mut [u64; 260])
+    requires { ⌜ length (now t) ≡ 260 ⌝ }
+    ensures { λ _. ⌜ Corrected (now (c .entry)) (now (t .exit)) ⌝ }
+{
+    let mut j: usize = 0;
+    while j < 260 {
+        t[j] = coefficient_correction(c[j + 4], c[j + 3], c[j + 2], c[j + 1]);
+        j += 1;
+    }
+}
