@@ -1,6 +1,1 @@
-pub mod Fronts
-pub mod Quiets
-pub mod Places
-pub mod Moves
 pub mod Passes
-pub mod Filling

@@ -12,7 +12,7 @@ use mir.Syntax.{w64}
 use mir.Val.{toZ}
 use Rattle.convolution.specs.Running.{sumAt, next, outputsOf, registersOf}
 use Rattle.convolution.proofs.Steps.{length-outputs}
-use Rattle.kernel.specs.Tables.{after4}
+use Rattle.passes.specs.Tables.{after4}
 
 -- ---- one sample
 
@@ -27,17 +27,6 @@ module _ (h xs : List ℤ) (r : List ℕ) (i : ℕ) (l : i < length xs) (new : L
   one-outputs outs v q = rw (add-one i, drop-cons xs i (pos 0) l, e, q)
 
 -- ---- four samples
-
-pub four-outputs : (h : List ℤ) (r : List ℕ) (x0 x1 x2 x3 : ℤ) (outs : List ℤ) (i : ℕ) (o0 o1 o2 o3 : ℤ) → o0 ≡ toZ w64 (sumAt h x0 r 0)
-    → o1 ≡ toZ w64 (sumAt h x1 (next h x0 r) 0) → o2 ≡ toZ w64 (sumAt h x2 (next h x1 (next h x0 r)) 0)
-    → o3 ≡ toZ w64 (sumAt h x3 (next h x2 (next h x1 (next h x0 r))) 0)
-    → set (set (set (set outs i o0) (i + 1) o1) (i + 2) o2) (i + 3) o3 ≡ sets outs i (outputsOf h r (x0 ∷ x1 ∷ x2 ∷ x3 ∷ []))
-unfolding outputsOf
-four-outputs h r x0 x1 x2 x3 outs i o0 o1 o2 o3 e0 e1 e2 e3 =
-    let q1 : i + 1 ≡ suc i = omega arith in
-    let q2 : i + 2 ≡ suc (suc i) = omega arith in
-    let q3 : i + 3 ≡ suc (suc (suc i)) = omega arith in
-    rw (q1, q2, q3, e0, e1, e2, e3)
 
 module _ (h xs : List ℤ) (r : List ℕ) (i : ℕ) (l : i + 4 ≤ length xs) where
   abbrev x0 : ℤ
@@ -91,15 +80,6 @@ pub all-outputs : (h xs : List ℤ) (r : List ℕ) (outs : List ℤ) → length 
 all-outputs h xs r outs l =
     sets-eq (outputsOf h r xs) outs 0 (omega (arith, length-outputs h r xs))
     ∙ ap (λ n. outputsOf h r xs ++ drop n outs) (zero-add (length (outputsOf h r xs)) ∙ length-outputs h r xs)
-
--- ---- the same samples by other names
-
-module _ (h : List ℤ) (r : List ℕ) (x0 x1 x2 x3 y0 y1 y2 y3 : ℤ) (e0 : y0 ≡ x0) (e1 : y1 ≡ x1) (e2 : y2 ≡ x2) (e3 : y3 ≡ x3) where
-  pub same-registers : after4 h y0 y1 y2 y3 r ≡ after4 h x0 x1 x2 x3 r
-  same-registers = rw (e0, e1, e2, e3)
-
-  pub same-outputs : (outs : List ℤ) (i : ℕ) → sets outs i (outputsOf h r (y0 ∷ y1 ∷ y2 ∷ y3 ∷ [])) ≡ sets outs i (outputsOf h r (x0 ∷ x1 ∷ x2 ∷ x3 ∷ []))
-  same-outputs outs i = rw (e0, e1, e2, e3)
 
 -- ---- the same coefficients by another name
 

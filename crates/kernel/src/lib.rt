@@ -7,13 +7,8 @@ ghost use Prim.Native.Nat.{_≤_, _<_};
 ghost use lib.ListN.{length, drop};
 ghost use lib.Seq.{sets};
 ghost use Rattle.convolution.specs.Running.{next, outputsOf, registersOf};
-ghost use Rattle.kernel.specs.Tables.{coefficientsIn, Padded, Corrected};
-ghost use Rattle.kernel.specs.Quiet.{Quiet};
-
-mod pass;
-mod tables;
-mod width;
-
+ghost use Rattle.passes.specs.Tables.{coefficientsIn, Padded, Corrected};
+ghost use Rattle.passes.specs.Quiet.{Quiet};
 use products::signed;
 use products::sum;
 
@@ -22,7 +17,7 @@ fn move_one(h: &[i32; 256], x: i16, w: usize, registers: &mut [u64])
     requires { ⌜ (length (now h) ≡ 256) × ((256 ≤ length (now registers)) × (Quiet w (now h) (now registers))) ⌝ }
     ensures { λ _. ⌜ now (registers .exit) ≡ next (now (h .entry)) x (now (registers .entry)) ⌝ }
 {
-    let n = width::least(w, 255);
+    let n = passes::least(w, 255);
     let mut k: usize = 0;
     while k < n {
         registers[k] = sum(registers[k + 1], h[k + 1], x);
@@ -47,7 +42,7 @@ fn fours(
 {
     let mut i: usize = 0;
     while samples.len() - i >= 4 {
-        pass::of_four(c, t, w, samples, i, registers, outputs);
+        passes::of_four(c, t, w, samples, i, registers, outputs);
         i += 4;
     }
     i
@@ -75,17 +70,37 @@ fn singly(
     }
 }
 
-// The outputs for the samples, and the registers after them.
+// The samples by fours with tables of the coefficients, and the rest of them singly.
+fn with_tables(
+    h: &[i32; 256],
+    w: usize,
+    samples: &[i16],
+    registers: &mut [u64],
+    outputs: &mut [i64],
+)
+    requires { ⌜ ((length (now h) ≡ 256) × ((256 ≤ length (now registers)) × (length (now samples) ≤ length (now outputs)))) × (Quiet w (now h) (now registers)) ⌝ }
+    ensures { λ _. ⌜ now (registers .exit) ≡ registersOf (now (h .entry)) (now (registers .entry)) (now (samples .entry)) ⌝ }
+    ensures { λ _. ⌜ now (outputs .exit) ≡ sets (now (outputs .entry)) 0 (outputsOf (now (h .entry)) (now (registers .entry)) (now (samples .entry))) ⌝ }
+{
+    let mut c = [2147483648u64; 264];
+    passes::offset_all(h, &mut c);
+    let mut t = [0u64; 260];
+    passes::corrections(&c, &mut t);
+    let i = fours(&c, &t, w, samples, registers, outputs);
+    singly(h, w, samples, i, registers, outputs);
+}
+
+// The outputs for the samples, and the registers after them. Tables are not made for fewer than
+// four samples.
 pub fn feed(h: &[i32; 256], samples: &[i16], registers: &mut [u64], outputs: &mut [i64])
     requires { ⌜ (length (now h) ≡ 256) × ((256 ≤ length (now registers)) × (length (now samples) ≤ length (now outputs))) ⌝ }
     ensures { λ _. ⌜ now (registers .exit) ≡ registersOf (now (h .entry)) (now (registers .entry)) (now (samples .entry)) ⌝ }
     ensures { λ _. ⌜ now (outputs .exit) ≡ outputsOf (now (h .entry)) (now (registers .entry)) (now (samples .entry)) ++ drop (length (now (samples .entry))) (now (outputs .entry)) ⌝ }
 {
-    let w = width::used(h, registers);
-    let mut c = [2147483648u64; 264];
-    tables::offset_all(h, &mut c);
-    let mut t = [0u64; 260];
-    tables::corrections(&c, &mut t);
-    let i = fours(&c, &t, w, samples, registers, outputs);
-    singly(h, w, samples, i, registers, outputs);
+    let w = passes::used(h, registers);
+    if samples.len() < 4 {
+        singly(h, w, samples, 0, registers, outputs);
+        return;
+    }
+    with_tables(h, w, samples, registers, outputs);
 }

@@ -8,16 +8,16 @@ use borrow.Author.Needs.{needs}
 use lib.IntN.{pos}
 use lib.Seq.{sets}
 use Rattle.convolution.specs.Running.{registersOf, outputsOf}
-use Rattle.kernel.specs.Tables.{coefficientsIn}
-use Rattle.kernel.specs.Quiet.{Quiet}
-use Rattle.kernel.proofs.Places.{length-in}
-use Rattle.kernel.proofs.Quiets.{quiet-four}
+use Rattle.passes.specs.Tables.{coefficientsIn}
+use Rattle.passes.specs.Quiet.{Quiet}
+use Rattle.passes.proofs.Places.{length-in}
+use Rattle.passes.proofs.Quiets.{quiet-four}
 use Rattle.kernel.proofs.Passes.{fours-registers, fours-outputs}
 use Rattle.kernel.proofs.fours.Statement.{statement}
 use Rattle.kernel.proofs.fours.Tie as tie
 use Rattle.kernel.proofs.fours.Reads as reads
 use Rattle.kernel.proofs.fours.Lts as lts
-use Rattle.kernel.proofs.pass.of_four.Reads as of-four-reads
+use Rattle.passes.proofs.of_four.Reads as of-four-reads
 
 abbrev Inv-loop : tie.InvT-loop
 Inv-loop c t w samples registers₀ outputs₀ i₀ registers outputs i =

@@ -18,12 +18,12 @@ use Rattle.convolution.specs.Words.{wrapped}
 use Rattle.convolution.specs.Running.{next}
 use Rattle.convolution.specs.Sums.{held}
 use Rattle.convolution.proofs.Steps.{held-low, held-next}
-use Rattle.kernel.proofs.Moves.{moved-one}
+use Rattle.passes.proofs.Moves.{moved-one}
 use Rattle.kernel.proofs.move_one.Statement.{statement}
 use Rattle.kernel.proofs.move_one.Tie as tie
 use Rattle.kernel.proofs.move_one.Reads as reads
 use Rattle.kernel.proofs.move_one.Lts as lts
-use Rattle.kernel.proofs.width.least.Reads as least-reads
+use Rattle.passes.proofs.least.Reads as least-reads
 use Rattle.products.proofs.sum.Reads as sum-reads
 
 abbrev Inv-loop : tie.InvT-loop

@@ -1,4 +1,5 @@
-// A pass of four samples. Place j holds output j for j below 4, and then register j - 4.
+// A pass of four samples through 256 coefficients and registers. Place j holds output j for j below
+// 4, and then register j - 4. All functions here are internal: they serve the crate `kernel`.
 ghost use mathlib.Core.Path.{_≡_};
 ghost use mathlib.Core.List.{[], _∷_};
 ghost use Prim.Native.Nat.{_≤_, _<_, _+_};
@@ -9,13 +10,20 @@ ghost use Rattle.sequence.specs.UpTo.{front};
 ghost use Rattle.convolution.specs.Running.{outputsOf};
 ghost use Rattle.convolution.specs.Sums.{held};
 ghost use Rattle.products.specs.Offset.{coefficientIn, sampleIn, sampleCorrection, fourSums};
-ghost use Rattle.kernel.specs.Tables.{coefficientsIn, Padded, Corrected, after4};
-ghost use Rattle.kernel.specs.Quiet.{Quiet};
-use crate::width::least;
+ghost use Rattle.passes.specs.Tables.{coefficientsIn, Padded, Corrected, after4};
+ghost use Rattle.passes.specs.Quiet.{Quiet};
+
+mod tables;
+mod width;
+
 use products::four;
 use products::offset_sample;
 use products::sample_correction;
 use products::signed;
+pub use tables::corrections;
+pub use tables::offset_all;
+pub use width::least;
+pub use width::used;
 
 // What place j comes to, from the register that it starts from.
 fn place(

@@ -1,4 +1,4 @@
--- `kernel::pass::move_four` meets its contract.
+-- `passes::move_four` meets its contract.
 use Prim.Native.Nat.{ℕ, _≤_, _-_, _+_, _*_, _<_}
 use mathlib.Core.Path.{_≡_, refl, sym, ap, subst, _∙_}
 use mathlib.Core.Logic.{⊎-elim}
@@ -9,16 +9,16 @@ use Rattle.convolution.proofs.Steps.{held-high}
 use Rattle.products.specs.Offset.{sampleIn}
 use Rattle.convolution.specs.Sums.{held}
 use Rattle.sequence.specs.UpTo.{front}
-use Rattle.kernel.specs.Tables.{coefficientsIn, after4}
-use Rattle.kernel.proofs.Places.{length-in, register-place}
-use Rattle.kernel.proofs.Moves.{moved-four}
-use Rattle.kernel.proofs.pass.move_four.Statement.{statement}
-use Rattle.kernel.proofs.pass.move_four.Tie as tie
-use Rattle.kernel.proofs.pass.move_four.Reads as reads
-use Rattle.kernel.proofs.pass.move_four.Lts as lts
-use Rattle.kernel.proofs.pass.place.Reads as place-reads
-use Rattle.kernel.proofs.pass.slide.Reads as slide-reads
-use Rattle.kernel.proofs.width.least.Reads as least-reads
+use Rattle.passes.specs.Tables.{coefficientsIn, after4}
+use Rattle.passes.proofs.Places.{length-in, register-place}
+use Rattle.passes.proofs.Moves.{moved-four}
+use Rattle.passes.proofs.move_four.Statement.{statement}
+use Rattle.passes.proofs.move_four.Tie as tie
+use Rattle.passes.proofs.move_four.Reads as reads
+use Rattle.passes.proofs.move_four.Lts as lts
+use Rattle.passes.proofs.place.Reads as place-reads
+use Rattle.passes.proofs.slide.Reads as slide-reads
+use Rattle.passes.proofs.width.least.Reads as least-reads
 
 least-requires : tie.Need-least-requires
 least-requires c κs = search needs

@@ -1,7 +1,7 @@
 // The coefficients in offset binary, with four zeros before and after them, and the corrections.
 ghost use mathlib.Core.Path.{_≡_};
 ghost use lib.ListN.{length, replicate};
-ghost use Rattle.kernel.specs.Tables.{coefficientsIn, Padded, Corrected};
+ghost use Rattle.passes.specs.Tables.{coefficientsIn, Padded, Corrected};
 use products::coefficient_correction;
 use products::offset_coefficient;
 

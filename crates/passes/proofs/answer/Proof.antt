@@ -1,4 +1,4 @@
--- `kernel::pass::answer` meets its contract.
+-- `passes::answer` meets its contract.
 use Prim.Native.Nat.{ℕ, _≤_, _-_, _+_, _*_, _<_}
 use mathlib.Core.Path.{_≡_, refl, sym, ap, subst, _∙_}
 use mathlib.Core.Logic.{⊎-elim}
@@ -11,14 +11,14 @@ use mir.Val.{toZ, ofZ}
 use mir.ValLaws.{toZ-ofZ}
 use Rattle.convolution.proofs.Steps.{held-low}
 use Rattle.products.specs.Offset.{sampleIn}
-use Rattle.kernel.specs.Tables.{coefficientsIn}
-use Rattle.kernel.proofs.Places.{output-place0, output-place1, output-place2, output-place3}
-use Rattle.kernel.proofs.Passes.{four-outputs}
-use Rattle.kernel.proofs.pass.answer.Statement.{statement}
-use Rattle.kernel.proofs.pass.answer.Tie as tie
-use Rattle.kernel.proofs.pass.answer.Reads as reads
-use Rattle.kernel.proofs.pass.answer.Lts as lts
-use Rattle.kernel.proofs.pass.place.Reads as place-reads
+use Rattle.passes.specs.Tables.{coefficientsIn}
+use Rattle.passes.proofs.Places.{output-place0, output-place1, output-place2, output-place3}
+use Rattle.passes.proofs.Outputs.{four-outputs}
+use Rattle.passes.proofs.answer.Statement.{statement}
+use Rattle.passes.proofs.answer.Tie as tie
+use Rattle.passes.proofs.answer.Reads as reads
+use Rattle.passes.proofs.answer.Lts as lts
+use Rattle.passes.proofs.place.Reads as place-reads
 use Rattle.products.proofs.signed.Reads as signed-reads
 
 shared-slice-read-place : tie.Need-shared-slice-read-place

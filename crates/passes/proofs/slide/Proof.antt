@@ -1,4 +1,4 @@
--- `kernel::pass::slide` meets its contract.
+-- `passes::slide` meets its contract.
 use Prim.Native.Nat.{ℕ, _≤_, _-_, _+_, _*_, _<_}
 use mathlib.Core.Path.{_≡_, refl, sym, ap, subst, _∙_}
 use mathlib.Core.Logic.{⊎-elim}
@@ -10,13 +10,13 @@ use Rattle.sequence.proofs.Front.{front-start, front-read, front-next}
 use Rattle.convolution.specs.Sums.{held}
 use Rattle.convolution.proofs.Steps.{held-low}
 use Rattle.products.specs.Offset.{sampleIn}
-use Rattle.kernel.specs.Tables.{coefficientsIn, after4}
-use Rattle.kernel.proofs.Places.{register-place}
-use Rattle.kernel.proofs.pass.slide.Statement.{statement}
-use Rattle.kernel.proofs.pass.slide.Tie as tie
-use Rattle.kernel.proofs.pass.slide.Reads as reads
-use Rattle.kernel.proofs.pass.slide.Lts as lts
-use Rattle.kernel.proofs.pass.place.Reads as place-reads
+use Rattle.passes.specs.Tables.{coefficientsIn, after4}
+use Rattle.passes.proofs.Places.{register-place}
+use Rattle.passes.proofs.slide.Statement.{statement}
+use Rattle.passes.proofs.slide.Tie as tie
+use Rattle.passes.proofs.slide.Reads as reads
+use Rattle.passes.proofs.slide.Lts as lts
+use Rattle.passes.proofs.place.Reads as place-reads
 
 abbrev Inv-loop : tie.InvT-loop
 Inv-loop c t y0 y1 y2 y3 z n registers₀ k₀ registers k =

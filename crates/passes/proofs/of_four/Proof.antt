@@ -1,4 +1,4 @@
--- `kernel::pass::of_four` meets its contract.
+-- `passes::of_four` meets its contract.
 use Prim.Native.Nat.{ℕ, _≤_, _-_, _+_, _*_, _<_}
 use mathlib.Core.Path.{_≡_, refl, sym, ap, subst, _∙_}
 use mathlib.Core.Logic.{⊎-elim}
@@ -8,14 +8,14 @@ use borrow.Author.Needs.{needs}
 use lib.IntN.{pos}
 use mir.Syntax.{w16}
 use mir.ValLaws.{toZ-ofZ}
-use Rattle.kernel.specs.Tables.{coefficientsIn}
-use Rattle.kernel.proofs.Passes.{same-registers, same-outputs}
-use Rattle.kernel.proofs.pass.of_four.Statement.{statement}
-use Rattle.kernel.proofs.pass.of_four.Tie as tie
-use Rattle.kernel.proofs.pass.of_four.Reads as reads
-use Rattle.kernel.proofs.pass.of_four.Lts as lts
-use Rattle.kernel.proofs.pass.answer.Reads as answer-reads
-use Rattle.kernel.proofs.pass.move_four.Reads as move-four-reads
+use Rattle.passes.specs.Tables.{coefficientsIn}
+use Rattle.passes.proofs.Outputs.{same-registers, same-outputs}
+use Rattle.passes.proofs.of_four.Statement.{statement}
+use Rattle.passes.proofs.of_four.Tie as tie
+use Rattle.passes.proofs.of_four.Reads as reads
+use Rattle.passes.proofs.of_four.Lts as lts
+use Rattle.passes.proofs.answer.Reads as answer-reads
+use Rattle.passes.proofs.move_four.Reads as move-four-reads
 use Rattle.products.proofs.offset_sample.Reads as offset-sample-reads
 use Rattle.products.proofs.sample_correction.Reads as sample-correction-reads
 
