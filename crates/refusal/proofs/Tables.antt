@@ -34,8 +34,3 @@ module _ {A B : Type 0} (f : A → B) where
 
   pub front-end : (s : List A) (t : List B) (i : ℕ) → i ≤ length s → length s ≤ i → front s t i ≡ map f s ++ drop (length s) t
   front-end s t i h l = let e : i ≡ length s = omega arith in ap (front s t) e ∙ front-all s t
-
--- a copy
-pub map-same : {A : Type 0} (s : List A) → map (λ (x : A). x) s ≡ s
-map-same [] = refl
-map-same {A} (x ∷ s) = ap (λ (r : List A). x ∷ r) (map-same s)

@@ -6,9 +6,8 @@ use Prim.Native.Nat.{ℕ, zero, suc, _+_, _<_, _≤_}
 use native.Mathlib.Omega.{arith}
 use borrow.Author.Tests.{ltb-true, ltb-false}
 use lib.Dec.{ltb}
-use native.Mathlib.Numerals.{add-one}
-use lib.ListN.{length, getD, drop, set, length-append, List·getD-append}
-use lib.Seq.{getD-at, drop-cons, set-at, append-snoc, getD-append-add, getD-drop}
+use lib.ListN.{length, getD, take, length-append, List·getD-append}
+use lib.Seq.{getD-at, take-suc}
 use Rattle.sequence.specs.UpTo.{upTo}
 
 module _ {ℓ} {A : Type ℓ} where
@@ -30,3 +29,9 @@ module _ {ℓ} {A : Type ℓ} where
   unfolding upTo
   getD-upTo zero f d k h = absurd (omega arith)
   getD-upTo (suc n) f d k h = upTo-last n f d k h (λ l. getD-upTo n f d k l) (ltb k n) refl
+
+  -- the front of a list, place by place
+  pub upTo-take : (s : List A) (d : A) (n : ℕ) → n ≤ length s → upTo n (λ k. getD s k d) ≡ take n s
+  unfolding upTo
+  upTo-take s d zero h = refl
+  upTo-take s d (suc n) h = ap (λ r. r ++ (getD s n d ∷ [])) (upTo-take s d n (omega arith)) ∙ sym (take-suc s n d h)

@@ -1,9 +1,8 @@
 // A set of binary64 taps rounded to whole coefficients, as they are or normalised.
 ghost use mathlib.Core.Path.{_≡_};
 ghost use mathlib.Core.Bool.{true, false, not};
-ghost use mathlib.Core.List.{_++_};
 ghost use Prim.Native.Nat.{_≤_};
-ghost use lib.ListN.{length, take, drop};
+ghost use lib.ListN.{length};
 ghost use lib.Ieee.{Float};
 ghost use Rattle.refusal.specs.Answer.{refused, refuseAt, lowest, filled};
 ghost use Rattle.tap.specs.Rounding as Tap;
@@ -99,18 +98,6 @@ fn round_all(xs: &[f64], f: u32, divisor: f64, buffer: &mut [i32]) -> RoundedTap
     RoundedTaps::Given(report)
 }
 
-// The first n elements, from one table to the other.
-fn copy(from: &[i32], n: usize, to: &mut [i32])
-    requires { ⌜ (n ≤ length (now from)) × (n ≤ length (now to)) ⌝ }
-    ensures { λ r. ⌜ now (to .exit) ≡ take n (now (from .entry)) ++ drop n (now (to .entry)) ⌝ }
-{
-    let mut i = 0;
-    while i < n {
-        to[i] = from[i];
-        i += 1;
-    }
-}
-
 // The refusal of a number that is not finite: a quotient's, or a tap's.
 fn not_finite(normalised: bool, place: u32) -> RoundedTaps
     ensures { λ r. ⌜ answerOf r ≡ refused (finiteRule normalised) place ⌝ }
@@ -147,7 +134,7 @@ fn settle(
 {
     let mut buffer = [0i32; 256];
     let answer = round_all(xs, f, divisor, &mut buffer);
-    copy(&buffer, accepted(answer, xs.len()), coefficients);
+    sequence::copy(&buffer, accepted(answer, xs.len()), coefficients);
     match answer {
         RoundedTaps::Given(report) => RoundedTaps::Given(report),
         RoundedTaps::Refused(refusal) => {

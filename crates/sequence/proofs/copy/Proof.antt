@@ -1,4 +1,4 @@
--- `tap_set::copy` meets its contract. Assumes nothing.
+-- `sequence::copy` meets its contract. Assumes nothing.
 use borrow.Author.Needs.{needs}
 use mathlib.Core.Path.{_≡_, refl, sym, ap, _∙_}
 use mathlib.Core.List.{List, _++_}
@@ -9,21 +9,24 @@ use lib.ListN.{length, length-set, take, drop, set, getD}
 use mir.Syntax.{w32}
 use mir.Val.{toZ, ofZ}
 use mir.ValLaws.{toZ-ofZ}
-use Rattle.refusal.proofs.Tables.{front, front-next, map-same}
-use Rattle.tap_set.proofs.copy.Statement.{statement}
-use Rattle.tap_set.proofs.copy.Tie as tie
+use Rattle.sequence.specs.UpTo.{upTo, front}
+use Rattle.sequence.proofs.UpTo.{upTo-take}
+use Rattle.sequence.proofs.Front.{front-start, front-next}
+use Rattle.sequence.proofs.copy.Statement.{statement}
+use Rattle.sequence.proofs.copy.Tie as tie
 
-abbrev same : ℤ → ℤ
-same z = z
+-- what stands at each place
+abbrev at : List ℤ → ℕ → ℤ
+at from k = getD from k (pos 0)
 
 abbrev Inv-loop : tie.InvT-loop
-Inv-loop from n to₀ i₀ to i = (i ≤ n) × (to ≡ front same from to₀ i) × (length to ≡ length to₀)
+Inv-loop from n to₀ i₀ to i = (i ≤ n) × (to ≡ front (at from) to₀ i) × (length to ≡ length to₀)
 
 abbrev μ-loop : tie.MeasureT-loop
 μ-loop from n to₀ i₀ to i = n - i
 
 loop-holds : tie.Need-loop-holds Inv-loop μ-loop
-loop-holds c = (search needs, refl, refl)
+loop-holds c = let a = c .args in (search needs, sym (front-start (at (a .from .now)) (a .to .now)), refl)
 
 mul-to : tie.Need-mul-to Inv-loop μ-loop
 mul-to c = search needs
@@ -51,7 +54,7 @@ loop-again c =
       search needs,
       ap (λ (y : ℤ). set (l .loop .to) (l .loop .i) y) (toZ-ofZ w32 z (record { sfits = c .to .given }))
           ∙ ap (λ (t : List ℤ). set t (l .loop .i) z) (l .loop .inv .1)
-          ∙ front-next same (pos 0) (a .from .now) (a .to .now) (l .loop .i) (omega arith) (omega arith),
+          ∙ front-next (at (a .from .now)) (a .to .now) (l .loop .i) (pos 0) (omega arith),
       length-set (l .loop .to) (l .loop .i) _ ∙ l .loop .inv .2,
     )
 
@@ -59,11 +62,12 @@ same-length : tie.Need-same-length Inv-loop μ-loop
 same-length c = search needs
 
 returns : tie.Need-returns Inv-loop μ-loop
+unfolding front
 returns c =
     let l = c .before in
     let a = l .before .args in
     let e : l .loop .i ≡ a .n = omega arith in
-    l .loop .inv .1 ∙ ap (front same (a .from .now) (a .to .now)) e ∙ ap (λ (r : List ℤ). r ++ drop (a .n) (a .to .now)) (map-same (take (a .n) (a .from .now)))
+    l .loop .inv .1 ∙ ap (front (at (a .from .now)) (a .to .now)) e ∙ ap (λ (r : List ℤ). r ++ drop (a .n) (a .to .now)) (upTo-take (a .from .now) (pos 0) (a .n) (omega arith))
 
 pub copy-spec : {M : Type 1} → statement M
 copy-spec =

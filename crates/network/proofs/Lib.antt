@@ -1,0 +1,9 @@
+-- The statements to read first:
+pub mod Rules
+pub mod Passed
+pub mod Evaluation
+-- What they and the proofs of the functions rest on:
+pub mod Booleans
+pub mod RowTests
+pub mod TapTests
+pub mod Multiples

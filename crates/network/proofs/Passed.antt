@@ -1,0 +1,133 @@
+-- What it means that a network passes, in document 01's words: `checked-passed` and `passed-checked` of the checks 10 and 11, `given-accepted` and
+-- `accepted-given` of all checks of an entry. Assumes nothing.
+use mathlib.Core.Path.{_≡_, refl, sym, ap, _∙_}
+use mathlib.Core.Bool.{Bool, true, false, not, cond, _||_, true≢false}
+use mathlib.Core.List.{List, [], _∷_}
+use Prim.Native.Nat.{ℕ, zero, suc, _*_, _≤_, _<_, zero-le, suc-le-suc}
+use native.Mathlib.Omega.{arith}
+use borrow.Author.Tests.{ltb-false, eqb-false, le-ltb, ne-eqb, not-false}
+use lib.Dec.{eqb, ltb}
+use lib.IntN.{ℤ}
+use lib.ListN.{length, getD}
+use Rattle.refusal.specs.Answer.{given, refuseIf, refuseAt, Place, nowhere, at-place, lowestFrom, lowest}
+use Rattle.refusal.proofs.Checks.{check-passes, given-if, given-at, lowest-none-at}
+use Rattle.sequence.proofs.UpTo.{length-upTo, getD-upTo}
+use Rattle.network.specs.Rows.{Network, rowWords, tapWords, networkOf, tapRowIn, noTap}
+use Rattle.network.specs.RowRule.{RowRule, keepsRowRule}
+use Rattle.network.specs.Coefficients.{coefficients}
+use Rattle.network.specs.TapRowRule.{TapRowRule}
+use Rattle.network.specs.Check.{breaksRowRule, breaksTapRowRule, numbers, checked, shortTables, networkAnswer}
+use Rattle.network.proofs.Rules.{row-rule, row-kept, tap-rule, tap-kept}
+
+-- a network that passes, and its coefficients h
+pub record Passed (net : Network) (h : List ℤ) : Type 0 where
+  -- "network rows 1 to 4,096"
+  pub rows-from : 1 ≤ length (net .rows)
+  pub rows-to : length (net .rows) ≤ 4096
+  pub rows : (i : ℕ) → i < length (net .rows) → RowRule (net .rows) i
+  pub taps : (j : ℕ) → j < length (net .taps) → TapRowRule (net .rows) (tapRowIn (net .taps) j)
+  pub result : h ≡ coefficients net
+
+-- an entry that is handed a network in two tables turns nothing down
+pub record Accepted (short : Bool) (rows : List ℕ) (rowCount : ℕ) (taps : List ℕ) (tapCount : ℕ) (h : List ℤ) : Type 0 where
+  -- "1 to 256 taps"
+  pub taps-from : 1 ≤ tapCount
+  pub taps-to : tapCount ≤ 256
+  -- "rows 4,096, tap rows .. 256", and the entry's own tables
+  pub rows-long : 4096 * rowWords ≤ length rows
+  pub taps-long : 256 * tapWords ≤ length taps
+  pub others-long : short ≡ false
+  pub passed : Passed (networkOf rows rowCount taps tapCount) h
+
+-- ---- the proof
+
+checked-is : (net : Network) → checked net ≡ refuseIf (eqb (length (net .rows)) 0 || ltb 4096 (length (net .rows))) 10
+    (refuseAt (lowest (breaksRowRule (net .rows)) (numbers (length (net .rows)))) 10
+    (refuseAt (lowest (breaksTapRowRule (net .rows)) (net .taps)) 11 (given (coefficients net))))
+unfolding checked
+checked-is net = refl
+
+neither : (a b : Bool) → (a || b) ≡ false → (a ≡ false) × (b ≡ false)
+neither true b e = absurd (true≢false e)
+neither false b e = (refl, e)
+
+-- a rule that no element breaks
+all-keep : {A : Type 0} (a : A) (breaks : A → Bool) (k : ℕ) (xs : List A) → ((i : ℕ) → i < length xs → breaks (getD xs i a) ≡ false) → lowestFrom k breaks xs ≡ nowhere
+unfolding lowestFrom
+all-keep a breaks k [] f = refl
+all-keep a breaks k (x ∷ xs) f =
+    ap (λ (b : Bool). cond b (at-place k) (lowestFrom (suc k) breaks xs)) (f 0 (suc-le-suc zero-le)) ∙ all-keep a breaks (suc k) xs (λ i l. f (suc i) (suc-le-suc l))
+
+same-result : (a b : List ℤ) → given a ≡ given b → a ≡ b
+same-result a b e = cc
+
+some : (n : ℕ) → (n ≡ 0 → ⊥) → 1 ≤ n
+some zero f = absurd (f refl)
+some (suc n) f = suc-le-suc zero-le
+
+above : (n : ℕ) → 1 ≤ n → n ≡ 0 → ⊥
+above n l e = omega arith
+
+pub checked-passed : (net : Network) (h : List ℤ) → checked net ≡ given h → Passed net h
+checked-passed net h e =
+    let rs = net .rows in
+    let n = length rs in
+    let c = given-if (eqb n 0 || ltb 4096 n) 10 _ h (sym (checked-is net) ∙ e) in
+    let r = given-at (lowest (breaksRowRule rs) (numbers n)) 10 _ h (c .1) in
+    let t = given-at (lowest (breaksTapRowRule rs) (net .taps)) 11 _ h (r .1) in
+    let w = neither (eqb n 0) (ltb 4096 n) (c .0) in
+    let kept : (i : ℕ) → i < n → keepsRowRule rs i ≡ true =
+    λ i l. not-false (keepsRowRule rs i) (ap (breaksRowRule rs) (sym (getD-upTo n (λ (k : ℕ). k) 0 i l)) ∙ lowest-none-at 0 (breaksRowRule rs) 0 (numbers n) i (r .0) (omega (arith, length-upTo n (λ (k : ℕ). k)))) in
+    record {
+      rows-from = some n (eqb-false n 0 (w .0));
+      rows-to = ltb-false 4096 n (w .1);
+      rows = λ i l. row-rule rs i (kept i l);
+      taps = λ j l. tap-rule rs (tapRowIn (net .taps) j) (not-false _ (lowest-none-at noTap (breaksTapRowRule rs) 0 (net .taps) j (t .0) l));
+      result = sym (same-result (coefficients net) h (t .1));
+    }
+
+pub passed-checked : (net : Network) (h : List ℤ) → Passed net h → checked net ≡ given h
+passed-checked net h p =
+    let rs = net .rows in
+    let n = length rs in
+    checked-is net
+    ∙ check-passes (eqb n 0 || ltb 4096 n) 10 _ (rw (ne-eqb n 0 (above n (p .rows-from)), le-ltb 4096 n (p .rows-to)))
+    ∙ ap (λ (w : Place). refuseAt w 10 (refuseAt (lowest (breaksTapRowRule rs) (net .taps)) 11 (given (coefficients net))))
+    (all-keep 0 (breaksRowRule rs) 0 (numbers n) (λ i l. row-at i (omega (arith, length-upTo n (λ (k : ℕ). k)))))
+    ∙ ap (λ (w : Place). refuseAt w 11 (given (coefficients net)))
+    (all-keep noTap (breaksTapRowRule rs) 0 (net .taps) (λ j l. ap not (tap-kept rs (tapRowIn (net .taps) j) (p .taps j l))))
+    ∙ ap given (sym (p .result))
+  where
+    row-at : (i : ℕ) → i < length (net .rows) → breaksRowRule (net .rows) (getD (numbers (length (net .rows))) i 0) ≡ false
+    row-at i l = ap (breaksRowRule (net .rows)) (getD-upTo (length (net .rows)) (λ (k : ℕ). k) 0 i l) ∙ ap not (row-kept (net .rows) i (p .rows i l))
+
+module _ (short : Bool) (rows : List ℕ) (rowCount : ℕ) (taps : List ℕ) (tapCount : ℕ) (h : List ℤ) where
+  answer-is : networkAnswer short rows rowCount taps tapCount
+      ≡ refuseIf (eqb tapCount 0) 1 (refuseIf (ltb 256 tapCount) 2 (refuseIf (shortTables rows taps || short) 3 (checked (networkOf rows rowCount taps tapCount))))
+  unfolding networkAnswer
+  answer-is = refl
+
+  pub given-accepted : networkAnswer short rows rowCount taps tapCount ≡ given h → Accepted short rows rowCount taps tapCount h
+  given-accepted e =
+      let a = given-if (eqb tapCount 0) 1 _ h (sym answer-is ∙ e) in
+      let b = given-if (ltb 256 tapCount) 2 _ h (a .1) in
+      let c = given-if (shortTables rows taps || short) 3 _ h (b .1) in
+      let s = neither (shortTables rows taps) short (c .0) in
+      let t = neither (ltb (length rows) (4096 * rowWords)) (ltb (length taps) (256 * tapWords)) (s .0) in
+      record {
+        taps-from = some tapCount (eqb-false tapCount 0 (a .0));
+        taps-to = ltb-false 256 tapCount (b .0);
+        rows-long = ltb-false (length rows) (4096 * rowWords) (t .0);
+        taps-long = ltb-false (length taps) (256 * tapWords) (t .1);
+        others-long = s .1;
+        passed = checked-passed (networkOf rows rowCount taps tapCount) h (c .1);
+      }
+
+  pub accepted-given : Accepted short rows rowCount taps tapCount h → networkAnswer short rows rowCount taps tapCount ≡ given h
+  accepted-given w =
+      answer-is
+      ∙ check-passes (eqb tapCount 0) 1 _ (ne-eqb tapCount 0 (above tapCount (w .taps-from)))
+      ∙ check-passes (ltb 256 tapCount) 2 _ (le-ltb 256 tapCount (w .taps-to))
+      ∙ check-passes (shortTables rows taps || short) 3 _
+      (rw (le-ltb (length rows) (4096 * rowWords) (w .rows-long), le-ltb (length taps) (256 * tapWords) (w .taps-long), w .others-long))
+      ∙ passed-checked (networkOf rows rowCount taps tapCount) h (w .passed)

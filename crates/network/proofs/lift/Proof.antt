@@ -1,0 +1,26 @@
+use Prim.Native.Nat.{_%_, _^_, ℕ, _*_, _<_}
+use native.Mathlib.Nat.{mul-comm, lt-of-lt-of-le}
+use lib.Pow.{shl-exact, shl-lt, pow-mono}
+use mathlib.Core.Path.{_≡_, ap, _∙_}
+use native.Mathlib.Omega.{arith}
+use borrow.Author.Needs.{needs}
+use Rattle.network.proofs.lift.Statement.{statement}
+use Rattle.network.proofs.lift.Tie as tie
+
+wide-requires : tie.Need-wide-requires
+wide-requires c κs = search needs
+
+shl-result : tie.Need-shl-result
+shl-result c = search needs
+
+returns : tie.Need-returns
+returns c =
+    let s = c .before .args .s in
+    let v = c .before .args .value in
+    let e : (c .wide .result * 2 ^ s) % 18446744073709551616 ≡ v * 2 ^ s =
+    ap (λ (n : ℕ). (n * 2 ^ s) % 18446744073709551616) (c .wide .ensures) ∙ shl-exact 32 s 64 (c .before .fits .value .fits) (omega arith) in
+    let l : v * 2 ^ s < 9223372036854775808 = lt-of-lt-of-le (shl-lt 32 s (c .before .fits .value .fits)) (pow-mono {j = 63} (omega arith)) in
+    (e ∙ mul-comm v (2 ^ s), omega (arith, e, l))
+
+pub lift-spec : {M : Type 1} → statement M
+lift-spec = tie.close (tie.spec wide-requires shl-result returns)

@@ -1,0 +1,19 @@
+use Rattle.network.proofs.RowTests.{worked-tests}
+use borrow.Author.Needs.{needs}
+use Rattle.network.proofs.row_rule.is_worked.Statement.{statement}
+use Rattle.network.proofs.row_rule.is_worked.Tie as tie
+
+add-result : tie.Need-add-result
+add-result c = search needs
+
+add-result-2 : tie.Need-add-result-2
+add-result-2 c = search needs
+
+add-result-3 : tie.Need-add-result-3
+add-result-3 c = search needs
+
+returns : tie.Need-returns
+returns c = let a = c .args in worked-tests (a .sign) (a .a) (a .b) (a .v)
+
+pub is-worked-spec : {M : Type 1} → statement M
+is-worked-spec = tie.close (tie.spec add-result add-result-2 add-result-3 returns)

@@ -1,0 +1,43 @@
+use mir.Syntax.{w32}
+use mir.ValLaws.{toZ-pos, toZ-ofZ}
+use Rattle.network.specs.declared.tap_row_rule.TapProduct.the-variants.{Coefficient}
+use Rattle.network.proofs.TapTests.{plus-within, plus-outside, minus-within, minus-outside, no-sign}
+use mathlib.Core.Path.{ap, _∙_}
+use native.Mathlib.Omega.{arith}
+use borrow.Author.Needs.{needs}
+use Rattle.network.proofs.tap_row_rule.signed_product.Statement.{statement}
+use Rattle.network.proofs.tap_row_rule.signed_product.Tie as tie
+
+cast-t5 : tie.Need-cast-t5
+cast-t5 c = search needs
+
+returns : tie.Need-returns
+returns c =
+    let a = c .before .before .args in
+    ap Coefficient (toZ-pos w32 (a .p) (omega arith)) ∙ plus-within (a .sign) (a .p) (c .before .if1 .taken) (c .if2 .taken)
+
+returns-2 : tie.Need-returns-2
+returns-2 c = let a = c .before .before .args in plus-outside (a .sign) (a .p) (c .before .if1 .taken) (c .if2 .left)
+
+negated-requires : tie.Need-negated-requires
+negated-requires c κs = search needs
+
+returns-3 : tie.Need-returns-3
+returns-3 c =
+    let f = c .before .before in
+    let a = f .before .before .args in
+    ap Coefficient (toZ-ofZ w32 (c .negated .result) (record { sfits = c .negated .ok }) ∙ c .negated .ensures)
+    ∙ minus-within (a .sign) (a .p) (f .before .if1 .left) (f .if3 .taken) (c .before .if4 .taken)
+
+returns-4 : tie.Need-returns-4
+returns-4 c =
+    let f = c .before in
+    let a = f .before .before .args in
+    minus-outside (a .sign) (a .p) (f .before .if1 .left) (f .if3 .taken) (c .if4 .left)
+
+returns-5 : tie.Need-returns-5
+returns-5 c = let a = c .before .before .args in no-sign (a .sign) (a .p) (c .before .if1 .left) (c .if3 .left)
+
+pub signed-product-spec : {M : Type 1} → statement M
+signed-product-spec =
+    tie.close (tie.spec cast-t5 returns returns-2 negated-requires returns-3 returns-4 returns-5)

@@ -1,0 +1,7 @@
+pub mod Rows
+pub mod RowRule
+pub mod Coefficients
+pub mod TapRowRule
+pub mod Check
+pub mod Evaluation
+pub mod Products

@@ -1,0 +1,65 @@
+// The row rule.
+ghost use mathlib.Core.Path.{_≡_};
+ghost use Prim.Native.Nat.{ℕ, _+_, _*_, _^_, _≤_, _<_};
+ghost use lib.ListN.{length};
+ghost use Rattle.network.specs.Rows.{rowWords, rowsOf};
+ghost use Rattle.network.specs.RowRule.{isFirst, isWorked, isSum, keepsRowRule};
+use crate::MINUS;
+use crate::PLUS;
+use crate::REVERSED;
+use crate::Row;
+
+fn is_first(row: Row) -> bool
+    ensures { λ r. ⌜ r ≡ isFirst row ⌝ }
+{
+    (row.left == 0) & (row.right == 0) & (row.shift == 0) & (row.sign == PLUS) & (row.value == 1)
+}
+
+// The value v is the one that the sign gives for a and b.
+fn is_worked(sign: u32, a: u64, b: u64, v: u64) -> bool
+    requires { ⌜ (a ≤ 2 ^ 63) × (b ≤ 2 ^ 32) × (v ≤ 2 ^ 32) ⌝ }
+    ensures { λ r. ⌜ r ≡ isWorked sign a b v ⌝ }
+{
+    (sign == PLUS) & (a + b == v)
+        | (sign == MINUS) & (v + b == a)
+        | (sign == REVERSED) & (v + a == b)
+}
+
+// Shift, sign and value of a later row, over the values of the rows that it names.
+fn is_sum(row: Row, left: u32, right: u32) -> bool
+    ensures { λ r. ⌜ r ≡ isSum row left right ⌝ }
+{
+    if row.shift > 31 {
+        return false;
+    }
+    let a = crate::lift(row.shift, left);
+    (1 <= row.shift)
+        & is_worked(row.sign, a, crate::wide(right), crate::wide(row.value))
+        & ((row.value % 2 == 1) & (1 <= row.value) & (row.value <= 2147483647))
+        & (a <= 4294967296)
+}
+
+// Row i keeps the row rule, in every network of these rows that has it. Internal: the crate above
+// asks for the table's length.
+pub fn keeps_row_rule(rows: &[u32], i: usize) -> bool
+    requires { ⌜ rowWords * i + rowWords ≤ length (now rows) ⌝ }
+    ensures { λ r. ⌜ ((n : ℕ) → i < n → r ≡ keepsRowRule (rowsOf (now (rows .entry)) n) i) ⌝ }
+{
+    let row = crate::read_row(rows, i);
+    if i == 0 {
+        return is_first(row);
+    }
+    let left = crate::number(row.left);
+    let right = crate::number(row.right);
+    if left >= i {
+        return false;
+    }
+    if right >= i {
+        return false;
+    }
+    is_sum(
+        row,
+        crate::read_value(rows, left),
+        crate::read_value(rows, right),
+    )
+}

@@ -1,0 +1,69 @@
+use mathlib.Core.List.{List}
+use lib.IntN.{ℤ}
+use Rattle.refusal.specs.Answer.{Answer}
+use Rattle.network.specs.Check.{networkAnswer, outcome}
+use Rattle.network_check.specs.Steps.{Holds}
+use Rattle.network_check.proofs.Answers.{turned, no-taps, many-taps, short-rows, short-taps, short-other, long-tables}
+use mathlib.Core.Path.{ap, subst, _∙_}
+use borrow.Author.Needs.{needs}
+use Rattle.network_check.proofs.examine.Statement.{statement}
+use Rattle.network_check.proofs.examine.Tie as tie
+
+abbrev answer : tie.Start → Answer (List ℤ)
+answer s = let a = s .args in networkAnswer (a .short) (a .rows .now) (a .row-count) (a .taps .now) (a .tap-count)
+
+returns : tie.Need-returns
+returns c =
+    let s = c .before .before .before in
+    let a = s .args in
+    turned (answer s) 1 0 _ (no-taps (a .short) (a .rows .now) (a .row-count) (a .taps .now) (a .tap-count) (c .if1 .taken))
+
+returns-2 : tie.Need-returns-2
+returns-2 c =
+    let i1 = c .before in
+    let s = i1 .before .before .before in
+    let a = s .args in
+    turned (answer s) 2 0 _ (many-taps (a .short) (a .rows .now) (a .row-count) (a .taps .now) (a .tap-count) (i1 .if1 .left) (c .if2 .taken))
+
+returns-3 : tie.Need-returns-3
+returns-3 c =
+    let i2 = c .before in
+    let i1 = i2 .before in
+    let s = i1 .before .before .before in
+    let a = s .args in
+    turned (answer s) 3 0 _ (short-rows (a .short) (a .rows .now) (a .row-count) (a .taps .now) (a .tap-count) (i1 .if1 .left) (i2 .if2 .left) (c .if3 .taken))
+
+returns-4 : tie.Need-returns-4
+returns-4 c =
+    let i2 = c .before .before in
+    let i1 = i2 .before in
+    let s = i1 .before .before .before in
+    let a = s .args in
+    turned (answer s) 3 0 _ (short-taps (a .short) (a .rows .now) (a .row-count) (a .taps .now) (a .tap-count) (i1 .if1 .left) (i2 .if2 .left) (c .if4 .taken))
+
+returns-5 : tie.Need-returns-5
+returns-5 c =
+    let i2 = c .before .before .before in
+    let i1 = i2 .before in
+    let s = i1 .before .before .before in
+    let a = s .args in
+    turned (answer s) 3 0 _ (short-other (a .short) (a .rows .now) (a .row-count) (a .taps .now) (a .tap-count) (i1 .if1 .left) (i2 .if2 .left) (c .if5 .taken))
+
+rules-requires : tie.Need-rules-requires
+rules-requires c κs = search needs
+
+returns-6 : tie.Need-returns-6
+returns-6 c =
+    let i5 = c .before .before in
+    let i4 = i5 .before in
+    let i3 = i4 .before in
+    let i2 = i3 .before in
+    let i1 = i2 .before in
+    let s = i1 .before .before .before in
+    let a = s .args in
+    let e = long-tables (a .short) (a .rows .now) (a .row-count) (a .taps .now) (a .tap-count) (i1 .if1 .left) (i2 .if2 .left) (i3 .if3 .left) (i4 .if4 .left) (i5 .if5 .left) in
+    (c .rules .ensures .0 ∙ ap outcome e, subst (λ (r : Answer (List ℤ)). Holds r (c .rules .last .1 .1 .1 .1 .0)) e (c .rules .ensures .1))
+
+pub examine-spec : {M : Type 1} → statement M
+examine-spec =
+    tie.close (tie.spec returns returns-2 returns-3 returns-4 returns-5 rules-requires returns-6)

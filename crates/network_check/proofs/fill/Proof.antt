@@ -1,0 +1,113 @@
+use mathlib.Core.Bool.{not}
+use mathlib.Core.List.{List, _++_, map}
+use lib.IntN.{ℤ}
+use mir.Syntax.{w32}
+use mir.Val.{toZ, ofZ}
+use mir.ValLaws.{toZ-ofZ}
+use Rattle.refusal.proofs.Tables.{front, front-next, front-end}
+use Rattle.sequence.proofs.UpTo.{length-upTo, getD-upTo}
+use Rattle.network.specs.Rows.{rowsOf, tapRowsOf, tapRowAt, noTap}
+use Rattle.network.specs.Coefficients.{coefficientOf}
+use Rattle.network.specs.Check.{breaksTapRowRule}
+use Rattle.network.proofs.TapTests.{product-kept, product-broken}
+use Rattle.network_check.proofs.Scans.{Passed, scan-stop, scan-next, scan-end}
+use Prim.Native.Nat.{ℕ, _≤_, _-_}
+use mathlib.Core.Path.{_≡_, refl, sym, ap, _∙_}
+use native.Mathlib.Omega.{arith}
+use lib.ListN.{drop, set, getD}
+use borrow.Author.Needs.{needs}
+use Rattle.network_check.proofs.fill.Statement.{statement}
+use Rattle.network_check.proofs.fill.Tie as tie
+
+abbrev Inv-loop : tie.InvT-loop
+Inv-loop rows n taps m buffer₀ j₀ buffer j =
+    (j ≤ m) × Passed (tapRowAt taps) noTap (breaksTapRowRule (rowsOf rows n)) m j × (buffer ≡ front (coefficientOf (rowsOf rows n)) (tapRowsOf taps m) buffer₀ j)
+
+abbrev μ-loop : tie.MeasureT-loop
+μ-loop rows n taps m buffer₀ j₀ buffer j = m - j
+
+loop-holds : tie.Need-loop-holds Inv-loop μ-loop
+loop-holds c = (search needs, refl, refl)
+
+tap-product-requires : tie.Need-tap-product-requires Inv-loop μ-loop
+tap-product-requires c κs = search needs
+
+enum-known-c : tie.Need-enum-known-c Inv-loop μ-loop
+enum-known-c c = search needs
+
+enum-told : tie.Need-enum-told Inv-loop μ-loop
+enum-told c = search needs
+
+returns : tie.Need-returns Inv-loop μ-loop
+returns c =
+    let p = c .before .before in
+    let t = p .before in
+    let l = t .before in
+    let a = l .before .before .before .args in
+    let rows = rowsOf (a .rows .now) (a .n) in
+    let b = product-broken rows (tapRowAt (a .taps .now) (l .loop .j)) (sym (p .tap-product .ensures) ∙ c .enum-told .given .1) in
+    (scan-stop (tapRowAt (a .taps .now)) noTap (breaksTapRowRule rows) (a .m) (l .loop .j) (l .loop .inv .1) (t .loop-test .taken) (ap not b), (λ q. absurd (omega arith)))
+
+mul-c : tie.Need-mul-c Inv-loop μ-loop
+mul-c c = search needs
+
+element-set-from-c : tie.Need-element-set-from-c Inv-loop μ-loop
+element-set-from-c c = search needs
+
+add-j : tie.Need-add-j Inv-loop μ-loop
+add-j c = search needs
+
+loop-less : tie.Need-loop-less Inv-loop μ-loop
+loop-less c = search needs
+
+loop-again : tie.Need-loop-again Inv-loop μ-loop
+loop-again c =
+    let v = c .before in
+    let p = v .before .before in
+    let t = p .before in
+    let l = t .before in
+    let a = l .before .before .before .args in
+    let rows = rowsOf (a .rows .now) (a .n) in
+    let j = l .loop .j in
+    let f = coefficientOf rows in
+    let row = tapRowAt (a .taps .now) j in
+    let y = v .c .given .0 .0 in
+    let k = product-kept rows row _ (sym (p .tap-product .ensures) ∙ v .c .given .1) in
+    let e : toZ w32 (ofZ w32 y) ≡ f row = toZ-ofZ w32 y (record { sfits = omega arith }) ∙ k .1 in
+    let g : f row ≡ f (getD (tapRowsOf (a .taps .now) (a .m)) j noTap) = ap f (sym (getD-upTo (a .m) (tapRowAt (a .taps .now)) noTap j (t .loop-test .taken))) in (
+      search needs,
+      scan-next (tapRowAt (a .taps .now)) noTap (breaksTapRowRule rows) (a .m) j (l .loop .inv .1) (t .loop-test .taken) (ap not (k .0)),
+      ap (λ (b : List ℤ). set b j (toZ w32 (ofZ w32 y))) (l .loop .inv .2)
+          ∙ ap (λ (z : ℤ). set (front f (tapRowsOf (a .taps .now) (a .m)) (a .buffer .now) j) j z) (e ∙ g)
+          ∙ front-next f noTap (tapRowsOf (a .taps .now) (a .m)) (a .buffer .now) j (omega (arith, length-upTo (a .m) (tapRowAt (a .taps .now)))) (omega arith),
+    )
+
+returns-2 : tie.Need-returns-2 Inv-loop μ-loop
+returns-2 c =
+    let l = c .before in
+    let a = l .before .before .before .args in
+    let rows = rowsOf (a .rows .now) (a .n) in
+    let s = length-upTo (a .m) (tapRowAt (a .taps .now)) in (
+      scan-end (tapRowAt (a .taps .now)) noTap (breaksTapRowRule rows) (a .m) (l .loop .j) (l .loop .inv .1) (c .loop-test .left),
+      λ q.
+          l .loop .inv .2 ∙ front-end (coefficientOf rows) (tapRowsOf (a .taps .now) (a .m)) (a .buffer .now) (l .loop .j) (omega (arith, s)) (omega (arith, s))
+          ∙ ap (λ (k : ℕ). map (coefficientOf rows) (tapRowsOf (a .taps .now) (a .m)) ++ drop k (a .buffer .now)) s,
+    )
+
+pub fill-spec : {M : Type 1} → statement M
+fill-spec =
+    tie.close
+    (tie.spec
+    Inv-loop
+    μ-loop
+    loop-holds
+    tap-product-requires
+    enum-known-c
+    enum-told
+    returns
+    mul-c
+    element-set-from-c
+    add-j
+    loop-less
+    loop-again
+    returns-2)

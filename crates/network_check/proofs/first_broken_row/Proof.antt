@@ -1,0 +1,69 @@
+use mathlib.Core.Bool.{not}
+use Rattle.network.specs.Rows.{rowsOf}
+use Rattle.network.specs.Check.{breaksRowRule}
+use Rattle.network_check.proofs.Scans.{Passed, scan-stop, scan-next, scan-end}
+use Prim.Native.Nat.{ℕ, _≤_, _-_}
+use mathlib.Core.Path.{refl, sym, ap, _∙_}
+use borrow.Author.Needs.{needs}
+use Rattle.network_check.proofs.first_broken_row.Statement.{statement}
+use Rattle.network_check.proofs.first_broken_row.Tie as tie
+
+-- the number of a row
+abbrev same : ℕ → ℕ
+same k = k
+
+abbrev Inv-loop : tie.InvT-loop
+Inv-loop rows n i₀ i = (i ≤ n) × Passed same 0 (breaksRowRule (rowsOf rows n)) n i
+
+abbrev μ-loop : tie.MeasureT-loop
+μ-loop rows n i₀ i = n - i
+
+loop-holds : tie.Need-loop-holds Inv-loop μ-loop
+loop-holds c = (search needs, refl)
+
+keeps-row-rule-requires : tie.Need-keeps-row-rule-requires Inv-loop μ-loop
+keeps-row-rule-requires c κs = search needs
+
+returns : tie.Need-returns Inv-loop μ-loop
+returns c =
+    let t = c .before .before in
+    let l = t .before in
+    let a = l .before .before .args in
+    scan-stop same 0 (breaksRowRule (rowsOf (a .rows .now) (a .n))) (a .n) (l .loop .i) (l .loop .inv .1) (t .loop-test .taken)
+    (ap not (sym (c .before .keeps-row-rule .ensures (a .n) (t .loop-test .taken))) ∙ c .if1 .taken)
+
+add-i : tie.Need-add-i Inv-loop μ-loop
+add-i c = search needs
+
+loop-less : tie.Need-loop-less Inv-loop μ-loop
+loop-less c = search needs
+
+loop-again : tie.Need-loop-again Inv-loop μ-loop
+loop-again c =
+    let t = c .before .before in
+    let l = t .before in
+    let a = l .before .before .args in (
+      search needs,
+      scan-next same 0 (breaksRowRule (rowsOf (a .rows .now) (a .n))) (a .n) (l .loop .i) (l .loop .inv .1) (t .loop-test .taken)
+          (ap not (sym (c .before .keeps-row-rule .ensures (a .n) (t .loop-test .taken))) ∙ c .if1 .left),
+    )
+
+returns-2 : tie.Need-returns-2 Inv-loop μ-loop
+returns-2 c =
+    let l = c .before in
+    let a = l .before .before .args in
+    scan-end same 0 (breaksRowRule (rowsOf (a .rows .now) (a .n))) (a .n) (l .loop .i) (l .loop .inv .1) (c .loop-test .left)
+
+pub first-broken-row-spec : {M : Type 1} → statement M
+first-broken-row-spec =
+    tie.close
+    (tie.spec
+    Inv-loop
+    μ-loop
+    loop-holds
+    keeps-row-rule-requires
+    returns
+    add-i
+    loop-less
+    loop-again
+    returns-2)
