@@ -2,9 +2,8 @@
 -- (`taps-multiply`). Assumes nothing.
 use mathlib.Core.Path.{_≡_, refl, sym, ap, ap₂, _∙_}
 use mathlib.Core.Bool.{Bool, true, false}
-use mathlib.Core.List.{List, [], _∷_, _++_, map}
-use Prim.Native.Nat.{ℕ, zero, suc, _+_, _<_, zero-le, suc-le-suc}
-use native.Mathlib.Nat.{lt-trans}
+use mathlib.Core.List.{List, [], _∷_, map}
+use Prim.Native.Nat.{ℕ, zero, suc, _<_, zero-le, suc-le-suc}
 use native.Mathlib.Omega.{arith}
 use borrow.Author.Tests.{ltb-true, ltb-false}
 use lib.Dec.{ltb}
@@ -15,7 +14,7 @@ use Rattle.network.specs.declared.Row.{Row}
 use Rattle.network.specs.declared.TapRow.{TapRow}
 use Rattle.network.specs.Rows.{Network, rowIn, tapRowIn}
 use Rattle.network.specs.RowRule.{RowRule, combined, lifted}
-use Rattle.network.specs.Coefficients.{signed, coefficientOf, coefficients}
+use Rattle.network.specs.Coefficients.{signed, coefficientOf}
 use Rattle.network.specs.TapRowRule.{TapRowRule, is-empty, is-product}
 use Rattle.network.specs.Evaluation.{shiftedUp, rowGives, rowResults, tapGives, tapResults}
 use Rattle.network.proofs.Multiples.{one-times, combined-times, signed-times, shifted-times}

@@ -1,8 +1,8 @@
 -- Sums and differences of multiples of a whole number. Assumes nothing.
-use mathlib.Core.Path.{_≡_, refl, sym, ap, ap₂, _∙_}
+use mathlib.Core.Path.{_≡_, refl, sym, ap, _∙_}
 use mathlib.Core.Bool.{Bool, true, false, cond}
-use Prim.Native.Nat.{ℕ, zero, suc, _+_, _*_, _^_}
-use native.Mathlib.Nat.{two-pow-succ, add-mul, mul-comm, one-mul}
+use Prim.Native.Nat.{ℕ, zero, suc, _*_, _^_}
+use native.Mathlib.Nat.{two-pow-succ, add-mul, one-mul}
 use lib.Dec.{eqb}
 use lib.IntN.{ℤ, pos, negsuc, negℤ, predℤ, sucℤ, _+ℤ_, _-ℤ_, _*ℤ_, +ℤ-idr, +ℤ-sucℤ, +ℤ-predℤ, +ℤ-assoc, +ℤ-idl, sucℤ-*ℤ, predℤ-*ℤ, zero-*ℤ, +ℤ-invr, +ℤ-invl}
 use Rattle.network.specs.Rows.{plus, minus}

@@ -39,20 +39,15 @@ first-row r e =
 first-kept : (r : Row) → FirstRow r → isFirst r ≡ true
 first-kept r f = rw (f .left, f .right, f .shift, f .sign, f .value)
 
-module _ (rows : List Row) (i : ℕ) where
-  r : Row
-  r = rowIn rows i
-
+module _ (rows : List Row) (i : ℕ) (r : Row) where
   a : ℕ
-  unfolding r
   a = lifted (r .shift) (rowIn rows (r .left) .value)
 
   b : ℕ
-  unfolding r
   b = rowIn rows (r .right) .value
 
-  later-row : isLater rows i (rowIn rows i) ≡ true → LaterRow rows i
-  unfolding r a b
+  later-row : isLater rows i r ≡ true → LaterRow rows i r
+  unfolding a b
   later-row e =
       let l = three (ltb (r .left) i) (ltb (r .right) i) (isSum r (rowIn rows (r .left) .value) b) e in
       let s = four (shiftWithin (r .shift)) (isWorked (r .sign) a b (r .value)) (valueWithin (r .value)) (leb a (2 ^ 32)) (l .2) in
@@ -72,8 +67,8 @@ module _ (rows : List Row) (i : ℕ) where
         bounded = leb-true a (2 ^ 32) (s .3);
       }
 
-  later-kept : LaterRow rows i → isLater rows i (rowIn rows i) ≡ true
-  unfolding r a b
+  later-kept : LaterRow rows i r → isLater rows i r ≡ true
+  unfolding a b
   later-kept w =
       rw (
         lt-ltb (r .left) i (w .left),
@@ -91,12 +86,12 @@ module _ (rows : List Row) (i : ℕ) where
 pub row-rule : (rows : List Row) (i : ℕ) → keepsRowRule rows i ≡ true → RowRule rows i
 unfolding keepsRowRule
 row-rule rows zero e = first-row (rowIn rows 0) e
-row-rule rows (suc i) e = later-row rows (suc i) e
+row-rule rows (suc i) e = later-row rows (suc i) (rowIn rows (suc i)) e
 
 pub row-kept : (rows : List Row) (i : ℕ) → RowRule rows i → keepsRowRule rows i ≡ true
 unfolding keepsRowRule
 row-kept rows zero w = first-kept (rowIn rows 0) w
-row-kept rows (suc i) w = later-kept rows (suc i) w
+row-kept rows (suc i) w = later-kept rows (suc i) (rowIn rows (suc i)) w
 
 -- ---- tap rows
 

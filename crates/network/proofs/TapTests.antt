@@ -72,10 +72,12 @@ empty-sign : (s : ℕ) (a b d e f : Bool) (z : ℤ) → s ≡ none
 empty-sign s a b d e f z h = rw h (ap (λ (x : Bool). productIf x (pos 0)) (sym (or-false (a && b))))
 
 module _ (rows : List Row) (t : TapRow) where
-  pub tap-empty : t .sign ≡ none → productIf (eqb (t .row) 0 && eqb (t .shift) 0) (pos 0) ≡ productOf rows t
+  -- k is the number of the row, and b whether it and the shift are 0
+  pub tap-empty : t .sign ≡ none → (k : ℕ) → k ≡ t .row → (b : Bool) → (eqb k 0 && eqb (t .shift) 0) ≡ b → productIf b (pos 0) ≡ productOf rows t
   unfolding productOf keepsTapRowRule coefficientOf
-  tap-empty e =
-      empty-sign (t .sign) (eqb (t .row) 0) (eqb (t .shift) 0) (ltb (t .row) (length rows)) (leb (t .shift) 31) (withinBounds (coefficientOf rows t)) _ e
+  tap-empty e k q b f =
+      ap (λ (x : Bool). productIf x (pos 0)) (sym f ∙ ap (λ (j : ℕ). eqb j 0 && eqb (t .shift) 0) q)
+      ∙ empty-sign (t .sign) (eqb (t .row) 0) (eqb (t .shift) 0) (ltb (t .row) (length rows)) (leb (t .shift) 31) (withinBounds (coefficientOf rows t)) _ e
 
   module _ (n : t .sign ≡ none → ⊥) where
     not-empty : keepsTapRowRule rows t ≡ isProduct rows t

@@ -1,8 +1,8 @@
 -- The row rule. Document 01, "The network". `RowRule` says it in the document's words; `keepsRowRule` computes it, and proofs/Rules.antt shows that
 -- the two say the same. Definitions only.
-use Prim.Native.Nat.{ℕ, zero, suc, _+_, _*_, _-_, _%_, _^_, _≤_, _<_}
+use Prim.Native.Nat.{ℕ, zero, suc, _*_, _-_, _%_, _^_, _≤_, _<_}
 use mathlib.Core.Path.{_≡_}
-use mathlib.Core.Bool.{Bool, true, false, cond, _&&_, _||_}
+use mathlib.Core.Bool.{Bool, false, cond, _&&_, _||_}
 use mathlib.Core.List.{List}
 use lib.Dec.{T, eqb, leb, ltb}
 use lib.IntN.{ℤ, pos, negsuc, _+ℤ_, _-ℤ_}
@@ -31,29 +31,29 @@ pub record FirstRow (r : Row) : Type 0 where
   pub sign : r .sign ≡ plus
   pub value : r .value ≡ 1
 
--- row i, a later one
-pub record LaterRow (rows : List Row) (i : ℕ) : Type 0 where
+-- r as row i, a later one
+pub record LaterRow (rows : List Row) (i : ℕ) (r : Row) : Type 0 where
   -- "A later row names two earlier rows (left and right, possibly the same)"
-  pub left : rowIn rows i .left < i
-  pub right : rowIn rows i .right < i
+  pub left : r .left < i
+  pub right : r .right < i
   -- "a shift s from 1 to 31"
-  pub shift-from : 1 ≤ rowIn rows i .shift
-  pub shift-to : rowIn rows i .shift ≤ 31
+  pub shift-from : 1 ≤ r .shift
+  pub shift-to : r .shift ≤ 31
   -- "and a sign"
-  pub sign : T (isRowSign (rowIn rows i .sign))
+  pub sign : T (isRowSign (r .sign))
   -- "A stored value other than the one worked out breaks the row rule"
-  pub worked : pos (rowIn rows i .value) ≡ combined (rowIn rows i .sign) (pos (lifted (rowIn rows i .shift) (rowIn rows (rowIn rows i .left) .value))) (pos (rowIn rows (rowIn rows i .right) .value))
+  pub worked : pos (r .value) ≡ combined (r .sign) (pos (lifted (r .shift) (rowIn rows (r .left) .value))) (pos (rowIn rows (r .right) .value))
   -- "A row's value is odd, from 1 to 2^31 - 1"
-  pub odd : rowIn rows i .value % 2 ≡ 1
-  pub value-from : 1 ≤ rowIn rows i .value
-  pub value-to : rowIn rows i .value ≤ 2 ^ 31 - 1
+  pub odd : r .value % 2 ≡ 1
+  pub value-from : 1 ≤ r .value
+  pub value-to : r .value ≤ 2 ^ 31 - 1
   -- "and 2^s·left is at most 2^32"
-  pub bounded : lifted (rowIn rows i .shift) (rowIn rows (rowIn rows i .left) .value) ≤ 2 ^ 32
+  pub bounded : lifted (r .shift) (rowIn rows (r .left) .value) ≤ 2 ^ 32
 
 -- the row rule for row i of a network
 abbrev pub RowRule : List Row → ℕ → Type 0
 RowRule rows zero = FirstRow (rowIn rows 0)
-RowRule rows (suc i) = LaterRow rows (suc i)
+RowRule rows (suc i) = LaterRow rows (suc i) (rowIn rows (suc i))
 
 -- ---- computed
 

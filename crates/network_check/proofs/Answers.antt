@@ -2,50 +2,24 @@
 use mathlib.Core.Path.{_≡_, refl, sym, ap, _∙_, subst}
 use mathlib.Core.Bool.{Bool, true, false, _||_, or-true, true≢false, false≢true}
 use mathlib.Core.List.{List, _++_}
-use Prim.Native.Nat.{ℕ, zero, suc, _+_, _-_, _*_, _≤_, _<_}
-use native.Mathlib.Omega.{arith}
+use Prim.Native.Nat.{ℕ, _*_, _≤_, _<_}
 use borrow.Author.Tests.{lt-ltb, le-ltb, eq-eqb, ne-eqb}
 use lib.Dec.{eqb, ltb}
-use lib.IntN.{ℤ, pos}
-use lib.ListN.{length, take, drop, replicate, length-append, length-replicate}
-use lib.Seq.{take-at}
+use lib.IntN.{ℤ}
+use lib.ListN.{length, take, drop}
 use Rattle.refusal.specs.Answer.{Answer, given, refused, refuseIf, refuseAt, Place, nowhere, at-place, lowest, filled}
 use Rattle.refusal.proofs.Checks.{check-applies, check-passes}
-use Rattle.refusal.proofs.Tables.{length-map}
 use Rattle.sequence.proofs.UpTo.{length-upTo}
-use Rattle.network.specs.Rows.{rowWords, tapWords, rowAt, tapRowAt, rowsOf, tapRowsOf, networkOf}
-use Rattle.network.specs.Coefficients.{coefficientOf, coefficients}
+use Rattle.network.specs.Rows.{rowWords, tapWords, rowAt, rowsOf, tapRowsOf, networkOf}
+use Rattle.network.specs.Coefficients.{coefficients}
 use Rattle.network.specs.Check.{breaksRowRule, breaksTapRowRule, numbers, checked, shortTables, networkAnswer, outcome}
+use Rattle.network_check.proofs.Padded.{take-padded}
 use Rattle.network_check.specs.Steps.{isGiven, padded, Holds}
 
 -- ---- a refusal, and what the buffer then holds: anything
 
 pub turned : (a : Answer (List ℤ)) (number place : ℕ) (buffer : List ℤ) → refused number place ≡ a → (refused number place ≡ outcome a) × Holds a buffer
 turned a number place buffer e = (ap outcome e, subst (λ (r : Answer (List ℤ)). Holds r buffer) e tt)
-
--- ---- the buffer of a network that passes
-
-zeros-left : (m n : ℕ) → drop m (replicate n (pos 0)) ≡ replicate (n - m) (pos 0)
-zeros-left zero n = ap (λ (k : ℕ). replicate k (pos 0)) (less-none n)
-  where
-    less-none : (n : ℕ) → n ≡ n - 0
-    less-none n = omega arith
-zeros-left (suc m) zero = ap (λ (k : ℕ). replicate k (pos 0)) (none-less m)
-  where
-    none-less : (m : ℕ) → 0 ≡ 0 - suc m
-    none-less m = omega arith
-zeros-left (suc m) (suc n) = zeros-left m n ∙ ap (λ (k : ℕ). replicate k (pos 0)) (less-one m n)
-  where
-    less-one : (m n : ℕ) → n - m ≡ suc n - suc m
-    less-one m n = omega arith
-
-pub length-coefficients : (rows : List ℕ) (n : ℕ) (taps : List ℕ) (m : ℕ) → length (coefficients (networkOf rows n taps m)) ≡ m
-length-coefficients rows n taps m = length-map (coefficientOf (rowsOf rows n)) (tapRowsOf taps m) ∙ length-upTo m (tapRowAt taps)
-
-pub padded-is : (h old : List ℤ) (m : ℕ) → length h ≡ m → old ≡ replicate 256 (pos 0) → h ++ drop m old ≡ padded h
-unfolding padded
-padded-is h old m e z =
-    ap (λ (l : List ℤ). h ++ l) (ap (drop m) z ∙ zeros-left m 256 ∙ ap (λ (k : ℕ). replicate (256 - k) (pos 0)) (sym e))
 
 -- ---- the checks 10 and 11
 
@@ -137,17 +111,6 @@ pub record Result (a : Answer (List ℤ)) (buffer : List ℤ) : Type 0 where
 pub result : (a : Answer (List ℤ)) (buffer : List ℤ) → isGiven (outcome a) ≡ true → Holds a buffer → Result a buffer
 result (given h) buffer e p = record { h = h; given-h = refl; held = p }
 result (refused number place) buffer e p = absurd (false≢true e)
-
-pub length-padded : (h : List ℤ) → length h ≤ 256 → length (padded h) ≡ 256
-unfolding padded
-length-padded h l = length-append h (replicate (256 - length h) (pos 0)) ∙ ap (λ (k : ℕ). length h + k) (length-replicate (256 - length h) (pos 0)) ∙ whole (length h) l
-  where
-    whole : (k : ℕ) → k ≤ 256 → k + (256 - k) ≡ 256
-    whole k l = omega arith
-
-take-padded : (h : List ℤ) (m : ℕ) → length h ≡ m → take m (padded h) ≡ h
-unfolding padded
-take-padded h m e = take-at h (replicate (256 - length h) (pos 0)) m e
 
 -- the copy of the first m elements
 pub copied : (a : Answer (List ℤ)) (h cs buffer old : List ℤ) (m : ℕ) → a ≡ given h → buffer ≡ padded h → h ≡ cs → length cs ≡ m → take m buffer ++ drop m old ≡ filled a cs old

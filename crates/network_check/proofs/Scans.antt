@@ -11,19 +11,19 @@ use Rattle.sequence.proofs.UpTo.{length-upTo, getD-upTo}
 
 module _ {A : Type 0} (f : ℕ → A) (d : A) (breaks : A → Bool) (n i : ℕ) where
   -- none of the places before i breaks the rule
-  abbrev pub Passed : Type 0
-  Passed = lowestFrom i breaks (drop i (upTo n f)) ≡ lowest breaks (upTo n f)
+  abbrev pub NoneBefore : Type 0
+  NoneBefore = lowestFrom i breaks (drop i (upTo n f)) ≡ lowest breaks (upTo n f)
 
   within : i < n → i < length (upTo n f)
   within l = omega (arith, length-upTo n f)
 
-  pub scan-stop : Passed → i < n → breaks (f i) ≡ true → i ≡ placeOr n (lowest breaks (upTo n f))
+  pub scan-stop : NoneBefore → i < n → breaks (f i) ≡ true → i ≡ placeOr n (lowest breaks (upTo n f))
   scan-stop p l b = ap (placeOr n) (sym (lowest-here d breaks (upTo n f) i (within l) (ap breaks (getD-upTo n f d i l) ∙ b)) ∙ p)
 
-  pub scan-next : Passed → i < n → breaks (f i) ≡ false → lowestFrom (i + 1) breaks (drop (i + 1) (upTo n f)) ≡ lowest breaks (upTo n f)
+  pub scan-next : NoneBefore → i < n → breaks (f i) ≡ false → lowestFrom (i + 1) breaks (drop (i + 1) (upTo n f)) ≡ lowest breaks (upTo n f)
   scan-next p l b = sym (lowest-later d breaks (upTo n f) i (within l) (ap breaks (getD-upTo n f d i l) ∙ b)) ∙ p
 
-  pub scan-end : Passed → n ≤ i → n ≡ placeOr n (lowest breaks (upTo n f))
+  pub scan-end : NoneBefore → n ≤ i → n ≡ placeOr n (lowest breaks (upTo n f))
   scan-end p l = ap (placeOr n) (sym (lowest-none d breaks (upTo n f) i (omega (arith, length-upTo n f))) ∙ p)
 
   -- i is the place that was found, or n

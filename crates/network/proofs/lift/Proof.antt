@@ -1,3 +1,4 @@
+-- `network::lift` meets its contract: nothing is lost at the high end. Assumes nothing.
 use Prim.Native.Nat.{_%_, _^_, ℕ, _*_, _<_}
 use native.Mathlib.Nat.{mul-comm, lt-of-lt-of-le}
 use lib.Pow.{shl-exact, shl-lt, pow-mono}

@@ -1,3 +1,4 @@
+-- `network_check::coefficients` meets its contract: where the network has passed, the buffer holds its coefficients and the table has room. Assumes nothing.
 use mathlib.Core.List.{List}
 use borrow.Author.Tests.{ltb-false}
 use lib.Dec.{ltb}
@@ -8,11 +9,14 @@ use Rattle.network.specs.Rows.{networkOf}
 use Rattle.network.specs.Coefficients as Coefficients
 use Rattle.network.specs.Check.{networkAnswer}
 use Rattle.network.proofs.Passed.{Accepted, given-accepted}
+use Rattle.network.proofs.Given.{length-coefficients}
 use Rattle.network_check.specs.Steps.{isGiven}
-use Rattle.network_check.proofs.Answers.{Result, result, length-coefficients, length-padded, copied, unchanged}
+use Rattle.network_check.proofs.Padded.{length-padded}
+use Rattle.network_check.proofs.Answers.{Result, result, copied, unchanged}
 use mathlib.Core.Path.{_≡_, sym, ap, _∙_}
 use lib.ListN.{length}
 use borrow.Author.Needs.{needs}
+use native.Mathlib.Omega.{arith}
 use Rattle.network_check.proofs.coefficients.Statement.{statement}
 use Rattle.network_check.proofs.coefficients.Tie as tie
 
@@ -55,7 +59,8 @@ copy-requires : tie.Need-copy-requires
 copy-requires c κs =
     let t = c .before .before in
     let a = t .before .before .before .before .before .before .args in
-    (le-trans (accepted t .taps-to) (le-of-eq (sym (length-buffer t))), ltb-false (length (a .table .now)) (a .tap-count) (accepted t .others-long))
+    let l = ltb-false (length (a .table .now)) (a .tap-count) (accepted t .others-long) in
+    (omega (arith, accepted t .taps-to, length-buffer t), omega (arith, l))
 
 same-length : tie.Need-same-length
 same-length c = search needs

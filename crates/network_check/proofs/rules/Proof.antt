@@ -1,12 +1,15 @@
+-- `network_check::rules` meets its contract: each answer is a law of proofs/Answers.antt. Assumes nothing.
 use Rattle.refusal.specs.Answer.{Answer, nowhere, lowest, placeOr}
 use lib.IntN.{ℤ}
 use mathlib.Core.List.{List}
 use Rattle.network.specs.Rows.{rowsOf, tapRowAt, noTap, networkOf}
 use Rattle.network.specs.Coefficients.{coefficients}
 use Rattle.network.specs.Check.{breaksRowRule, breaksTapRowRule, numbers, checked, outcome}
+use Rattle.network.proofs.Given.{length-coefficients}
 use Rattle.network_check.specs.Steps.{Holds}
 use Rattle.network_check.proofs.Scans.{scan-found, scan-none}
-use Rattle.network_check.proofs.Answers.{turned, length-coefficients, padded-is, no-rows, many-rows, broken-row, broken-tap, kept}
+use Rattle.network_check.proofs.Padded.{padded-is}
+use Rattle.network_check.proofs.Answers.{turned, no-rows, many-rows, broken-row, broken-tap, kept}
 use Prim.Native.Nat.{ℕ}
 use mathlib.Core.Path.{_≡_, ap, subst, _∙_}
 use borrow.Author.Needs.{needs}

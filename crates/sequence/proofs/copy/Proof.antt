@@ -2,14 +2,13 @@
 use borrow.Author.Needs.{needs}
 use mathlib.Core.Path.{_≡_, refl, sym, ap, _∙_}
 use mathlib.Core.List.{List, _++_}
-use Prim.Native.Nat.{ℕ, _-_, _≤_, _<_}
+use Prim.Native.Nat.{ℕ, _-_, _≤_}
 use native.Mathlib.Omega.{arith}
 use lib.IntN.{ℤ, pos}
-use lib.ListN.{length, length-set, take, drop, set, getD}
+use lib.ListN.{length, length-set, drop, set, getD}
 use mir.Syntax.{w32}
-use mir.Val.{toZ, ofZ}
 use mir.ValLaws.{toZ-ofZ}
-use Rattle.sequence.specs.UpTo.{upTo, front}
+use Rattle.sequence.specs.UpTo.{front}
 use Rattle.sequence.proofs.UpTo.{upTo-take}
 use Rattle.sequence.proofs.Front.{front-start, front-next}
 use Rattle.sequence.proofs.copy.Statement.{statement}

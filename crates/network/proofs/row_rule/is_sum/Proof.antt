@@ -1,3 +1,4 @@
+-- `network::row_rule::is_sum` meets its contract. Assumes nothing.
 use Rattle.network.proofs.RowTests.{sum-shift, sum-tests}
 use borrow.Author.Needs.{needs}
 use Rattle.network.proofs.row_rule.is_sum.Statement.{statement}

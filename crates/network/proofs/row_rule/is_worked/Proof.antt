@@ -1,3 +1,4 @@
+-- `network::row_rule::is_worked` meets its contract. Assumes nothing.
 use Rattle.network.proofs.RowTests.{worked-tests}
 use borrow.Author.Needs.{needs}
 use Rattle.network.proofs.row_rule.is_worked.Statement.{statement}

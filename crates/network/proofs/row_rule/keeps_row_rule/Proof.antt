@@ -1,3 +1,4 @@
+-- `network::row_rule::keeps_row_rule` meets its contract: each return is a law of proofs/RowTests.antt. Assumes nothing.
 use Rattle.network.specs.Rows.{rowAt}
 use Rattle.network.proofs.RowTests.{row-first, row-left, row-right, row-sum}
 use Prim.Native.Nat.{ℕ}

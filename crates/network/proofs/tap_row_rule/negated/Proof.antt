@@ -1,3 +1,4 @@
+-- `network::tap_row_rule::negated` meets its contract. Assumes nothing.
 use lib.IntN.{pos, negℤ}
 use Rattle.network.proofs.TapTests.{negative-word}
 use Prim.Native.Nat.{ℕ}

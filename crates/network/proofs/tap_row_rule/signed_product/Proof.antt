@@ -1,3 +1,4 @@
+-- `network::tap_row_rule::signed_product` meets its contract: each return is a law of proofs/TapTests.antt. Assumes nothing.
 use mir.Syntax.{w32}
 use mir.ValLaws.{toZ-pos, toZ-ofZ}
 use Rattle.network.specs.declared.tap_row_rule.TapProduct.the-variants.{Coefficient}
@@ -14,7 +15,7 @@ cast-t5 c = search needs
 returns : tie.Need-returns
 returns c =
     let a = c .before .before .args in
-    ap Coefficient (toZ-pos w32 (a .p) (omega arith)) ∙ plus-within (a .sign) (a .p) (c .before .if1 .taken) (c .if2 .taken)
+    ap Coefficient (toZ-pos w32 (a .p) (omega arith)) ∙ plus-within (a .sign) (a .p) (c .before .if1 .taken) (omega (arith, c .if2 .taken))
 
 returns-2 : tie.Need-returns-2
 returns-2 c = let a = c .before .before .args in plus-outside (a .sign) (a .p) (c .before .if1 .taken) (c .if2 .left)
@@ -27,7 +28,7 @@ returns-3 c =
     let f = c .before .before in
     let a = f .before .before .args in
     ap Coefficient (toZ-ofZ w32 (c .negated .result) (record { sfits = c .negated .ok }) ∙ c .negated .ensures)
-    ∙ minus-within (a .sign) (a .p) (f .before .if1 .left) (f .if3 .taken) (c .before .if4 .taken)
+    ∙ minus-within (a .sign) (a .p) (f .before .if1 .left) (f .if3 .taken) (omega (arith, c .before .if4 .taken))
 
 returns-4 : tie.Need-returns-4
 returns-4 c =

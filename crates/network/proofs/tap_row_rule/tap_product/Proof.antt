@@ -1,5 +1,5 @@
-use mathlib.Core.Bool.{Bool, _&&_}
-use lib.Dec.{eqb}
+-- `network::tap_row_rule::tap_product` meets its contract: each return is a law of proofs/TapTests.antt. Assumes nothing.
+use mathlib.Core.Bool.{true, false, _&&_}
 use lib.IntN.{ℤ, pos}
 use Rattle.sequence.proofs.UpTo.{length-upTo, getD-upTo}
 use Rattle.network.specs.declared.Row.{Row}
@@ -29,11 +29,7 @@ returns c =
     let t = m .before in
     let a = t .before .before .before .args in
     let rows = rowsOf (a .rows .now) (a .n) in
-    let p = t .read-tap-row .result in
-    ap (λ (b : Bool). productIf b (pos 0)) (sym (c .if2 .taken))
-    ∙ ap (λ (k : ℕ). productIf (eqb k 0 && eqb (p .shift) 0) (pos 0)) (m .number .ensures)
-    ∙ tap-empty rows p (f .if1 .taken)
-    ∙ ap (productOf rows) (t .read-tap-row .ensures)
+    tap-empty rows (t .read-tap-row .result) (f .if1 .taken) (m .number .result) (m .number .ensures) true (c .if2 .taken) ∙ ap (productOf rows) (t .read-tap-row .ensures)
 
 returns-2 : tie.Need-returns-2
 returns-2 c =
@@ -42,11 +38,7 @@ returns-2 c =
     let t = m .before in
     let a = t .before .before .before .args in
     let rows = rowsOf (a .rows .now) (a .n) in
-    let p = t .read-tap-row .result in
-    ap (λ (b : Bool). productIf b (pos 0)) (sym (c .if2 .left))
-    ∙ ap (λ (k : ℕ). productIf (eqb k 0 && eqb (p .shift) 0) (pos 0)) (m .number .ensures)
-    ∙ tap-empty rows p (f .if1 .taken)
-    ∙ ap (productOf rows) (t .read-tap-row .ensures)
+    tap-empty rows (t .read-tap-row .result) (f .if1 .taken) (m .number .result) (m .number .ensures) false (c .if2 .left) ∙ ap (productOf rows) (t .read-tap-row .ensures)
 
 returns-3 : tie.Need-returns-3
 returns-3 c =

@@ -1,0 +1,72 @@
+-- The coefficients that an entry is given with a network that it accepts: their number, their bounds, and that they are the network's alone.
+-- Assumes nothing.
+use mathlib.Core.Path.{_≡_, refl, sym, ap, _∙_, subst}
+use mathlib.Core.Bool.{Bool}
+use mathlib.Core.List.{List}
+use Prim.Native.Nat.{ℕ, _<_}
+use native.Mathlib.Omega.{arith}
+use lib.Dec.{leb→le}
+use lib.IntN.{ℤ, pos, negsuc, negℤ}
+use lib.ListN.{length, getD, List·getD-map}
+use lib.Signed.{_≤ℤ_}
+use mir.Syntax.{w32}
+use mir.Val.{SFits}
+use Rattle.refusal.specs.Answer.{given}
+use Rattle.refusal.proofs.Tables.{length-map}
+use Rattle.sequence.proofs.UpTo.{length-upTo}
+use Rattle.network.specs.declared.Row.{Row}
+use Rattle.network.specs.declared.TapRow.{TapRow}
+use Rattle.network.specs.Rows.{Network, none, tapRowAt, rowsOf, tapRowsOf, networkOf, tapRowIn, noTap}
+use Rattle.network.specs.Coefficients.{coefficientOf, coefficients}
+use Rattle.network.specs.TapRowRule.{TapRowRule, is-empty, is-product}
+use Rattle.network.specs.Check.{networkAnswer}
+use Rattle.network.proofs.Passed.{Passed, given-accepted}
+
+pub length-coefficients : (rows : List ℕ) (n : ℕ) (taps : List ℕ) (m : ℕ) → length (coefficients (networkOf rows n taps m)) ≡ m
+length-coefficients rows n taps m = length-map (coefficientOf (rowsOf rows n)) (tapRowsOf taps m) ∙ length-upTo m (tapRowAt taps)
+
+-- ---- the coefficient of each tap is within bounds
+
+empty-is : (rows : List Row) (t : TapRow) → t .sign ≡ none → coefficientOf rows t ≡ pos 0
+unfolding coefficientOf
+empty-is rows t e = rw e
+
+bounds-fit : (z : ℤ) → negℤ (pos 2147483648) ≤ℤ z → z ≤ℤ pos 2147483647 → SFits w32 z
+bounds-fit (pos n) l g = record { sfits = omega (arith, leb→le n 2147483647 (g .le)) }
+bounds-fit (negsuc n) l g = record { sfits = omega (arith, leb→le n 2147483647 (l .le)) }
+
+tap-fits : (rows : List Row) (t : TapRow) → TapRowRule rows t → SFits w32 (coefficientOf rows t)
+tap-fits rows t (is-empty w) = subst (SFits w32) (sym (empty-is rows t (w .sign))) (record { sfits = omega arith })
+tap-fits rows t (is-product w) = bounds-fit (coefficientOf rows t) (w .from-least) (w .to-greatest)
+
+-- the coefficient of tap j of a network that passes is the product of its tap row, and fits 32 bits
+pub coefficient-is : (net : Network) (h : List ℤ) → Passed net h → (j : ℕ) → getD h j (pos 0) ≡ coefficientOf (net .rows) (tapRowIn (net .taps) j)
+coefficient-is net h p j =
+    ap (λ (l : List ℤ). getD l j (pos 0)) (p .result)
+    ∙ ap (getD (coefficients net) j) (sym (empty-is (net .rows) noTap none-is))
+    ∙ List·getD-map (coefficientOf (net .rows)) (net .taps) j noTap
+  where
+    none-is : noTap .sign ≡ none
+    none-is = refl
+
+pub coefficient-fits : (net : Network) (h : List ℤ) → Passed net h → (j : ℕ) → j < length (net .taps) → SFits w32 (getD h j (pos 0))
+coefficient-fits net h p j l =
+    subst (SFits w32) (sym (coefficient-is net h p j)) (tap-fits (net .rows) (tapRowIn (net .taps) j) (p .taps j l))
+
+-- ---- what is given
+
+module _ (short : Bool) (rows : List ℕ) (n : ℕ) (taps : List ℕ) (m : ℕ) (h : List ℤ) (e : networkAnswer short rows n taps m ≡ given h) where
+  pub given-is : h ≡ coefficients (networkOf rows n taps m)
+  given-is = given-accepted short rows n taps m h e .passed .result
+
+  pub given-length : length h ≡ m
+  given-length = ap length given-is ∙ length-coefficients rows n taps m
+
+  pub given-fits : (j : ℕ) → j < m → SFits w32 (getD h j (pos 0))
+  given-fits j l = coefficient-fits (networkOf rows n taps m) h (given-accepted short rows n taps m h e .passed) j (omega (arith, length-upTo m (tapRowAt taps)))
+
+-- equal networks have equal coefficients, whatever the tables hold past them
+pub same-coefficients : (short short′ : Bool) (rows rows′ : List ℕ) (n n′ : ℕ) (taps taps′ : List ℕ) (m m′ : ℕ) (h h′ : List ℤ)
+    → networkOf rows n taps m ≡ networkOf rows′ n′ taps′ m′ → networkAnswer short rows n taps m ≡ given h → networkAnswer short′ rows′ n′ taps′ m′ ≡ given h′ → h ≡ h′
+same-coefficients short short′ rows rows′ n n′ taps taps′ m m′ h h′ q e e′ =
+    given-is short rows n taps m h e ∙ ap coefficients q ∙ sym (given-is short′ rows′ n′ taps′ m′ h′ e′)
