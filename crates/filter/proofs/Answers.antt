@@ -2,38 +2,16 @@
 use mathlib.Core.Path.{_≡_, refl, sym, ap, ap₂, _∙_}
 use mathlib.Core.Bool.{Bool, true, false, _||_, true≢false}
 use mathlib.Core.List.{List, _++_}
-use Prim.Native.Nat.{ℕ, zero, suc, _+_, _-_, _≤_}
-use native.Mathlib.Omega.{arith}
-use borrow.Author.Tests.{ltb-true, ltb-false}
-use lib.Dec.{ltb}
-use lib.IntN.{ℤ, pos}
-use lib.ListN.{length, getD, drop, replicate, List·getD-append, List·getD-eq-default}
-use lib.Seq.{getD-append-add}
+use Prim.Native.Nat.{ℕ}
+use lib.IntN.{ℤ}
+use lib.ListN.{length, drop}
 use Rattle.refusal.specs.Answer.{Answer, given, refused}
 use Rattle.convolution.specs.Running.{registersOf, outputsOf}
 use Rattle.convolution.proofs.Same.{same-registers, same-outputs}
 use Rattle.network.specs.Check.{outcome}
 use Rattle.network_check.specs.Steps.{isGiven, padded}
+use Rattle.network_check.proofs.Padded.{padded-at}
 use Rattle.filter.specs.Run.{runRegisters, runOutputs}
-
--- ---- zeros past the last tap
-
-zeros : (n k : ℕ) → getD (replicate n (pos 0)) k (pos 0) ≡ pos 0
-zeros zero k = refl
-zeros (suc n) zero = refl
-zeros (suc n) (suc k) = zeros n k
-
-padded-by : (h : List ℤ) (k : ℕ) (t : Bool) → ltb k (length h) ≡ t → getD (padded h) k (pos 0) ≡ getD h k (pos 0)
-unfolding padded
-padded-by h k true e = List·getD-append h (replicate (256 - length h) (pos 0)) (pos 0) k (ltb-true k (length h) e)
-padded-by h k false e =
-    let l : length h ≤ k = ltb-false k (length h) e in
-    let q : k ≡ length h + (k - length h) = omega arith in
-    ap (λ i. getD (h ++ replicate (256 - length h) (pos 0)) i (pos 0)) q ∙ getD-append-add h (replicate (256 - length h) (pos 0)) (k - length h) (pos 0)
-    ∙ zeros (256 - length h) (k - length h) ∙ sym (List·getD-eq-default h (pos 0) l)
-
-padded-at : (h : List ℤ) (k : ℕ) → getD (padded h) k (pos 0) ≡ getD h k (pos 0)
-padded-at h k = padded-by h k (ltb k (length h)) refl
 
 -- ---- accepted
 

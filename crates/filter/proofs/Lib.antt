@@ -1,3 +1,4 @@
 pub mod Answers
 pub mod Stretches
 pub mod Calls
+pub mod Theorem

@@ -12,7 +12,9 @@ use lib.ListN.{length}
 use Rattle.refusal.specs.Answer.{Answer}
 use Rattle.network.proofs.Passed.{Accepted, given-accepted}
 use Rattle.network_check.specs.Steps.{isGiven}
-use Rattle.network_check.proofs.Answers.{Result, result, length-coefficients, length-padded}
+use Rattle.network.proofs.Given.{length-coefficients}
+use Rattle.network_check.proofs.Answers.{Result, result}
+use Rattle.network_check.proofs.Padded.{length-padded}
 use Rattle.filter.specs.Run.{runAnswer}
 use Rattle.filter.proofs.Answers.{moved, written, kept-registers, kept-outputs, or-first, or-second}
 use Rattle.filter.proofs.run.Statement.{statement}
