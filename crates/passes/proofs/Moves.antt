@@ -10,10 +10,10 @@ use Rattle.sequence.proofs.Front.{front-next}
 use Rattle.convolution.specs.Running.{next}
 use Rattle.convolution.specs.Sums.{held}
 use Rattle.convolution.proofs.Steps.{held-low, next-last, next-drop, length-next}
-use Rattle.passes.specs.Quiet.{Quiet}
-use Rattle.passes.specs.Tables.{after4}
+use Rattle.tables.specs.Quiet.{Quiet}
+use Rattle.tables.specs.Tables.{after4}
 use Rattle.passes.proofs.Fronts.{front-rest, front-all}
-use Rattle.passes.proofs.Quiets.{quiet-next, quiet-four, quiet-same}
+use Rattle.tables.proofs.Quiets.{quiet-next, quiet-four, quiet-same}
 
 module _ (h : List ℤ) (few : length h ≤ 256) (w : ℕ) where
   -- past the registers in use, what they hold afterwards is what they held

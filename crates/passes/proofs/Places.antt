@@ -16,7 +16,7 @@ use Rattle.convolution.specs.Sums.{held}
 use Rattle.convolution.proofs.Words.{wrapped-none, wrapped-lt}
 use Rattle.convolution.proofs.Steps.{held-next, sum-step}
 use Rattle.products.specs.Offset.{coefficientIn, plus, fourSums}
-use Rattle.passes.specs.Tables.{coefficientsIn, Padded, after4}
+use Rattle.tables.specs.Tables.{coefficientsIn, Padded, after4}
 
 pub length-in : (c : List ℕ) → length (coefficientsIn c) ≡ 256
 unfolding coefficientsIn

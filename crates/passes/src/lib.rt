@@ -10,20 +10,13 @@ ghost use Rattle.sequence.specs.UpTo.{front};
 ghost use Rattle.convolution.specs.Running.{outputsOf};
 ghost use Rattle.convolution.specs.Sums.{held};
 ghost use Rattle.products.specs.Offset.{coefficientIn, sampleIn, sampleCorrection, fourSums};
-ghost use Rattle.passes.specs.Tables.{coefficientsIn, Padded, Corrected, after4};
-ghost use Rattle.passes.specs.Quiet.{Quiet};
-
-mod tables;
-mod width;
-
+ghost use Rattle.tables.specs.Tables.{coefficientsIn, Padded, Corrected, after4};
+ghost use Rattle.tables.specs.Quiet.{Quiet};
 use products::four;
 use products::offset_sample;
 use products::sample_correction;
 use products::signed;
-pub use tables::corrections;
-pub use tables::offset_all;
-pub use width::least;
-pub use width::used;
+use tables::least;
 
 // What place j comes to, from the register that it starts from.
 fn place(

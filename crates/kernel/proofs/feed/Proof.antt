@@ -12,7 +12,7 @@ use Rattle.kernel.proofs.feed.Reads as reads
 use Rattle.kernel.proofs.feed.Lts as lts
 use Rattle.kernel.proofs.singly.Reads as singly-reads
 use Rattle.kernel.proofs.with_tables.Reads as with-tables-reads
-use Rattle.passes.proofs.used.Reads as used-reads
+use Rattle.tables.proofs.used.Reads as used-reads
 
 used-requires : tie.Need-used-requires
 used-requires c κs = search needs

@@ -8,10 +8,10 @@ use borrow.Author.Needs.{needs}
 use lib.IntN.{pos}
 use lib.Seq.{sets}
 use Rattle.convolution.specs.Running.{registersOf, outputsOf}
-use Rattle.passes.specs.Tables.{coefficientsIn}
-use Rattle.passes.specs.Quiet.{Quiet}
+use Rattle.tables.specs.Tables.{coefficientsIn}
+use Rattle.tables.specs.Quiet.{Quiet}
 use Rattle.passes.proofs.Places.{length-in}
-use Rattle.passes.proofs.Quiets.{quiet-four}
+use Rattle.tables.proofs.Quiets.{quiet-four}
 use Rattle.kernel.proofs.Passes.{fours-registers, fours-outputs}
 use Rattle.kernel.proofs.fours.Statement.{statement}
 use Rattle.kernel.proofs.fours.Tie as tie

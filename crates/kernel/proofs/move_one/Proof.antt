@@ -23,7 +23,7 @@ use Rattle.kernel.proofs.move_one.Statement.{statement}
 use Rattle.kernel.proofs.move_one.Tie as tie
 use Rattle.kernel.proofs.move_one.Reads as reads
 use Rattle.kernel.proofs.move_one.Lts as lts
-use Rattle.passes.proofs.least.Reads as least-reads
+use Rattle.tables.proofs.least.Reads as least-reads
 use Rattle.products.proofs.sum.Reads as sum-reads
 
 abbrev Inv-loop : tie.InvT-loop

@@ -11,7 +11,7 @@ use mir.Val.{toZ, ofZ}
 use mir.ValLaws.{toZ-ofZ}
 use Rattle.convolution.proofs.Steps.{held-low}
 use Rattle.products.specs.Offset.{sampleIn}
-use Rattle.passes.specs.Tables.{coefficientsIn}
+use Rattle.tables.specs.Tables.{coefficientsIn}
 use Rattle.passes.proofs.Places.{output-place0, output-place1, output-place2, output-place3}
 use Rattle.passes.proofs.Outputs.{four-outputs}
 use Rattle.passes.proofs.answer.Statement.{statement}

@@ -9,7 +9,7 @@ use Rattle.convolution.proofs.Steps.{held-high}
 use Rattle.products.specs.Offset.{sampleIn}
 use Rattle.convolution.specs.Sums.{held}
 use Rattle.sequence.specs.UpTo.{front}
-use Rattle.passes.specs.Tables.{coefficientsIn, after4}
+use Rattle.tables.specs.Tables.{coefficientsIn, after4}
 use Rattle.passes.proofs.Places.{length-in, register-place}
 use Rattle.passes.proofs.Moves.{moved-four}
 use Rattle.passes.proofs.move_four.Statement.{statement}
@@ -18,7 +18,7 @@ use Rattle.passes.proofs.move_four.Reads as reads
 use Rattle.passes.proofs.move_four.Lts as lts
 use Rattle.passes.proofs.place.Reads as place-reads
 use Rattle.passes.proofs.slide.Reads as slide-reads
-use Rattle.passes.proofs.width.least.Reads as least-reads
+use Rattle.tables.proofs.least.Reads as least-reads
 
 least-requires : tie.Need-least-requires
 least-requires c κs = search needs

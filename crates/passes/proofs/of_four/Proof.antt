@@ -8,7 +8,7 @@ use borrow.Author.Needs.{needs}
 use lib.IntN.{pos}
 use mir.Syntax.{w16}
 use mir.ValLaws.{toZ-ofZ}
-use Rattle.passes.specs.Tables.{coefficientsIn}
+use Rattle.tables.specs.Tables.{coefficientsIn}
 use Rattle.passes.proofs.Outputs.{same-registers, same-outputs}
 use Rattle.passes.proofs.of_four.Statement.{statement}
 use Rattle.passes.proofs.of_four.Tie as tie

@@ -10,7 +10,7 @@ use Rattle.sequence.proofs.Front.{front-start, front-read, front-next}
 use Rattle.convolution.specs.Sums.{held}
 use Rattle.convolution.proofs.Steps.{held-low}
 use Rattle.products.specs.Offset.{sampleIn}
-use Rattle.passes.specs.Tables.{coefficientsIn, after4}
+use Rattle.tables.specs.Tables.{coefficientsIn, after4}
 use Rattle.passes.proofs.Places.{register-place}
 use Rattle.passes.proofs.slide.Statement.{statement}
 use Rattle.passes.proofs.slide.Tie as tie

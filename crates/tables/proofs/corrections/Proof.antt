@@ -1,4 +1,4 @@
--- `passes::tables::corrections` meets its contract.
+-- `tables::corrections` meets its contract.
 use Prim.Native.Nat.{ℕ, _≤_, _-_, _+_, _*_, _<_}
 use mathlib.Core.Path.{_≡_, refl, sym, ap, subst, _∙_}
 use mathlib.Core.Logic.{⊎-elim}
@@ -8,11 +8,11 @@ use borrow.Author.Needs.{needs}
 use Rattle.sequence.specs.UpTo.{front}
 use Rattle.sequence.proofs.Front.{front-start, front-next, front-done}
 use Rattle.products.specs.Offset.{coefficientCorrection}
-use Rattle.passes.specs.Tables.{Corrected}
-use Rattle.passes.proofs.tables.corrections.Statement.{statement}
-use Rattle.passes.proofs.tables.corrections.Tie as tie
-use Rattle.passes.proofs.tables.corrections.Reads as reads
-use Rattle.passes.proofs.tables.corrections.Lts as lts
+use Rattle.tables.specs.Tables.{Corrected}
+use Rattle.tables.proofs.corrections.Statement.{statement}
+use Rattle.tables.proofs.corrections.Tie as tie
+use Rattle.tables.proofs.corrections.Reads as reads
+use Rattle.tables.proofs.corrections.Lts as lts
 use Rattle.products.proofs.coefficient_correction.Reads as coefficient-correction-reads
 
 abbrev Inv-loop : tie.InvT-loop

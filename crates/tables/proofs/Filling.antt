@@ -13,7 +13,7 @@ use lib.Seq.{getD-set-same, getD-set-other, ext-getD}
 use Rattle.sequence.specs.UpTo.{upTo}
 use Rattle.sequence.proofs.UpTo.{length-upTo, getD-upTo}
 use Rattle.products.specs.Offset.{coefficientIn}
-use Rattle.passes.specs.Tables.{coefficientsIn, Padded}
+use Rattle.tables.specs.Tables.{coefficientsIn, Padded}
 
 -- c holds the first k coefficients, and 0 at every other place
 pub record Filled (h : List ℤ) (c : List ℕ) (k : ℕ) : Type 0 where

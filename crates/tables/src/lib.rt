@@ -1,9 +1,16 @@
-// The coefficients in offset binary, with four zeros before and after them, and the corrections.
+// The tables of a running call: its coefficients in offset binary, with four zeros before and after
+// them, and the corrections. All functions here are internal: they serve the crates `passes` and
+// `kernel`.
 ghost use mathlib.Core.Path.{_≡_};
 ghost use lib.ListN.{length, replicate};
-ghost use Rattle.passes.specs.Tables.{coefficientsIn, Padded, Corrected};
+ghost use Rattle.tables.specs.Tables.{coefficientsIn, Padded, Corrected};
+
+mod width;
+
 use products::coefficient_correction;
 use products::offset_coefficient;
+pub use width::least;
+pub use width::used;
 
 // Fills a table that holds zeros in offset binary.
 pub fn offset_all(h: &[i32; 256], c: &mut [u64; 264])

@@ -1,4 +1,4 @@
--- `passes::tables::offset_all` meets its contract.
+-- `tables::offset_all` meets its contract.
 use Prim.Native.Nat.{ℕ, _≤_, _-_, _+_, _*_, _<_}
 use mathlib.Core.Path.{_≡_, refl, sym, ap, subst, _∙_}
 use mathlib.Core.Logic.{⊎-elim}
@@ -8,11 +8,11 @@ use borrow.Author.Needs.{needs}
 use lib.IntN.{pos}
 use mir.Syntax.{w32}
 use mir.ValLaws.{toZ-ofZ}
-use Rattle.passes.proofs.Filling.{Filled, filled-start, filled-next, filled-padded, filled-all}
-use Rattle.passes.proofs.tables.offset_all.Statement.{statement}
-use Rattle.passes.proofs.tables.offset_all.Tie as tie
-use Rattle.passes.proofs.tables.offset_all.Reads as reads
-use Rattle.passes.proofs.tables.offset_all.Lts as lts
+use Rattle.tables.proofs.Filling.{Filled, filled-start, filled-next, filled-padded, filled-all}
+use Rattle.tables.proofs.offset_all.Statement.{statement}
+use Rattle.tables.proofs.offset_all.Tie as tie
+use Rattle.tables.proofs.offset_all.Reads as reads
+use Rattle.tables.proofs.offset_all.Lts as lts
 use Rattle.products.proofs.offset_coefficient.Reads as offset-coefficient-reads
 
 abbrev Inv-loop : tie.InvT-loop

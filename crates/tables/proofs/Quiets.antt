@@ -13,8 +13,8 @@ use Rattle.convolution.specs.Running.{next}
 use Rattle.convolution.specs.Sums.{held}
 use Rattle.convolution.proofs.Words.{wrapped-none}
 use Rattle.convolution.proofs.Steps.{held-low, held-high, held-next}
-use Rattle.passes.specs.Quiet.{Quiet}
-use Rattle.passes.specs.Tables.{after4}
+use Rattle.tables.specs.Quiet.{Quiet}
+use Rattle.tables.specs.Tables.{after4}
 
 module _ (h : List ℤ) (few : length h ≤ 256) (w : ℕ) where
   pub quiet-next : (x : ℤ) (r : List ℕ) → Quiet w h r → Quiet w h (next h x r)

@@ -1,4 +1,4 @@
--- `passes::width::used` meets its contract.
+-- `tables::width::used` meets its contract.
 use Prim.Native.Nat.{ℕ, suc, _≤_, _-_, _+_, _*_, _<_}
 use mathlib.Core.Path.{_≡_, refl, sym, ap, subst, _∙_}
 use mathlib.Core.Logic.{⊎-elim}
@@ -9,13 +9,13 @@ use lib.IntN.{pos}
 use borrow.Author.Tests.{eqb-true}
 use mir.Syntax.{w32}
 use mir.ValLaws.{toZ-ofZ}
-use Rattle.passes.specs.Quiet.{Quiet}
-use Rattle.passes.proofs.Quiets.{quiet-end, quiet-less}
+use Rattle.tables.specs.Quiet.{Quiet}
+use Rattle.tables.proofs.Quiets.{quiet-end, quiet-less}
 use mir.Val.{toZ}
-use Rattle.passes.proofs.width.used.Statement.{statement}
-use Rattle.passes.proofs.width.used.Tie as tie
-use Rattle.passes.proofs.width.used.Reads as reads
-use Rattle.passes.proofs.width.used.Lts as lts
+use Rattle.tables.proofs.width.used.Statement.{statement}
+use Rattle.tables.proofs.width.used.Tie as tie
+use Rattle.tables.proofs.width.used.Reads as reads
+use Rattle.tables.proofs.width.used.Lts as lts
 
 abbrev Inv-loop : tie.InvT-loop
 Inv-loop h registers w₀ w = (w ≤ 256) × (Quiet w h registers)
