@@ -57,14 +57,10 @@ module _ (h : List ℤ) (few : length h ≤ 256) (r₀ : List ℕ) where
       sum-step h x r 0 (omega arith) ∙ place-is xs r x (length xs + 0) 0 (i 0) ∙ ap (λ j. wrapped (wholeAt h r₀ (xs ++ (x ∷ [])) j 0)) q
 
 -- before the first sample
-held-word : (r : List ℕ) → Words r → (k : ℕ) (t : Bool) → cond t (getD r k 0) 0 < 18446744073709551616
-held-word r w k true = w k
-held-word r w k false = omega arith
-
 pub holds-start : (h : List ℤ) (r : List ℕ) → Words r → Holds h r [] r
 holds-start h r w k =
     let q : 0 + k ≡ k = omega arith in
-    sym (ap₂ (λ j s. wrapped (pos (held r j) +ℤ s)) q (from-none h (suc k)) ∙ ap wrapped (+ℤ-idr (pos (held r k))) ∙ wrapped-word (held r k) (held-word r w k (ltb k 256)))
+    sym (ap₂ (λ j s. wrapped (pos (held r j) +ℤ s)) q (from-none h (suc k)) ∙ ap wrapped (+ℤ-idr (pos (held r k))) ∙ wrapped-word (held r k) (w k))
 
 -- every register after the samples xs is, modulo 2^64, what the registers held that has moved there and the sum
 pub registers-any : (h : List ℤ) → length h ≤ 256 → (r : List ℕ) → Words r → (xs : List ℤ) (k : ℕ) → k < 256

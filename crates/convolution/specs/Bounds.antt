@@ -5,6 +5,7 @@ use lib.IntN.{ℤ, pos}
 use lib.ListN.{getD}
 use mir.Syntax.{Width}
 use mir.Val.{SFits}
+use Rattle.convolution.specs.Sums.{held}
 
 -- every number of the list is a signed one of that width
 abbrev pub Within : Width → List ℤ → Type 0
@@ -12,4 +13,4 @@ Within w xs = (k : ℕ) → SFits w (getD xs k (pos 0))
 
 -- every register holds 64 bits
 abbrev pub Words : List ℕ → Type 0
-Words r = (k : ℕ) → getD r k 0 < 18446744073709551616
+Words r = (k : ℕ) → held r k < 18446744073709551616

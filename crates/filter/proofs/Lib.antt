@@ -2,3 +2,4 @@ pub mod Answers
 pub mod Stretches
 pub mod Calls
 pub mod Theorem
+pub mod Figures

@@ -105,13 +105,8 @@ module _ (h : List ℤ) (rows : List ℕ) (n : ℕ) (taps : List ℕ) (m : ℕ) 
       record {
         size = length-replicate {A = ℕ} 256 0;
         samples = λ k. record { sfits = omega arith };
-        holds = holds-start h (replicate 256 0) (λ k. zeros 256 k);
+        holds = holds-start h (replicate 256 0) (λ k. omega (arith, cleared k));
       }
-    where
-      zeros : (n k : ℕ) → getD (replicate n 0) k 0 < 18446744073709551616
-      zeros zero k = omega arith
-      zeros (suc n) zero = omega arith
-      zeros (suc n) (suc k) = zeros n k
 
   -- ---- full tables are accepted
 
