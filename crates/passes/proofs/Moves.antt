@@ -41,6 +41,12 @@ module _ (h : List ℤ) (few : length h ≤ 256) (w : ℕ) where
     drop-four : drop 256 s ≡ drop 256 r
     drop-four = next-drop h x3 _ ∙ next-drop h x2 _ ∙ next-drop h x1 _ ∙ next-drop h x0 r
 
+    -- where no more than 252 registers are in use
+    pub moved-few : Quiet w h r → w ≤ 252 → (new : List ℕ) → new ≡ front (held s) r (min w 252) → new ≡ s
+    moved-few q m new e =
+        let n : min w 252 ≡ min w 256 = omega arith in
+        e ∙ ap (front (held s) r) n ∙ rest r s 256 l (omega arith) q (quiet-four h few w x0 x1 x2 x3 r q) ∙ front-all r s l length-four drop-four
+
     pub moved-four : Quiet w h r → (new : List ℕ) (v0 v1 v2 : ℕ) → new ≡ front (held s) r (min w 252) → v0 ≡ held s 252 → v1 ≡ held s 253 → v2 ≡ held s 254
         → set (set (set (set new 252 v0) 253 v1) 254 v2) 255 0 ≡ s
     moved-four q new v0 v1 v2 e e0 e1 e2 =

@@ -86,6 +86,9 @@ fn move_four(
     ensures { λ _. ⌜ now (registers .exit) ≡ after4 (coefficientsIn (now (c .entry))) (sampleIn y0) (sampleIn y1) (sampleIn y2) (sampleIn y3) (now (registers .entry)) ⌝ }
 {
     slide(c, t, y0, y1, y2, y3, z, least(w, 252), registers);
+    if w <= 252 {
+        return;
+    }
     registers[252] = place(c, t, 256, 0, y0, y1, y2, y3, z);
     registers[253] = place(c, t, 257, 0, y0, y1, y2, y3, z);
     registers[254] = place(c, t, 258, 0, y0, y1, y2, y3, z);

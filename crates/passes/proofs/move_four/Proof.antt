@@ -11,7 +11,7 @@ use Rattle.convolution.specs.Sums.{held}
 use Rattle.sequence.specs.UpTo.{front}
 use Rattle.tables.specs.Tables.{coefficientsIn, after4}
 use Rattle.passes.proofs.Places.{length-in, register-place}
-use Rattle.passes.proofs.Moves.{moved-four}
+use Rattle.passes.proofs.Moves.{moved-few, moved-four}
 use Rattle.passes.proofs.move_four.Statement.{statement}
 use Rattle.passes.proofs.move_four.Tie as tie
 use Rattle.passes.proofs.move_four.Reads as reads
@@ -25,6 +25,24 @@ least-requires c κs = search needs
 
 slide-requires : tie.Need-slide-requires
 slide-requires c κs = search needs
+
+same-length : tie.Need-same-length
+same-length c = search needs
+
+returns : tie.Need-returns
+returns c =
+    let sl = c .before .before .before in
+    let st = sl .before .before .before .before in
+    let a = st .args in
+    let t = a .c .now in
+    let h = coefficientsIn t in
+    let r = a .registers .now in
+    let x0 = sampleIn (a .y0) in
+    let x1 = sampleIn (a .y1) in
+    let x2 = sampleIn (a .y2) in
+    let x3 = sampleIn (a .y3) in
+    let e = sl .slide .ensures ∙ ap (front (held (after4 h x0 x1 x2 x3 r)) r) (sl .before .before .least .ensures) in
+    moved-few h (omega (arith, length-in t)) (a .w) x0 x1 x2 x3 r (st .pre .0) (st .pre .1 .1 .1 .1) (c .if1 .taken) _ e
 
 place-requires : tie.Need-place-requires
 place-requires c κs = search needs
@@ -47,12 +65,12 @@ slice-write-registers-3 c = simp length-set (omega arith)
 slice-write-registers-4 : tie.Need-slice-write-registers-4
 slice-write-registers-4 c = simp length-set (omega arith)
 
-same-length : tie.Need-same-length
-same-length c = search needs
+same-length-2 : tie.Need-same-length-2
+same-length-2 c = search needs
 
-returns : tie.Need-returns
-returns c =
-    let sl = c .before .before .before .before .before in
+returns-2 : tie.Need-returns-2
+returns-2 c =
+    let sl = c .before .before .before .before .before .before in
     let st = sl .before .before .before .before in
     let a = st .args in
     let t = a .c .now in
@@ -63,11 +81,11 @@ returns c =
     let x1 = sampleIn (a .y1) in
     let x2 = sampleIn (a .y2) in
     let x3 = sampleIn (a .y3) in
+    let e = sl .slide .ensures ∙ ap (front (held (after4 h x0 x1 x2 x3 r)) r) (sl .before .before .least .ensures) in
     let e0 = c .before .before .place .ensures ∙ register-place t p x0 x1 x2 x3 r 252 0 (omega arith) (sym (held-high r 256 (omega arith))) in
     let e1 = c .before .place2 .ensures ∙ register-place t p x0 x1 x2 x3 r 253 0 (omega arith) (sym (held-high r 257 (omega arith))) in
     let e2 = c .place3 .ensures ∙ register-place t p x0 x1 x2 x3 r 254 0 (omega arith) (sym (held-high r 258 (omega arith))) in
-    moved-four h (omega (arith, length-in t)) (a .w) x0 x1 x2 x3 r (st .pre .0) (st .pre .1 .1 .1 .1) _ _ _ _
-    (sl .slide .ensures ∙ ap (front (held (after4 h x0 x1 x2 x3 r)) r) (sl .before .before .least .ensures)) e0 e1 e2
+    moved-four h (omega (arith, length-in t)) (a .w) x0 x1 x2 x3 r (st .pre .0) (st .pre .1 .1 .1 .1) _ _ _ _ e e0 e1 e2
 
 pub move-four-spec : {M : Type 1} → statement M
 move-four-spec =
@@ -75,6 +93,8 @@ move-four-spec =
     (tie.spec
     least-requires
     slide-requires
+    same-length
+    returns
     place-requires
     slice-write-registers
     place-requires-2
@@ -82,5 +102,5 @@ move-four-spec =
     place-requires-3
     slice-write-registers-3
     slice-write-registers-4
-    same-length
-    returns)
+    same-length-2
+    returns-2)
