@@ -3,10 +3,11 @@ use mathlib.Core.Path.{_≡_, refl, sym, ap, _∙_}
 use mathlib.Core.List.{List, _∷_, _++_}
 use Prim.Native.Nat.{ℕ, suc, _+_, _<_}
 use native.Mathlib.Numerals.{add-one}
-use lib.ListN.{length, getD, drop, set}
+use native.Mathlib.Omega.{arith}
+use lib.ListN.{length, getD, drop, set, List·getD-append}
 use lib.Seq.{drop-cons, set-at, append-snoc, getD-append-add, getD-drop}
 use Rattle.sequence.specs.UpTo.{upTo, front}
-use Rattle.sequence.proofs.UpTo.{length-upTo}
+use Rattle.sequence.proofs.UpTo.{length-upTo, getD-upTo}
 
 module _ {ℓ} {A : Type ℓ} (f : ℕ → A) (r : List A) where
   pub front-start : front f r 0 ≡ r
@@ -27,3 +28,8 @@ module _ {ℓ} {A : Type ℓ} (f : ℕ → A) (r : List A) where
   pub front-last : (k : ℕ) (v d : A) → k < length r → set (front f r k) k v ≡ upTo k f ++ (v ∷ drop (suc k) r)
   unfolding front
   front-last k v d h = rw (drop-cons r k d h) (set-at (upTo k f) (getD r k d) (drop (suc k) r) v k (length-upTo k f))
+
+  -- what has been filled
+  pub front-done : (n k : ℕ) (d : A) → k < n → getD (front f r n) k d ≡ f k
+  unfolding front
+  front-done n k d l = List·getD-append (upTo n f) (drop n r) d k (omega (arith, length-upTo n f)) ∙ getD-upTo n f d k l

@@ -35,7 +35,7 @@ module _ (w : Width) where
     room : mag n < 2 ^ bits v
     room = half-full v (omega (arith, h .sfits, wide))
 
-    low : ltZ (toZ w (ofZ w n)) (pos 0) ≡ true → ltZ n (pos 0) ≡ true
+    pub low : ltZ (toZ w (ofZ w n)) (pos 0) ≡ true → ltZ n (pos 0) ≡ true
     low p = rw (toZ-ofZ w n h) at p
 
     -- n is negative
@@ -51,7 +51,16 @@ module _ (w : Width) where
     pub neg-abs-is : ltZ (toZ w (ofZ w n)) (pos 0) ≡ true → natAbs (toZ w (2 ^ bits w - 1 - ofZ w n)) + 1 ≡ natAbs n
     neg-abs-is p = rw (turned n h (low p)) (neg-abs n (low p))
 
+    pub neg-mag : ltZ (toZ w (ofZ w n)) (pos 0) ≡ true → natAbs (toZ w (2 ^ bits w - 1 - ofZ w n)) ≡ mag n
+    neg-mag p = ap natAbs (turned n h (low p))
+
     -- n is not negative
+    pub high : ltZ (toZ w (ofZ w n)) (pos 0) ≡ false → ltZ n (pos 0) ≡ false
+    high p = rw (toZ-ofZ w n h) at p
+
+    pub pos-mag : ltZ (toZ w (ofZ w n)) (pos 0) ≡ false → natAbs (toZ w (ofZ w n)) ≡ mag n
+    pos-mag p = ap natAbs (toZ-ofZ w n h ∙ nonneg n (high p))
+
     pub pos-cast : ltZ (toZ w (ofZ w n)) (pos 0) ≡ false → T (nonNeg (toZ w (ofZ w n))) × Fits v (natAbs (toZ w (ofZ w n)))
     pos-cast p = rw (toZ-ofZ w n h) (rw (nonneg n (rw (toZ-ofZ w n h) at p)) (tt, record { fits = room }))
 

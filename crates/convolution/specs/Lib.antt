@@ -1,0 +1,4 @@
+pub mod Words
+pub mod Running
+pub mod Sums
+pub mod Bounds

@@ -1,0 +1,5 @@
+pub mod Answers
+pub mod Stretches
+pub mod Calls
+pub mod Theorem
+pub mod Figures

@@ -1,0 +1,22 @@
+-- A running call: its answer and what it leaves in the lent registers and outputs. Document 01, "The network" and "Turned down". Definitions only.
+use mathlib.Core.Bool.{_||_}
+use mathlib.Core.List.{List, _++_}
+use Prim.Native.Nat.{ℕ}
+use lib.Dec.{ltb}
+use lib.IntN.{ℤ}
+use lib.ListN.{length, drop}
+use Rattle.refusal.specs.Answer.{Answer, stored}
+use Rattle.convolution.specs.Running.{registersOf, outputsOf}
+use Rattle.network.specs.Check.{networkAnswer}
+
+-- the coefficients of the network, or the refusal: of the lent tables, "registers 256 .. outputs one per sample"
+abbrev pub runAnswer : List ℕ → ℕ → List ℕ → ℕ → List ℤ → ℕ → ℕ → Answer (List ℤ)
+runAnswer rows rowCount taps tapCount samples registers outputs = networkAnswer (ltb registers 256 || ltb outputs (length samples)) rows rowCount taps tapCount
+
+-- the lent registers after a call that is answered so; "unchanged" on a refusal
+abbrev pub runRegisters : Answer (List ℤ) → List ℤ → List ℕ → List ℕ
+runRegisters answer samples registers = stored answer (λ (h : List ℤ). registersOf h registers samples) registers
+
+-- the lent outputs after it; "elements past those that the result fills are untouched"
+abbrev pub runOutputs : Answer (List ℤ) → List ℤ → List ℕ → List ℤ → List ℤ
+runOutputs answer samples registers outputs = stored answer (λ (h : List ℤ). outputsOf h registers samples ++ drop (length samples) outputs) outputs

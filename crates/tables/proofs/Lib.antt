@@ -1,0 +1,2 @@
+pub mod Quiets
+pub mod Filling
