@@ -19,7 +19,7 @@ fn main() {
     println!("\nNetworks");
     bench::network::run();
     println!(
-        "\nRunning, best of {}; each call checks its network",
+        "\nRunning, each call best of {}; a call checks its network",
         bench::running::REPETITIONS
     );
     bench::running::run();

@@ -13,49 +13,55 @@ const SAMPLES: usize = 1_000_000;
 const SAMPLES_OF_A_CALL: usize = 20_000;
 const ROWS: usize = 31;
 
-/// What a runner leaves.
+/// The registers before a call, and what the call leaves.
 #[derive(PartialEq)]
-struct Run {
+struct Lent {
+    before: [u64; REGISTERS],
     registers: [u64; REGISTERS],
     outputs: Vec<i64>,
 }
 
-impl Run {
+impl Lent {
     fn new() -> Self {
-        Run {
+        Lent {
+            before: [0; REGISTERS],
             registers: [0; REGISTERS],
-            outputs: vec![0; SAMPLES],
+            outputs: vec![0; SAMPLES_OF_A_CALL],
         }
     }
 
-    /// All samples from cleared registers, call by call.
+    /// The call that comes next, as often as it is timed.
     #[inline(always)]
-    fn run(&mut self, network: &Network, samples: &[i16], runner: Runner) {
-        self.registers.fill(0);
-        let outputs = self.outputs.chunks_mut(SAMPLES_OF_A_CALL);
-        for (samples, outputs) in samples.chunks(SAMPLES_OF_A_CALL).zip(outputs) {
-            let registers = black_box(&mut self.registers);
-            let answer = runner(black_box(network), black_box(samples), registers, outputs);
-            assert_eq!(answer, ACCEPTED);
-        }
-        black_box(&self.outputs);
+    fn call(&mut self, network: &Network, samples: &[i16], runner: Runner) {
+        self.registers = self.before;
+        let registers = black_box(&mut self.registers);
+        let outputs = black_box(&mut self.outputs);
+        let answer = runner(black_box(network), black_box(samples), registers, outputs);
+        assert_eq!(answer, ACCEPTED);
+    }
+
+    fn move_on(&mut self) {
+        self.before = self.registers;
     }
 }
 
+/// The best time of each call, added up.
 fn measure(taps: usize) {
     let mut random = Random::new(19);
     let network = mixture::network_of(&mut random, ROWS, taps);
     let samples: Vec<i16> = (0..SAMPLES).map(|_| random.bits() as i16).collect();
-    let [mut by_core, mut by_plain, mut by_fast] = [(); 3].map(|_| Run::new());
-    let times = best_of(
-        REPETITIONS,
-        [
-            &mut || by_core.run(&network, &samples, core::run),
-            &mut || by_plain.run(&network, &samples, plain::run),
-            &mut || by_fast.run(&network, &samples, fast::run),
-        ],
-    );
-    assert!(by_core == by_plain && by_plain == by_fast);
+    let mut lent = [(); 3].map(|_| Lent::new());
+    let mut times = [0.0; 3];
+    for samples in samples.chunks(SAMPLES_OF_A_CALL) {
+        let [a, b, c] = &mut lent;
+        let mut by_core = || a.call(&network, samples, core::run);
+        let mut by_plain = || b.call(&network, samples, plain::run);
+        let mut by_fast = || c.call(&network, samples, fast::run);
+        let best = best_of(REPETITIONS, [&mut by_core, &mut by_plain, &mut by_fast]);
+        times = [0, 1, 2].map(|which| times[which] + best[which]);
+        assert!(lent[0] == lent[1] && lent[1] == lent[2]);
+        lent.iter_mut().for_each(Lent::move_on);
+    }
     print_head(&format!("{taps} taps"), &["plain", "fast"]);
     print("a sample", times, SAMPLES);
     print("a sample and tap", times, SAMPLES * taps);

@@ -1,4 +1,5 @@
-//! The plain loop: the registers are moved for every sample, as the paper has it.
+//! The plain loop: all 256 registers are moved for every sample, as the paper has it, whatever the
+//! number of taps.
 
 use super::REGISTERS;
 use crate::answer::{Answer, ACCEPTED};
