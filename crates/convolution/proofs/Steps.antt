@@ -27,7 +27,7 @@ held-high r k l = rw (le-ltb k 256 l)
 pub next-low : (h : List ℤ) (x : ℤ) (r : List ℕ) (k : ℕ) → k < 255 → getD (next h x r) k 0 ≡ sumAt h x r (suc k)
 unfolding next
 next-low h x r k l =
-    List·getD-append (upTo 255 (λ j. sumAt h x r (suc j))) (0 ∷ drop 256 r) 0 k (omega (arith, length-upTo 255 (λ j. sumAt h x r (suc j))))
+    List·getD-append (upTo 255 (λ j. sumAt h x r (suc j))) _ 0 k (omega (arith, length-upTo 255 (λ j. sumAt h x r (suc j))))
     ∙ getD-upTo 255 (λ j. sumAt h x r (suc j)) 0 k l
 
 pub next-last : (h : List ℤ) (x : ℤ) (r : List ℕ) → getD (next h x r) 255 0 ≡ 0

@@ -7,7 +7,7 @@ use lib.IntN.{ℤ}
 use lib.ListN.{length, drop}
 use Rattle.refusal.specs.Answer.{Answer, given, refused}
 use Rattle.convolution.specs.Running.{registersOf, outputsOf}
-use Rattle.convolution.proofs.Same.{same-registers, same-outputs}
+use Rattle.convolution.proofs.Trailing.{same-registers, same-outputs}
 use Rattle.network.specs.Check.{outcome}
 use Rattle.network_check.specs.Steps.{isGiven, padded}
 use Rattle.network_check.proofs.Padded.{padded-at}

@@ -35,7 +35,7 @@ singly-requires c κs =
     let st = c .before .before .before .before .before .before .before .before .before .before .before .before .before .before .before .before in
     let oa = c .before .before .before .before .before .before .before .before .before .before .before .before .before .offset-all .ensures in
     let fo = c .before .before .before .before .before .fours in (
-      (st .pre .0 .0, (fo .ensures .0, (search needs, search needs))),
+      (st .pre .0 .0, (omega (arith, fo .ensures .0), (search needs, search needs))),
       subst (λ h. Quiet (st .args .w) h (fo .last .1 .1 .1 .1 .0)) (oa .1) (fo .ensures .1 .0),
     )
 

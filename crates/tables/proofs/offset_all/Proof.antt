@@ -54,7 +54,7 @@ loop-again c =
     let h = at .before .args .h .now in
     let k = at .loop .k in
     let u = toZ-ofZ w32 (getD h k (pos 0)) (record { sfits = c .before .offset-coefficient-arg .given }) in
-    (search needs, filled-next h (at .loop .c) k (c .offset-coefficient .result) (c .before .before .loop-test .taken) (at .loop .inv .1) (c .offset-coefficient .ensures ∙ u))
+    (search needs, filled-next h (at .loop .c) k (c .offset-coefficient .result) (omega (arith, c .before .before .loop-test .taken)) (at .loop .inv .1) (c .offset-coefficient .ensures ∙ u))
 
 returns : tie.Need-returns Inv-loop μ-loop
 returns c =
