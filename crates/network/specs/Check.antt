@@ -14,7 +14,7 @@ use Rattle.network.specs.RowRule.{keepsRowRule}
 use Rattle.network.specs.Coefficients.{coefficients}
 use Rattle.network.specs.TapRowRule.{keepsTapRowRule}
 
--- the number of a row that breaks the row rule
+-- row i, or a tap row, breaks its rule
 abbrev pub breaksRowRule : List Row → ℕ → Bool
 breaksRowRule rows i = not (keepsRowRule rows i)
 

@@ -40,7 +40,7 @@ fn is_sum(row: Row, left: u32, right: u32) -> bool
 }
 
 // Row i keeps the row rule, in every network of these rows that has it. Internal: the crate above
-// asks for the table's length.
+// has tested the table's length.
 pub fn keeps_row_rule(rows: &[u32], i: usize) -> bool
     requires { ⌜ rowWords * i + rowWords ≤ length (now rows) ⌝ }
     ensures { λ r. ⌜ ((n : ℕ) → i < n → r ≡ keepsRowRule (rowsOf (now (rows .entry)) n) i) ⌝ }

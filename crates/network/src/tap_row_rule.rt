@@ -47,7 +47,7 @@ fn signed_product(sign: u32, p: u64) -> TapProduct
     TapProduct::Broken
 }
 
-// Tap row j over the first n rows. Internal: the crate above asks for the tables' lengths.
+// Tap row j over the first n rows. Internal: the crate above has tested the tables' lengths.
 pub fn tap_product(rows: &[u32], n: usize, taps: &[u32], j: usize) -> TapProduct
     requires { ⌜ (rowWords * n ≤ length (now rows)) × (tapWords * j + tapWords ≤ length (now taps)) ⌝ }
     ensures { λ r. ⌜ r ≡ productOf (rowsOf (now (rows .entry)) n) (tapRowAt (now (taps .entry)) j) ⌝ }
