@@ -1,20 +1,11 @@
--- `kernel::with_tables` meets its contract.
-use Prim.Native.Nat.{ℕ, _≤_, _-_, _+_, _*_, _<_}
-use mathlib.Core.Path.{_≡_, refl, sym, ap, subst, _∙_}
-use mathlib.Core.Logic.{⊎-elim}
+-- `kernel::with_tables` meets its contract. Assumes nothing.
+use mathlib.Core.Path.{sym, subst, _∙_}
 use native.Mathlib.Omega.{arith}
-use lib.ListN.{length, length-set, take, drop, set, getD}
 use borrow.Author.Needs.{needs}
 use Rattle.tables.specs.Quiet.{Quiet}
 use Rattle.kernel.proofs.Passes.{renamed-registers, renamed-outputs}
 use Rattle.kernel.proofs.with_tables.Statement.{statement}
 use Rattle.kernel.proofs.with_tables.Tie as tie
-use Rattle.kernel.proofs.with_tables.Reads as reads
-use Rattle.kernel.proofs.with_tables.Lts as lts
-use Rattle.kernel.proofs.fours.Reads as fours-reads
-use Rattle.kernel.proofs.singly.Reads as singly-reads
-use Rattle.tables.proofs.corrections.Reads as corrections-reads
-use Rattle.tables.proofs.offset_all.Reads as offset-all-reads
 
 offset-all-requires : tie.Need-offset-all-requires
 offset-all-requires c κs = search needs
