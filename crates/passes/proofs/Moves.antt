@@ -1,10 +1,10 @@
--- The registers after a sample or after four, from the front that has been worked out and the rest.
-use mathlib.Core.Path.{_≡_, refl, sym, ap, ap₂, _∙_}
-use mathlib.Core.List.{List, [], _∷_, _++_}
-use Prim.Native.Nat.{ℕ, zero, suc, _+_, _<_, _≤_, min}
+-- The registers after a sample or after four, from the front that has been worked out and the rest. Assumes nothing.
+use mathlib.Core.Path.{_≡_, sym, ap, ap₂, _∙_}
+use mathlib.Core.List.{List}
+use Prim.Native.Nat.{ℕ, _≤_, min}
 use native.Mathlib.Omega.{arith}
-use lib.IntN.{ℤ, pos}
-use lib.ListN.{length, getD, drop, set}
+use lib.IntN.{ℤ}
+use lib.ListN.{length, drop, set}
 use Rattle.sequence.specs.UpTo.{front}
 use Rattle.sequence.proofs.Front.{front-next}
 use Rattle.convolution.specs.Running.{next}

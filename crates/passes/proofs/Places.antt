@@ -1,8 +1,8 @@
--- What a place comes to in a pass of four is what running four samples gives.
+-- What a place comes to in a pass of four is what running four samples gives. Assumes nothing.
 use mathlib.Core.Path.{_≡_, refl, sym, ap, ap₂, _∙_}
 use mathlib.Core.Bool.{Bool, true, false}
-use mathlib.Core.List.{List, [], _∷_, _++_}
-use Prim.Native.Nat.{ℕ, zero, suc, _+_, _<_, _≤_}
+use mathlib.Core.List.{List}
+use Prim.Native.Nat.{ℕ, suc, _+_, _<_, _≤_}
 use native.Mathlib.Omega.{arith}
 use borrow.Author.Tests.{ltb-true, ltb-false}
 use lib.Dec.{ltb}
@@ -10,7 +10,6 @@ use lib.IntN.{ℤ, pos, _+ℤ_, _*ℤ_}
 use lib.ListN.{length, getD, List·getD-eq-default}
 use Rattle.sequence.specs.UpTo.{upTo}
 use Rattle.sequence.proofs.UpTo.{length-upTo, getD-upTo}
-use Rattle.convolution.specs.Words.{wrapped}
 use Rattle.convolution.specs.Running.{sumAt, next}
 use Rattle.convolution.specs.Sums.{held}
 use Rattle.convolution.proofs.Words.{wrapped-none, wrapped-lt}

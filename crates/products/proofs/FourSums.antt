@@ -1,10 +1,8 @@
--- Four products in offset binary at once: the two corrections make up for what the offsets add.
-use mathlib.Core.Path.{_≡_, refl, sym, ap, ap₂, _∙_}
+-- Four products in offset binary at once: the two corrections make up for what the offsets add. Assumes nothing.
+use mathlib.Core.Path.{_≡_, sym, ap, _∙_}
 use Prim.Native.Nat.{ℕ, _+_, _-_, _*_, _%_, _<_}
-use native.Mathlib.Nat.{mod-eq-of-lt}
 use native.Mathlib.Omega.{arith}
-use lib.IntN.{ℤ, pos, subℕ, _+ℤ_, _*ℤ_}
-use Rattle.convolution.specs.Words.{wrapped}
+use lib.IntN.{ℤ, subℕ}
 use Rattle.products.specs.Offset.{coefficientIn, sampleIn, coefficientCorrection, sampleCorrection, plus, fourSums}
 use Rattle.products.proofs.Products.{cost, sum-first, sum-next}
 

@@ -1,4 +1,4 @@
--- One product in offset binary: the product of the words, less what the offsets add.
+-- One product in offset binary: the product of the words, less what the offsets add. Assumes nothing.
 use mathlib.Core.Path.{_≡_, refl, sym, ap, ap₂, _∙_}
 use mathlib.Core.Bool.{Bool, true, false}
 use Prim.Native.Nat.{ℕ, zero, suc, _+_, _-_, _*_, _%_, _<_, _≤_}
@@ -6,7 +6,7 @@ use native.Mathlib.Nat.{mul-add, add-mul, mod-eq-of-lt}
 use native.Mathlib.Omega.{arith}
 use borrow.Author.Tests.{ltb-true, ltb-false}
 use lib.Dec.{ltb}
-use lib.IntN.{ℤ, pos, negsuc, negℤ, subℕ, _+ℤ_, _*ℤ_}
+use lib.IntN.{pos, negℤ, subℕ, _+ℤ_, _*ℤ_}
 use Rattle.convolution.specs.Words.{wrapped}
 use Rattle.convolution.proofs.Words.{wrapped-add, sub-less, sub-more}
 

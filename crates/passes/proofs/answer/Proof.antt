@@ -1,13 +1,10 @@
--- `passes::answer` meets its contract.
-use Prim.Native.Nat.{ℕ, _≤_, _-_, _+_, _*_, _<_}
-use mathlib.Core.Path.{_≡_, refl, sym, ap, subst, _∙_}
-use mathlib.Core.Logic.{⊎-elim}
+-- `passes::answer` meets its contract. Assumes nothing.
+use mathlib.Core.Path.{sym, ap, _∙_}
 use native.Mathlib.Omega.{arith}
-use lib.ListN.{length, length-set, take, drop, set, getD}
+use lib.ListN.{length-set, getD}
 use borrow.Author.Needs.{needs}
-use lib.IntN.{pos}
 use mir.Syntax.{w64}
-use mir.Val.{toZ, ofZ}
+use mir.Val.{toZ}
 use mir.ValLaws.{toZ-ofZ}
 use Rattle.convolution.proofs.Steps.{held-low}
 use Rattle.products.specs.Offset.{sampleIn}
@@ -16,10 +13,6 @@ use Rattle.passes.proofs.Places.{output-place0, output-place1, output-p
 use Rattle.passes.proofs.Outputs.{four-outputs}
 use Rattle.passes.proofs.answer.Statement.{statement}
 use Rattle.passes.proofs.answer.Tie as tie
-use Rattle.passes.proofs.answer.Reads as reads
-use Rattle.passes.proofs.answer.Lts as lts
-use Rattle.passes.proofs.place.Reads as place-reads
-use Rattle.products.proofs.signed.Reads as signed-reads
 
 shared-slice-read-place : tie.Need-shared-slice-read-place
 shared-slice-read-place c = search needs

@@ -1,9 +1,7 @@
--- `passes::move_four` meets its contract.
-use Prim.Native.Nat.{ℕ, _≤_, _-_, _+_, _*_, _<_}
-use mathlib.Core.Path.{_≡_, refl, sym, ap, subst, _∙_}
-use mathlib.Core.Logic.{⊎-elim}
+-- `passes::move_four` meets its contract. Assumes nothing.
+use mathlib.Core.Path.{sym, ap, _∙_}
 use native.Mathlib.Omega.{arith}
-use lib.ListN.{length, length-set, take, drop, set, getD}
+use lib.ListN.{length-set}
 use borrow.Author.Needs.{needs}
 use Rattle.convolution.proofs.Steps.{held-high}
 use Rattle.products.specs.Offset.{sampleIn}
@@ -14,11 +12,6 @@ use Rattle.passes.proofs.Places.{length-in, register-place}
 use Rattle.passes.proofs.Moves.{moved-few, moved-four}
 use Rattle.passes.proofs.move_four.Statement.{statement}
 use Rattle.passes.proofs.move_four.Tie as tie
-use Rattle.passes.proofs.move_four.Reads as reads
-use Rattle.passes.proofs.move_four.Lts as lts
-use Rattle.passes.proofs.place.Reads as place-reads
-use Rattle.passes.proofs.slide.Reads as slide-reads
-use Rattle.tables.proofs.least.Reads as least-reads
 
 least-requires : tie.Need-least-requires
 least-requires c κs = search needs

@@ -1,9 +1,7 @@
--- `passes::of_four` meets its contract.
-use Prim.Native.Nat.{ℕ, _≤_, _-_, _+_, _*_, _<_}
-use mathlib.Core.Path.{_≡_, refl, sym, ap, subst, _∙_}
-use mathlib.Core.Logic.{⊎-elim}
-use native.Mathlib.Omega.{arith}
-use lib.ListN.{length, length-set, take, drop, set, getD}
+-- `passes::of_four` meets its contract. Assumes nothing.
+use Prim.Native.Nat.{_+_}
+use mathlib.Core.Path.{_∙_}
+use lib.ListN.{getD}
 use borrow.Author.Needs.{needs}
 use lib.IntN.{pos}
 use mir.Syntax.{w16}
@@ -12,12 +10,6 @@ use Rattle.tables.specs.Tables.{coefficientsIn}
 use Rattle.passes.proofs.Outputs.{same-registers, same-outputs}
 use Rattle.passes.proofs.of_four.Statement.{statement}
 use Rattle.passes.proofs.of_four.Tie as tie
-use Rattle.passes.proofs.of_four.Reads as reads
-use Rattle.passes.proofs.of_four.Lts as lts
-use Rattle.passes.proofs.answer.Reads as answer-reads
-use Rattle.passes.proofs.move_four.Reads as move-four-reads
-use Rattle.products.proofs.offset_sample.Reads as offset-sample-reads
-use Rattle.products.proofs.sample_correction.Reads as sample-correction-reads
 
 mul-offset-sample : tie.Need-mul-offset-sample
 mul-offset-sample c = search needs

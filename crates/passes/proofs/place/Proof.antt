@@ -1,15 +1,8 @@
--- `passes::place` meets its contract.
-use Prim.Native.Nat.{ℕ, _≤_, _-_, _+_, _*_, _<_}
-use mathlib.Core.Path.{_≡_, refl, sym, ap, subst, _∙_}
-use mathlib.Core.Logic.{⊎-elim}
+-- `passes::place` meets its contract. Assumes nothing.
 use native.Mathlib.Omega.{arith}
-use lib.ListN.{length, length-set, take, drop, set, getD}
 use borrow.Author.Needs.{needs}
 use Rattle.passes.proofs.place.Statement.{statement}
 use Rattle.passes.proofs.place.Tie as tie
-use Rattle.passes.proofs.place.Reads as reads
-use Rattle.passes.proofs.place.Lts as lts
-use Rattle.products.proofs.four.Reads as four-reads
 
 add-four : tie.Need-add-four
 add-four c = search needs

@@ -1,9 +1,8 @@
--- `passes::slide` meets its contract.
-use Prim.Native.Nat.{ℕ, _≤_, _-_, _+_, _*_, _<_}
-use mathlib.Core.Path.{_≡_, refl, sym, ap, subst, _∙_}
-use mathlib.Core.Logic.{⊎-elim}
+-- `passes::slide` meets its contract. Assumes nothing.
+use Prim.Native.Nat.{_≤_, _-_, _+_, _<_}
+use mathlib.Core.Path.{_≡_, refl, sym, ap, _∙_}
 use native.Mathlib.Omega.{arith}
-use lib.ListN.{length, length-set, take, drop, set, getD}
+use lib.ListN.{length, length-set, set, getD}
 use borrow.Author.Needs.{needs}
 use Rattle.sequence.specs.UpTo.{front}
 use Rattle.sequence.proofs.Front.{front-start, front-read, front-next}
@@ -14,9 +13,6 @@ use Rattle.tables.specs.Tables.{coefficientsIn, after4}
 use Rattle.passes.proofs.Places.{register-place}
 use Rattle.passes.proofs.slide.Statement.{statement}
 use Rattle.passes.proofs.slide.Tie as tie
-use Rattle.passes.proofs.slide.Reads as reads
-use Rattle.passes.proofs.slide.Lts as lts
-use Rattle.passes.proofs.place.Reads as place-reads
 
 abbrev Inv-loop : tie.InvT-loop
 Inv-loop c t y0 y1 y2 y3 z n registers₀ k₀ registers k =

@@ -1,13 +1,9 @@
--- `products::four` meets its contract.
+-- `products::four` meets its contract. Assumes nothing.
 use Prim.Native.Nat.{_+_, _%_}
-use mathlib.Core.Path.{_≡_, ap₂, _∙_}
+use mathlib.Core.Path.{ap₂, _∙_}
 use native.Mathlib.Omega.{arith}
 use borrow.Author.Needs.{needs}
 use Rattle.products.proofs.FourSums.{four-is}
-use Rattle.products.proofs.part.Reads as part-reads
-use Rattle.products.proofs.four.Reads as reads
-use Rattle.products.proofs.four.Lts as lts
-use Rattle.std.proofs.num.wrapping_add_u64.Reads as wrapping-add-u64-reads
 use Rattle.products.proofs.four.Statement.{statement}
 use Rattle.products.proofs.four.Tie as tie
 

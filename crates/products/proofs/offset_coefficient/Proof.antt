@@ -1,4 +1,4 @@
--- `products::offset_coefficient` meets its contract.
+-- `products::offset_coefficient` meets its contract. Assumes nothing.
 use Prim.Native.Nat.{_+_, _-_}
 use mathlib.Core.Path.{refl, ap, _∙_}
 use native.Mathlib.Omega.{arith}

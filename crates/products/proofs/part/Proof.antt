@@ -1,4 +1,4 @@
--- `products::part` meets its contract.
+-- `products::part` meets its contract. Assumes nothing.
 use Prim.Native.Nat.{_≤_, _%_}
 use mathlib.Core.Path.{refl}
 use native.Mathlib.Nat.{mul-le-mul}

@@ -1,4 +1,4 @@
--- `products::pattern` meets its contract.
+-- `products::pattern` meets its contract. Assumes nothing.
 use native.Mathlib.Omega.{arith}
 use lib.Dec.{lit≤}
 use mir.Syntax.{w64}

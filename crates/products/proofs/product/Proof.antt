@@ -1,4 +1,4 @@
--- `products::product` meets its contract.
+-- `products::product` meets its contract. Assumes nothing.
 use lib.IntN.{_*ℤ_}
 use mir.Syntax.{w16, w32, w64}
 use mir.ValLaws.{toZ-ofZ}

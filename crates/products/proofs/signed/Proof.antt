@@ -1,4 +1,4 @@
--- `products::signed` meets its contract.
+-- `products::signed` meets its contract. Assumes nothing.
 use Prim.Native.Nat.{_-_}
 use mathlib.Core.Path.{_≡_, ap}
 use native.Mathlib.Omega.{arith}

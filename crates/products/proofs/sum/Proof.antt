@@ -1,4 +1,4 @@
--- `products::sum` meets its contract.
+-- `products::sum` meets its contract. Assumes nothing.
 use Prim.Native.Nat.{_+_, _%_}
 use mathlib.Core.Path.{_≡_, ap, _∙_}
 use native.Mathlib.Omega.{arith}
@@ -9,11 +9,6 @@ use mir.ValLaws.{toZ-ofZ}
 use borrow.Author.Needs.{needs}
 use Rattle.convolution.proofs.Words.{wrapped-sum}
 use Rattle.convolution.proofs.Sizes.{product-fits}
-use Rattle.products.proofs.pattern.Reads as pattern-reads
-use Rattle.products.proofs.product.Reads as product-reads
-use Rattle.products.proofs.sum.Reads as reads
-use Rattle.products.proofs.sum.Lts as lts
-use Rattle.std.proofs.num.wrapping_add_u64.Reads as wrapping-add-u64-reads
 use Rattle.products.proofs.sum.Statement.{statement}
 use Rattle.products.proofs.sum.Tie as tie
 

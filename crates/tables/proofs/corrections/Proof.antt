@@ -1,19 +1,14 @@
--- `tables::corrections` meets its contract.
-use Prim.Native.Nat.{ℕ, _≤_, _-_, _+_, _*_, _<_}
-use mathlib.Core.Path.{_≡_, refl, sym, ap, subst, _∙_}
-use mathlib.Core.Logic.{⊎-elim}
+-- `tables::corrections` meets its contract. Assumes nothing.
+use Prim.Native.Nat.{ℕ, _≤_, _-_, _+_, _<_}
+use mathlib.Core.Path.{_≡_, sym, ap, _∙_}
 use native.Mathlib.Omega.{arith}
-use lib.ListN.{length, length-set, take, drop, set, getD}
+use lib.ListN.{length, set, getD}
 use borrow.Author.Needs.{needs}
 use Rattle.sequence.specs.UpTo.{front}
 use Rattle.sequence.proofs.Front.{front-start, front-next, front-done}
 use Rattle.products.specs.Offset.{coefficientCorrection}
-use Rattle.tables.specs.Tables.{Corrected}
 use Rattle.tables.proofs.corrections.Statement.{statement}
 use Rattle.tables.proofs.corrections.Tie as tie
-use Rattle.tables.proofs.corrections.Reads as reads
-use Rattle.tables.proofs.corrections.Lts as lts
-use Rattle.products.proofs.coefficient_correction.Reads as coefficient-correction-reads
 
 abbrev Inv-loop : tie.InvT-loop
 Inv-loop c t₀ j₀ t j = (j ≤ 260) × (t ≡ front (λ i. coefficientCorrection (getD c (i + 4) 0) (getD c (i + 3) 0) (getD c (i + 2) 0) (getD c (i + 1) 0)) t₀ j)

@@ -1,9 +1,8 @@
--- `tables::offset_all` meets its contract.
-use Prim.Native.Nat.{ℕ, _≤_, _-_, _+_, _*_, _<_}
-use mathlib.Core.Path.{_≡_, refl, sym, ap, subst, _∙_}
-use mathlib.Core.Logic.{⊎-elim}
+-- `tables::offset_all` meets its contract. Assumes nothing.
+use Prim.Native.Nat.{_≤_, _-_}
+use mathlib.Core.Path.{_≡_, subst, _∙_}
 use native.Mathlib.Omega.{arith}
-use lib.ListN.{length, length-set, take, drop, set, getD}
+use lib.ListN.{getD}
 use borrow.Author.Needs.{needs}
 use lib.IntN.{pos}
 use mir.Syntax.{w32}
@@ -11,9 +10,6 @@ use mir.ValLaws.{toZ-ofZ}
 use Rattle.tables.proofs.Filling.{Filled, filled-start, filled-next, filled-padded, filled-all}
 use Rattle.tables.proofs.offset_all.Statement.{statement}
 use Rattle.tables.proofs.offset_all.Tie as tie
-use Rattle.tables.proofs.offset_all.Reads as reads
-use Rattle.tables.proofs.offset_all.Lts as lts
-use Rattle.products.proofs.offset_coefficient.Reads as offset-coefficient-reads
 
 abbrev Inv-loop : tie.InvT-loop
 Inv-loop h c₀ k₀ c k = (k ≤ 256) × (Filled h c k)
@@ -54,7 +50,7 @@ loop-again c =
     let h = at .before .args .h .now in
     let k = at .loop .k in
     let u = toZ-ofZ w32 (getD h k (pos 0)) (record { sfits = c .before .offset-coefficient-arg .given }) in
-    (search needs, filled-next h (at .loop .c) k (c .offset-coefficient .result) (c .before .before .loop-test .taken) (at .loop .inv .1) (c .offset-coefficient .ensures ∙ u))
+    (search needs, filled-next h (at .loop .c) k (c .offset-coefficient .result) (omega (arith, c .before .before .loop-test .taken)) (at .loop .inv .1) (c .offset-coefficient .ensures ∙ u))
 
 returns : tie.Need-returns Inv-loop μ-loop
 returns c =

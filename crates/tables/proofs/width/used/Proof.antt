@@ -1,12 +1,10 @@
--- `tables::width::used` meets its contract.
-use Prim.Native.Nat.{ℕ, suc, _≤_, _-_, _+_, _*_, _<_}
-use mathlib.Core.Path.{_≡_, refl, sym, ap, subst, _∙_}
-use mathlib.Core.Logic.{⊎-elim}
+-- `tables::width::used` meets its contract. Assumes nothing.
+use Prim.Native.Nat.{suc, _≤_, _-_}
+use mathlib.Core.Path.{_≡_, sym, ap, subst, _∙_}
 use native.Mathlib.Omega.{arith}
-use lib.ListN.{length, length-set, take, drop, set, getD}
+use lib.ListN.{getD}
 use borrow.Author.Needs.{needs}
 use lib.IntN.{pos}
-use borrow.Author.Tests.{eqb-true}
 use mir.Syntax.{w32}
 use mir.ValLaws.{toZ-ofZ}
 use Rattle.tables.specs.Quiet.{Quiet}
@@ -14,8 +12,6 @@ use Rattle.tables.proofs.Quiets.{quiet-end, quiet-less}
 use mir.Val.{toZ}
 use Rattle.tables.proofs.width.used.Statement.{statement}
 use Rattle.tables.proofs.width.used.Tie as tie
-use Rattle.tables.proofs.width.used.Reads as reads
-use Rattle.tables.proofs.width.used.Lts as lts
 
 abbrev Inv-loop : tie.InvT-loop
 Inv-loop h registers w₀ w = (w ≤ 256) × (Quiet w h registers)
