@@ -12,7 +12,7 @@ use mir.Syntax.{w64}
 use mir.Val.{toZ}
 use Rattle.convolution.specs.Running.{sumAt, next, outputsOf, registersOf}
 use Rattle.convolution.proofs.Steps.{length-outputs}
-use Rattle.tables.specs.Tables.{after4}
+use Rattle.kernel_tables.specs.Tables.{after4}
 
 -- ---- one sample
 

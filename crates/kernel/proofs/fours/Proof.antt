@@ -7,10 +7,10 @@ use borrow.Author.Needs.{needs}
 use lib.IntN.{pos}
 use lib.Seq.{sets}
 use Rattle.convolution.specs.Running.{registersOf, outputsOf}
-use Rattle.tables.specs.Tables.{coefficientsIn}
-use Rattle.tables.specs.Quiet.{Quiet}
-use Rattle.passes.proofs.Places.{length-in}
-use Rattle.tables.proofs.Quiets.{quiet-four}
+use Rattle.kernel_tables.specs.Tables.{coefficientsIn}
+use Rattle.kernel_tables.specs.Quiet.{Quiet}
+use Rattle.kernel_passes.proofs.Places.{length-in}
+use Rattle.kernel_tables.proofs.Quiets.{quiet-four}
 use Rattle.kernel.proofs.Passes.{fours-registers, fours-outputs}
 use Rattle.kernel.proofs.fours.Statement.{statement}
 use Rattle.kernel.proofs.fours.Tie as tie

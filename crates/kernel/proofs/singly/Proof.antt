@@ -12,8 +12,8 @@ use mir.Val.{toZ, ofZ}
 use mir.ValLaws.{toZ-ofZ}
 use Rattle.convolution.specs.Words.{wrapped}
 use Rattle.convolution.specs.Running.{sumAt, next, registersOf, outputsOf}
-use Rattle.tables.specs.Quiet.{Quiet}
-use Rattle.tables.proofs.Quiets.{quiet-next}
+use Rattle.kernel_tables.specs.Quiet.{Quiet}
+use Rattle.kernel_tables.proofs.Quiets.{quiet-next}
 use Rattle.kernel.proofs.Passes.{one-registers, one-outputs, end-registers, end-outputs}
 use Rattle.kernel.proofs.singly.Statement.{statement}
 use Rattle.kernel.proofs.singly.Tie as tie

@@ -2,7 +2,7 @@
 use mathlib.Core.Path.{sym, subst, _∙_}
 use native.Mathlib.Omega.{arith}
 use borrow.Author.Needs.{needs}
-use Rattle.tables.specs.Quiet.{Quiet}
+use Rattle.kernel_tables.specs.Quiet.{Quiet}
 use Rattle.kernel.proofs.Passes.{renamed-registers, renamed-outputs}
 use Rattle.kernel.proofs.with_tables.Statement.{statement}
 use Rattle.kernel.proofs.with_tables.Tie as tie
