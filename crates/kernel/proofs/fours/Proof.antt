@@ -9,7 +9,7 @@ use lib.Seq.{sets}
 use Rattle.convolution.specs.Running.{registersOf, outputsOf}
 use Rattle.kernel_tables.specs.Tables.{coefficientsIn}
 use Rattle.kernel_tables.specs.Quiet.{Quiet}
-use Rattle.kernel_passes.proofs.Places.{length-in}
+use Rattle.kernel_moves.proofs.Places.{length-in}
 use Rattle.kernel_tables.proofs.Quiets.{quiet-four}
 use Rattle.kernel.proofs.Passes.{fours-registers, fours-outputs}
 use Rattle.kernel.proofs.fours.Statement.{statement}

@@ -17,7 +17,7 @@ use Rattle.convolution.specs.Words.{wrapped}
 use Rattle.convolution.specs.Running.{next}
 use Rattle.convolution.specs.Sums.{held}
 use Rattle.convolution.proofs.Steps.{held-low, held-next}
-use Rattle.kernel_passes.proofs.Moves.{moved-one}
+use Rattle.kernel_moves.proofs.Moves.{moved-one}
 use Rattle.kernel.proofs.move_one.Statement.{statement}
 use Rattle.kernel.proofs.move_one.Tie as tie
 

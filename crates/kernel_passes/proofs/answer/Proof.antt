@@ -9,7 +9,7 @@ use mir.ValLaws.{toZ-ofZ}
 use Rattle.convolution.proofs.Steps.{held-low}
 use Rattle.kernel_products.specs.Offset.{sampleIn}
 use Rattle.kernel_tables.specs.Tables.{coefficientsIn}
-use Rattle.kernel_passes.proofs.Places.{output-place0, output-place1, output-place2, output-place3}
+use Rattle.kernel_moves.proofs.Places.{output-place0, output-place1, output-place2, output-place3}
 use Rattle.kernel_passes.proofs.Outputs.{four-outputs}
 use Rattle.kernel_passes.proofs.answer.Statement.{statement}
 use Rattle.kernel_passes.proofs.answer.Tie as tie

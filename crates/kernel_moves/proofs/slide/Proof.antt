@@ -1,4 +1,4 @@
--- `kernel_passes::slide` meets its contract. Assumes nothing.
+-- `kernel_moves::slide` meets its contract. Assumes nothing.
 use Prim.Native.Nat.{_≤_, _-_, _+_, _<_}
 use mathlib.Core.Path.{_≡_, refl, sym, ap, _∙_}
 use native.Mathlib.Omega.{arith}
@@ -10,9 +10,9 @@ use Rattle.convolution.specs.Sums.{held}
 use Rattle.convolution.proofs.Steps.{held-low}
 use Rattle.kernel_products.specs.Offset.{sampleIn}
 use Rattle.kernel_tables.specs.Tables.{coefficientsIn, after4}
-use Rattle.kernel_passes.proofs.Places.{register-place}
-use Rattle.kernel_passes.proofs.slide.Statement.{statement}
-use Rattle.kernel_passes.proofs.slide.Tie as tie
+use Rattle.kernel_moves.proofs.Places.{register-place}
+use Rattle.kernel_moves.proofs.slide.Statement.{statement}
+use Rattle.kernel_moves.proofs.slide.Tie as tie
 
 abbrev Inv-loop : tie.InvT-loop
 Inv-loop c t y0 y1 y2 y3 z n registers₀ k₀ registers k =

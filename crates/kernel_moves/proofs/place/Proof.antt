@@ -1,8 +1,8 @@
--- `kernel_passes::place` meets its contract. Assumes nothing.
+-- `kernel_moves::place` meets its contract. Assumes nothing.
 use native.Mathlib.Omega.{arith}
 use borrow.Author.Needs.{needs}
-use Rattle.kernel_passes.proofs.place.Statement.{statement}
-use Rattle.kernel_passes.proofs.place.Tie as tie
+use Rattle.kernel_moves.proofs.place.Statement.{statement}
+use Rattle.kernel_moves.proofs.place.Tie as tie
 
 add-four : tie.Need-add-four
 add-four c = search needs

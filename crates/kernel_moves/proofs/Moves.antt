@@ -12,7 +12,7 @@ use Rattle.convolution.specs.Sums.{held}
 use Rattle.convolution.proofs.Steps.{held-low, next-last, next-drop, length-next}
 use Rattle.kernel_tables.specs.Quiet.{Quiet}
 use Rattle.kernel_tables.specs.Tables.{after4}
-use Rattle.kernel_passes.proofs.Fronts.{front-rest, front-all}
+use Rattle.kernel_moves.proofs.Fronts.{front-rest, front-all}
 use Rattle.kernel_tables.proofs.Quiets.{quiet-next, quiet-four, quiet-same}
 
 module _ (h : List ℤ) (few : length h ≤ 256) (w : ℕ) where

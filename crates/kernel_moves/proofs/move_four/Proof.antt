@@ -1,4 +1,4 @@
--- `kernel_passes::move_four` meets its contract. Assumes nothing.
+-- `kernel_moves::move_four` meets its contract. Assumes nothing.
 use mathlib.Core.Path.{sym, ap, _∙_}
 use native.Mathlib.Omega.{arith}
 use lib.ListN.{length-set}
@@ -8,10 +8,10 @@ use Rattle.kernel_products.specs.Offset.{sampleIn}
 use Rattle.convolution.specs.Sums.{held}
 use Rattle.sequence.specs.UpTo.{front}
 use Rattle.kernel_tables.specs.Tables.{coefficientsIn, after4}
-use Rattle.kernel_passes.proofs.Places.{length-in, register-place}
-use Rattle.kernel_passes.proofs.Moves.{moved-few, moved-four}
-use Rattle.kernel_passes.proofs.move_four.Statement.{statement}
-use Rattle.kernel_passes.proofs.move_four.Tie as tie
+use Rattle.kernel_moves.proofs.Places.{length-in, register-place}
+use Rattle.kernel_moves.proofs.Moves.{moved-few, moved-four}
+use Rattle.kernel_moves.proofs.move_four.Statement.{statement}
+use Rattle.kernel_moves.proofs.move_four.Tie as tie
 
 least-requires : tie.Need-least-requires
 least-requires c κs = search needs
