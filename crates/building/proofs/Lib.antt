@@ -1,1 +1,3 @@
 pub mod Example
+pub mod Lookup
+pub mod Lawful
