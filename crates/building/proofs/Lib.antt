@@ -1,3 +1,5 @@
 pub mod Example
 pub mod Lookup
 pub mod Lawful
+pub mod FirstOver
+pub mod FirstFit
