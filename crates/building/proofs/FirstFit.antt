@@ -15,6 +15,7 @@ use lib.IntN.{pos}
 use lib.ListN.{length, getD}
 use Rattle.refusal.specs.Answer.{Place, nowhere, at-place, lowest}
 use Rattle.refusal.proofs.Checks.{lowest-none-at}
+use Rattle.sequence.proofs.UpTo.{length-upTo, getD-upTo}
 use Rattle.network.specs.declared.Row.{Row}
 use Rattle.network.specs.Rows.{plus, minus, reversed, rowIn, noRow}
 use Rattle.network.specs.RowRule.{combined, isRowSign, isNatural, isWorked, lifted, LaterRow}
@@ -109,6 +110,13 @@ place-of s t = go (eqb s plus) (eqb s minus) (eqb s reversed) refl refl refl t
     go false false true p m r t = rw (eqb-true s reversed r) (omega arith, refl)
     go false false false p m r t = absurd (rw (p, m, r) at t)
 
+-- ---- shifts
+shift-at : (k : ℕ) → k < 31 → getD shifts k 0 ≡ suc k
+shift-at k l = getD-upTo 31 suc 0 k l
+
+shift-count : length shifts ≡ 31
+shift-count = length-upTo 31 suc
+
 -- ---- the search
 module _ (rows : List Row) (v : ℕ) where
   abbrev bySign : ℕ → ℕ → ℕ → Fit
@@ -141,7 +149,9 @@ module _ (rows : List Row) (v : ℕ) where
     left-tried : byLeft (q .left) ≡ none-fits → ⊥
     left-tried n =
         shift-tried
-        (up-to-none 0 suc (λ (shift : ℕ). firstOver (λ (sign : ℕ). tried rows v (q .left) shift sign) signs) 31 n (q .shift - 1) (omega (arith, w .shift-to, w .shift-from)))
+        (let k : q .shift - 1 < 31 = omega (arith, w .shift-to, w .shift-from) in
+        ap (λ (s : ℕ). firstOver (tried rows v (q .left) s) signs) (sym (shift-at (q .shift - 1) k))
+        ∙ over-none 0 (λ (s : ℕ). firstOver (tried rows v (q .left) s) signs) shifts n (q .shift - 1) (omega (arith, shift-count)))
 
   -- the three places of what was found
   record Places (r : Row) : Type 0 where
@@ -149,11 +159,22 @@ module _ (rows : List Row) (v : ℕ) where
     shifts-at : FirstAt (byShift (lefts .place)) 31 r
     signs-at : FirstAt (bySign (lefts .place) (suc (shifts-at .place))) 3 r
 
+  by-shift : (r : Row) (left : ℕ) → byLeft left ≡ fit r → FirstAt (byShift left) 31 r
+  by-shift r left e =
+      let y = over-fit 0 (λ (s : ℕ). firstOver (tried rows v left s) signs) shifts r e in
+      let l : y .place < 31 = omega (arith, y .within, shift-count) in
+      record {
+        place = y .place;
+        within = l;
+        fits = ap (λ (s : ℕ). firstOver (tried rows v left s) signs) (sym (shift-at (y .place) l)) ∙ y .fits;
+        not-before = λ k m. ap (λ (s : ℕ). firstOver (tried rows v left s) signs) (sym (shift-at k (omega arith))) ∙ y .not-before k m;
+      }
+
   found-places : (r : Row) → firstFit rows v ≡ fit r → Places r
   unfolding firstFit
   found-places r e =
       let x = up-to-fit 0 (λ (i : ℕ). i) byLeft (length rows) r e in
-      let y = up-to-fit 0 suc (λ (shift : ℕ). firstOver (λ (sign : ℕ). tried rows v (x .place) shift sign) signs) 31 r (x .fits) in
+      let y = by-shift r (x .place) (x .fits) in
       let z = over-fit 0 (tried rows v (x .place) (suc (y .place))) signs r (y .fits) in
       record { lefts = x; shifts-at = y; signs-at = z }
 

@@ -3,3 +3,5 @@ pub mod Lookup
 pub mod Lawful
 pub mod FirstOver
 pub mod FirstFit
+pub mod ChainValue
+pub mod ChosenForm
