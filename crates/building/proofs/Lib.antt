@@ -5,3 +5,6 @@ pub mod FirstOver
 pub mod FirstFit
 pub mod ChainValue
 pub mod ChosenForm
+pub mod Growth
+pub mod Chain
+pub mod Steps
