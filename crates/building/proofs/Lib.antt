@@ -8,3 +8,7 @@ pub mod ChosenForm
 pub mod Growth
 pub mod Chain
 pub mod Steps
+pub mod Order
+pub mod PartsInOrder
+pub mod Reduced
+pub mod TapRow
