@@ -12,3 +12,4 @@ pub mod Order
 pub mod PartsInOrder
 pub mod Reduced
 pub mod TapRow
+pub mod Passes
