@@ -13,3 +13,4 @@ pub mod PartsInOrder
 pub mod Reduced
 pub mod TapRow
 pub mod Passes
+pub mod Words
