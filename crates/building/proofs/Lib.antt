@@ -14,3 +14,4 @@ pub mod Reduced
 pub mod TapRow
 pub mod Passes
 pub mod Words
+pub mod Answers
