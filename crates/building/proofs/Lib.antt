@@ -15,3 +15,5 @@ pub mod TapRow
 pub mod Passes
 pub mod Words
 pub mod Answers
+pub mod BuiltTables
+pub mod TapWritten

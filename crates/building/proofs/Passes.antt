@@ -102,9 +102,9 @@ module _ (cs : List ℤ) (ks : List ℕ) (c : CanBuild cs ks) where
   unfolding built
   built-few = rows-built cs ks c .few
 
-  passed : Passed (built cs ks) cs
+  pub built-passed : Passed (built cs ks) cs
   unfolding built
-  passed =
+  built-passed =
       let r = rows-built cs ks c in
       record {
         rows-from = lawful-some (r .lawful);
@@ -119,4 +119,4 @@ module _ (cs : List ℤ) (ks : List ℕ) (c : CanBuild cs ks) where
 
   -- the built network passes, and its coefficients are the ones that were given
   pub built-passes : checked (built cs ks) ≡ given cs
-  built-passes = passed-checked (built cs ks) cs passed
+  built-passes = passed-checked (built cs ks) cs built-passed
