@@ -49,7 +49,8 @@ pub record RowsBuilt (coefficients : List ℤ) (rows : List Row) : Type 0 where
   pub few : length rows ≤ 3841
 
 module _ (cs : List ℤ) (ks : List ℕ) (c : CanBuild cs ks) where
-  part-buildable : (p : Part) → List·Memᴰ p (partsToBuild cs ks) → Buildable p
+  -- every part to be built is odd, below 2^31, and its choice is below the number of its forms
+  pub part-buildable : (p : Part) → List·Memᴰ p (partsToBuild cs ks) → Buildable p
   unfolding noSuchForm
   part-buildable p m =
       let e = parts-in-order cs ks (c .enough) .earliest p m in
