@@ -10,6 +10,7 @@ pub mod Example
 pub mod Order
 pub mod Lookup
 pub mod FirstOver
+pub mod Tried
 pub mod Lawful
 pub mod Growth
 pub mod ChainValue

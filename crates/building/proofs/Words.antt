@@ -29,12 +29,12 @@ length-tap-words (t ∷ taps) = omega (arith, length-tap-words taps)
 pub row-words-append : (rows more : List Row) → wordsOfRows (rows ++ more) ≡ wordsOfRows rows ++ wordsOfRows more
 unfolding wordsOfRows
 row-words-append [] more = refl
-row-words-append (r ∷ rows) more = ap (λ (l : List ℕ). r .left ∷ r .right ∷ r .shift ∷ r .sign ∷ r .value ∷ l) (row-words-append rows more)
+row-words-append (r ∷ rows) more = rw (row-words-append rows more)
 
 pub tap-words-append : (taps more : List TapRow) → wordsOfTapRows (taps ++ more) ≡ wordsOfTapRows taps ++ wordsOfTapRows more
 unfolding wordsOfTapRows
 tap-words-append [] more = refl
-tap-words-append (t ∷ taps) more = ap (λ (l : List ℕ). t .sign ∷ t .row ∷ t .shift ∷ l) (tap-words-append taps more)
+tap-words-append (t ∷ taps) more = rw (tap-words-append taps more)
 
 -- ---- what a table that starts with these words holds
 module _ (rest : List ℕ) where
