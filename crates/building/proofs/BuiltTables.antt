@@ -2,20 +2,20 @@
 -- built for. Assumes nothing.
 use mathlib.Core.Path.{_≡_, refl, sym, ap, ap₂, _∙_, subst}
 use mathlib.Core.Bool.{false}
-use mathlib.Core.List.{List, [], _∷_, _++_, map}
-use Prim.Native.Nat.{ℕ, _+_, _*_, _≤_, _<_}
+use mathlib.Core.List.{List, _++_}
+use Prim.Native.Nat.{ℕ, _+_, _≤_, _<_}
 use native.Mathlib.Omega.{arith}
 use lib.IntN.{ℤ, pos}
 use lib.ListN.{length, getD, drop, length-append, length-drop}
-use Rattle.refusal.specs.Answer.{Answer, given, filled}
+use Rattle.refusal.specs.Answer.{given, filled}
 use Rattle.refusal.proofs.Tables.{length-map}
 use Rattle.signed_digit.specs.Coefficient.{Coefficient}
 use Rattle.coefficient.specs.Parts.{partsOf}
 use Rattle.network.specs.declared.Row.{Row}
 use Rattle.network.specs.declared.TapRow.{TapRow}
-use Rattle.network.specs.Rows.{Network, rowWords, tapWords, networkOf, rowsOf, tapRowsOf}
+use Rattle.network.specs.Rows.{Network, networkOf}
 use Rattle.network.specs.Check.{networkAnswer}
-use Rattle.network.proofs.Passed.{Passed, Accepted, accepted-given}
+use Rattle.network.proofs.Passed.{Passed, accepted-given}
 use Rattle.building.specs.Steps.{builtRows}
 use Rattle.building.specs.TapRows.{tapRowOf, built}
 use Rattle.building.specs.Answer.{buildAnswer}

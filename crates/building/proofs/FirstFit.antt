@@ -1,23 +1,23 @@
 -- Step 2 of building in document 01's words: the row that the search finds keeps the row rule, has the value that was searched for, and no such row
 -- comes before it by "lowest left, then lowest shift, then sign in the order `+`, `-`, `r`"; where nothing is found, there is no such row.
 -- Assumes nothing.
-use mathlib.Core.Path.{_≡_, refl, sym, ap, _∙_, subst}
-use mathlib.Core.Bool.{Bool, true, false, cond, true≢false, _&&_}
-use mathlib.Core.List.{List, [], _∷_}
-use mathlib.Core.Logic.{_⊎_, inl, inr, ⊎-elim}
-use Prim.Native.Nat.{ℕ, zero, suc, _+_, _-_, _%_, _^_, _≤_, _<_}
+use mathlib.Core.Path.{_≡_, refl, sym, ap, _∙_}
+use mathlib.Core.Bool.{Bool, true, false, cond, true≢false}
+use mathlib.Core.List.{List}
+use mathlib.Core.Logic.{_⊎_, ⊎-elim}
+use Prim.Native.Nat.{ℕ, zero, suc, _-_, _%_, _^_, _≤_, _<_}
 use native.Mathlib.Decide.{decLe}
 use native.Mathlib.Nat.{eq-or-lt-of-le, lt-of-not-le}
 use native.Mathlib.Omega.{arith}
-use borrow.Author.Tests.{leb-true, le-leb, eqb-true}
-use lib.Dec.{T, eqb, leb}
+use borrow.Author.Tests.{eqb-true}
+use lib.Dec.{T, eqb}
 use lib.IntN.{pos}
 use lib.ListN.{length, getD}
 use Rattle.sequence.proofs.UpTo.{length-upTo, getD-upTo}
 use Rattle.network.specs.declared.Row.{Row}
-use Rattle.network.specs.Rows.{plus, minus, reversed, rowIn, noRow}
-use Rattle.network.specs.RowRule.{combined, isRowSign, isNatural, isWorked, lifted, LaterRow}
-use Rattle.network.proofs.Booleans.{holds, is-true, both}
+use Rattle.network.specs.Rows.{plus, minus, reversed, rowIn}
+use Rattle.network.specs.RowRule.{combined, isRowSign, isNatural, lifted, LaterRow}
+use Rattle.network.proofs.Booleans.{is-true, both}
 use Rattle.network.proofs.Rules.{natural-is, is-natural}
 use Rattle.building.specs.Search.{Fit, fit, none-fits, firstOver, tried, signs, shifts, firstFit}
 use Rattle.building.proofs.FirstOver.{FirstAt, over-fit, over-none, up-to-fit, up-to-none}

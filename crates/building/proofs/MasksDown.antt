@@ -1,11 +1,11 @@
 -- A form's digits from high to low, by its two masks, for reading it in step 3. Assumes nothing.
 use mathlib.Core.Path.{_≡_, refl, sym, ap, ap₂, _∙_}
 use mathlib.Core.List.{List, [], _∷_, _++_, reverse, reverse-append}
-use Prim.Native.Nat.{ℕ, zero, suc, _+_, _*_, _/_, _%_, _^_}
+use Prim.Native.Nat.{ℕ, zero, suc, _+_, _/_, _%_, _^_}
 use native.Mathlib.Nat.{pow-succ', div-div-eq-div-mul, div-one}
 use native.Mathlib.Omega.{arith}
 use lib.ListN.{replicate}
-use Rattle.signed_digit.specs.Digit.{Digit, one, nought, minus-one}
+use Rattle.signed_digit.specs.Digit.{Digit, nought}
 use Rattle.signed_digit.specs.String.{DigitString}
 use Rattle.signed_digit.specs.Masks.{digitOf, fromMasks}
 use Rattle.signed_digit.specs.Forms.{top}

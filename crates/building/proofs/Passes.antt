@@ -1,22 +1,20 @@
 -- The network that document 01's building steps give passes every check, and its coefficients are those that it was built for. Assumes nothing.
 use mathlib.Core.Path.{_≡_, refl, sym, ap, _∙_, subst}
-use mathlib.Core.Bool.{Bool, true, false, not}
+use mathlib.Core.Bool.{false}
 use mathlib.Core.List.{List, [], _∷_, map, List·Memᴰ}
-use Prim.Native.Nat.{ℕ, zero, suc, _+_, _*_, _%_, _^_, _≤_, _<_, suc-le-suc}
+use Prim.Native.Nat.{ℕ, suc, _≤_, _<_, suc-le-suc}
 use native.Mathlib.Omega.{arith}
 use borrow.Author.Tests.{not-false, ltb-true}
 use lib.Dec.{ltb}
 use lib.IntN.{ℤ, pos}
 use lib.ListN.{length, getD, List·getD-map}
-use lib.Seq.{ext-getD}
 use Rattle.refusal.specs.Answer.{given}
 use Rattle.refusal.proofs.Tables.{length-map}
 use Rattle.signed_digit.specs.Coefficient.{Coefficient}
 use Rattle.signed_digit.specs.Forms.{listing}
-use Rattle.coefficient.specs.Parts.{Parts, no-odd-part, parts, partsOf}
+use Rattle.coefficient.specs.Parts.{Parts, parts, partsOf}
 use Rattle.network.specs.declared.Row.{Row}
-use Rattle.network.specs.declared.TapRow.{TapRow}
-use Rattle.network.specs.Rows.{Network, tapRowIn, noTap}
+use Rattle.network.specs.Rows.{tapRowIn, noTap}
 use Rattle.network.specs.Coefficients.{coefficientOf, coefficients}
 use Rattle.network.specs.TapRowRule.{TapRowRule}
 use Rattle.network.specs.Check.{checked}
