@@ -9,6 +9,7 @@ pub mod Example
 -- What they rest on, and the proofs of the crates above may cite:
 pub mod Order
 pub mod Lookup
+pub mod OnlyParts
 pub mod OnlyFit
 pub mod FirstOver
 pub mod Tried
