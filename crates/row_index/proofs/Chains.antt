@@ -1,8 +1,8 @@
 -- The rows of a bucket, from link to link, and a row that joins them. Assumes nothing.
 use mathlib.Core.Path.{_≡_, refl, sym, ap, _∙_, subst}
 use mathlib.Core.List.{List}
-use mathlib.Core.Logic.{_⊎_, inl, inr, ⊎-elim}
-use Prim.Native.Nat.{ℕ, zero, suc, _+_, _-_, _*_, _/_, _<_, _≤_, zero-le, suc-le-suc}
+use mathlib.Core.Logic.{⊎-elim}
+use Prim.Native.Nat.{ℕ, suc, _+_, _-_, _*_, _/_, _<_, _≤_}
 use native.Mathlib.Nat.{eq-or-lt-of-le}
 use native.Mathlib.Omega.{arith}
 use lib.Bits.{and-le-r}
@@ -12,20 +12,17 @@ use Rattle.refusal.specs.Answer.{nowhere}
 use Rattle.network.specs.Rows.{rowWords, rowsOf}
 use Rattle.building.specs.Search.{rowWith}
 use Rattle.row_index.specs.Index.{valueAt, bucketOf, Last, Indexed}
+use Rattle.row_index.proofs.Compare.{le-or-lt, eq-or-ne}
 use Rattle.row_index.proofs.Values.{row-missing}
 
 pub bucket-below : (m v : ℕ) → 0 < m → bucketOf m v < m
 unfolding bucketOf
 bucket-below m v h = omega (arith, and-le-r (v / 2) (m - 1))
 
-le-or-lt : (a b : ℕ) → (a ≤ b) ⊎ (b < a)
-le-or-lt zero b = inl zero-le
-le-or-lt (suc a) zero = inr (suc-le-suc zero-le)
-le-or-lt (suc a) (suc b) = ⊎-elim (λ p. inl (suc-le-suc p)) (λ q. inr (suc-le-suc q)) (le-or-lt a b)
-
-eq-or-ne : (a b : ℕ) → (a ≡ b) ⊎ (a ≡ b → ⊥)
-eq-or-ne a b =
-    ⊎-elim (λ p. ⊎-elim (λ e. inl e) (λ l. inr (λ e. omega arith)) (eq-or-lt-of-le p)) (λ q. inr (λ e. omega arith)) (le-or-lt a b)
+-- a bucket without a row
+pub empty-bucket : (t heads links : List ℕ) (n x : ℕ) → Indexed t heads links n → getD heads (bucketOf (length heads) x) 0 ≡ 0 → (i : ℕ) → i < n → valueAt t i ≡ x → ⊥
+empty-bucket t heads links n x ix e i l q =
+    ix .heads-in (bucketOf (length heads) x) (bucket-below (length heads) x (ix .buckets)) .none i (omega arith) l (ap (bucketOf (length heads)) q)
 
 -- while a bucket is walked: no row from p on has the value x, and p stands for a row of x's bucket
 pub record Passed (t : List ℕ) (m n x p : ℕ) : Type 0 where

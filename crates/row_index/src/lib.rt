@@ -3,6 +3,7 @@
 ghost use mathlib.Core.Path.{_≡_};
 ghost use mathlib.Core.List.{[], _∷_, _++_};
 ghost use Prim.Native.Nat.{_+_, _*_, _≤_, _<_};
+ghost use lib.Dec.{eqb};
 ghost use lib.ListN.{length, getD, set};
 ghost use Rattle.refusal.specs.Answer.{nowhere};
 ghost use Rattle.network.specs.Rows.{rowWords, rowsOf};
@@ -29,6 +30,15 @@ fn bucket(x: u32, m: usize) -> usize
     ensures { λ r. ⌜ (r ≡ bucketOf m x) × (r < m) ⌝ }
 {
     ((x / 2) as usize) & (m - 1)
+}
+
+// Whether no row is in the bucket of x: then no row has this value.
+pub fn is_empty(heads: &[u16], x: u32) -> bool
+    requires { ⌜ 0 < length (now heads) ⌝ }
+    ensures { λ r. ⌜ r ≡ eqb (getD (now (heads .entry)) (bucketOf (length (now (heads .entry))) x) 0) 0 ⌝ }
+{
+    let h = bucket(x, heads.len());
+    heads[h] == 0
 }
 
 // The row that has the value x.
