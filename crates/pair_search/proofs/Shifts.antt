@@ -3,7 +3,8 @@ use mathlib.Core.Path.{_≡_, refl, sym, ap, _∙_}
 use mathlib.Core.List.{List}
 use mathlib.Core.Logic.{⊎-elim}
 use Prim.Native.Nat.{ℕ, suc, _+_, _-_, _*_, _%_, _^_, _≤_, _<_}
-use native.Mathlib.Nat.{mul-assoc, pow-succ', le-mul-of-pos-right, mul-le-mul-right}
+use native.Mathlib.Nat.{eq-or-lt-of-le, mul-assoc, pow-succ', le-mul-of-pos-right, mul-le-mul-right}
+use native.Mathlib.Numerals.{add-one}
 use native.Mathlib.Omega.{arith}
 use lib.ListN.{length}
 use lib.Pow.{pow-mono}
@@ -20,8 +21,12 @@ use Rattle.pair_search.proofs.Tries.{plus-right, minus-right, plus-none
 
 -- ---- 2^s·left
 
-pub lifted-next : (s l : ℕ) → lifted (suc s) l ≡ 2 * lifted s l
+lifted-next : (s l : ℕ) → lifted (suc s) l ≡ 2 * lifted s l
 lifted-next s l = rw (pow-succ' 2 s) (mul-assoc 2 (2 ^ s) l)
+
+-- one more shift
+pub lifted-more : (s l a : ℕ) → a ≡ lifted s l → a * 2 ≡ lifted (s + 1) l
+lifted-more s l a e = ap (λ (x : ℕ). x * 2) e ∙ omega (arith, lifted-next s l, ap (λ (k : ℕ). lifted k l) (add-one s))
 
 lifted-up : (s k l : ℕ) → s ≤ k → lifted s l ≤ lifted k l
 lifted-up s k l h = mul-le-mul-right l (pow-mono h)
@@ -95,6 +100,12 @@ module _ (t heads links : List ℕ) (n most v : ℕ) (s : Searchable t heads lin
         let q : suc (z - 1) ≡ z = omega arith in
         over-first (λ (shift : ℕ). fitAtShift (rowsOf t n) v i shift) suc 31 (z - 1) r (omega arith) (λ k l. tried-below k (omega arith))
         (ap (fitAtShift (rowsOf t n) v i) q ∙ e)
+
+-- one more shift has been tried
+pub shifts-more : (rows : List Row) (v left z : ℕ) → ((k : ℕ) → suc k < z → fitAtShift rows v left (suc k) ≡ none-fits) → fitAtShift rows v left z ≡ none-fits
+    → (k : ℕ) → suc k < z + 1 → fitAtShift rows v left (suc k) ≡ none-fits
+shifts-more rows v left z h e k l =
+    ⊎-elim (λ (q : suc k ≡ z). ap (fitAtShift rows v left) q ∙ e) (λ (b : suc k < z). h k b) (eq-or-lt-of-le (let q : suc k ≤ z = omega arith in q))
 
 -- ---- the left rows below i have been tried
 

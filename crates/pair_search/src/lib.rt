@@ -17,12 +17,6 @@ pub enum NewRow {
     NoneFits,
 }
 
-fn wide(x: u32) -> u64
-    ensures { λ r. ⌜ r ≡ x ⌝ }
-{
-    x as u64
-}
-
 fn narrow(x: usize) -> u32
     requires { ⌜ x < 2 ^ 32 ⌝ }
     ensures { λ r. ⌜ r ≡ x ⌝ }
@@ -145,8 +139,8 @@ fn reversed(
     requires { ⌜ Searchable (now table) (now heads) (now links) n most v × AtShift (now table) n left shift a ⌝ }
     ensures { λ r. ⌜ fitOf r ≡ tried (rowsOf (now (table .entry)) n) v left shift reversed ⌝ }
 {
-    let x = a + wide(v);
-    if x <= wide(most) {
+    let x = a + v as u64;
+    if x <= most as u64 {
         with_right(
             table,
             heads,
@@ -179,7 +173,7 @@ fn at_shift(
     requires { ⌜ Searchable (now table) (now heads) (now links) n most v × AtShift (now table) n left shift a × (a ≤ v + most) ⌝ }
     ensures { λ r. ⌜ fitOf r ≡ fitAtShift (rowsOf (now (table .entry)) n) v left shift ⌝ }
 {
-    let w = wide(v);
+    let w = v as u64;
     if a < w {
         match with_right(
             table,
@@ -218,14 +212,15 @@ pub fn first_fit(table: &[u32], heads: &[u16], links: &[u16], n: usize, most: u3
     requires { ⌜ Searchable (now table) (now heads) (now links) n most v ⌝ }
     ensures { λ r. ⌜ fitOf r ≡ firstFit (rowsOf (now (table .entry)) n) v ⌝ }
 {
-    let limit = wide(v) + wide(most);
+    let limit = v as u64 + most as u64;
     let mut i = lowest_left(table, heads, links, n, most, v);
     let found = 'search: loop {
         if i >= n {
             break 'search NewRow::NoneFits;
         }
         let left = narrow(i);
-        let mut a = wide(network::read_value(table, i)) * 2;
+        let value = network::read_value(table, i);
+        let mut a = 2 * (value as u64);
         let mut s: u32 = 1;
         while a <= limit {
             match at_shift(table, heads, links, n, most, v, left, s, a) {

@@ -1,21 +1,13 @@
-use Prim.Native.Nat.{ℕ, _≤_, _-_, _+_, _*_, _<_}
-use mathlib.Core.Path.{_≡_, refl, sym, ap, subst, _∙_}
-use mathlib.Core.Logic.{⊎-elim}
-use native.Mathlib.Omega.{arith}
-use lib.ListN.{length, length-set, take, drop, set, getD}
-use borrow.Author.Needs.{needs}
+-- `pair_search::odd_part` meets its contract. Assumes nothing.
+use Rattle.pair_search.proofs.OddPart.{zeros-below, odd-part-is}
 use Rattle.pair_search.proofs.odd_part.Statement.{statement}
 use Rattle.pair_search.proofs.odd_part.Tie as tie
-use Rattle.pair_search.proofs.odd_part.Reads as reads
-use Rattle.pair_search.proofs.odd_part.Lts as lts
 
--- src/lib.rt:38:5
 shr-result : tie.Need-shr-result
-shr-result c = search needs
+shr-result c = zeros-below 32 (c .args .x) (c .pre) (c .fits .x .fits)
 
--- src/lib.rt:34:1
 returns : tie.Need-returns
-returns c = search needs
+returns c = odd-part-is (c .args .x)
 
 pub odd-part-spec : {M : Type 1} → statement M
 odd-part-spec = tie.close (tie.spec shr-result returns)

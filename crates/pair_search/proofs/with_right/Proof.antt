@@ -1,39 +1,36 @@
-use Prim.Native.Nat.{ℕ, _≤_, _-_, _+_, _*_, _<_}
-use mathlib.Core.Path.{_≡_, refl, sym, ap, subst, _∙_}
-use mathlib.Core.Logic.{⊎-elim}
+-- `pair_search::with_right` meets its contract. Assumes nothing.
+use mathlib.Core.Path.{_≡_, refl, sym, ap, _∙_}
 use native.Mathlib.Omega.{arith}
-use lib.ListN.{length, length-set, take, drop, set, getD}
 use borrow.Author.Needs.{needs}
+use Rattle.building.specs.Search.{rowOver}
+use Rattle.row_index.specs.Found.{foundAt}
+use Rattle.row_index.proofs.Values.{row-found}
 use Rattle.pair_search.proofs.with_right.Statement.{statement}
 use Rattle.pair_search.proofs.with_right.Tie as tie
-use Rattle.pair_search.proofs.with_right.Reads as reads
-use Rattle.pair_search.proofs.with_right.Lts as lts
-use Rattle.pair_search.proofs.narrow.Reads as narrow-reads
-use Rattle.row_index.proofs.find.Reads as find-reads
 
--- src/lib.rt:108:11
 find-requires : tie.Need-find-requires
 find-requires c κs = search needs
 
--- src/lib.rt:109:19
 enum-known-k : tie.Need-enum-known-k
 enum-known-k c = search needs
 
--- src/lib.rt:111:20
 narrow-requires : tie.Need-narrow-requires
-narrow-requires c κs = ?
+narrow-requires c κs =
+    let s = c .before .before .before .before .before .before .before in
+    let a = s .args in
+    let f = row-found (a .table .now) (a .n) (a .x) (c .before .k .given .0 .0) (sym (c .before .before .before .find .ensures) ∙ ap foundAt (c .before .k .given .1)) in
+    omega (arith, f .0, s .pre .few)
 
--- src/lib.rt:116:27
 enum-told : tie.Need-enum-told
 enum-told c = search needs
 
--- src/lib.rt:94:1
 returns : tie.Need-returns
-returns c = ?
+unfolding rowOver
+returns c = rw (sym (c .before .before .before .before .find .ensures) ∙ ap foundAt (c .before .before .k .given .1), c .narrow .ensures) refl
 
--- src/lib.rt:94:1
 returns-2 : tie.Need-returns-2
-returns-2 c = ?
+unfolding rowOver
+returns-2 c = rw (sym (c .before .before .find .ensures) ∙ ap foundAt (c .enum-told .given .1)) refl
 
 pub with-right-spec : {M : Type 1} → statement M
 with-right-spec =
