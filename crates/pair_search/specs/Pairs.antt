@@ -2,10 +2,11 @@
 use mathlib.Core.Path.{_≡_}
 use mathlib.Core.List.{List}
 use Prim.Native.Nat.{ℕ, _+_, _*_, _%_, _^_, _≤_, _<_}
+use Rattle.refusal.specs.Answer.{nowhere}
 use Rattle.network.specs.declared.Row.{Row}
 use Rattle.network.specs.Rows.{rowsOf}
 use Rattle.network.specs.RowRule.{lifted}
-use Rattle.building.specs.Search.{Fit, none-fits, firstOver, tried, signs, shifts}
+use Rattle.building.specs.Search.{Fit, rowWith, firstOver, tried, signs, shifts}
 use Rattle.row_index.specs.Index.{valueAt, Indexed}
 
 -- the first fit with a left row and a shift, and with a left row
@@ -23,7 +24,7 @@ pub record Searchable (table heads links : List ℕ) (n most v : ℕ) : Type 0 w
   pub small : most < 2 ^ 31
   pub new-odd : v % 2 ≡ 1
   pub new-small : v < 2 ^ 31
-  pub new : (i : ℕ) → i < n → valueAt table i ≡ v → ⊥
+  pub new : rowWith (rowsOf table n) v ≡ nowhere
 
 -- a is 2^shift·left, of row `left` of n
 pub record AtShift (table : List ℕ) (n left shift a : ℕ) : Type 0 where

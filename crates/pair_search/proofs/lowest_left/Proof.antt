@@ -5,6 +5,7 @@ use native.Mathlib.Omega.{arith}
 use borrow.Author.Count.{below-more}
 use borrow.Author.Needs.{needs}
 use Rattle.row_index.specs.Index.{valueAt}
+use Rattle.row_index.proofs.Values.{row-missing}
 use Rattle.pair_search.specs.Pairs.{NoLeft}
 use Rattle.pair_search.proofs.Lefts.{fewer-lefts, left-fits-none}
 use Rattle.pair_search.proofs.Shifts.{positive}
@@ -29,7 +30,7 @@ lower-left-requires c κs =
     let lp = c .before .before .loop in
     let h = c .before .loop-test .taken in
     let e = c .read-value .ensures in
-    ((s .pre .index, lp .inv .1, s .pre .odd), (s .pre .new-small, omega (arith, e, s .pre .bounded (lp .j) h, s .pre .small), omega (arith, s .pre .new-odd), λ q. s .pre .new (lp .j) h (sym e ∙ q)))
+    ((s .pre .index, lp .inv .1, s .pre .odd), (s .pre .new-small, omega (arith, e, s .pre .bounded (lp .j) h, s .pre .small), omega (arith, s .pre .new-odd), λ q. row-missing (s .args .table .now) (s .args .n) (s .args .v) (s .pre .new) (lp .j) h (sym e ∙ q)))
 
 add-j : tie.Need-add-j Inv-loop μ-loop
 add-j c = search needs
