@@ -2,12 +2,16 @@
 // brings the rows with their index.
 ghost use mathlib.Core.Path.{_≡_};
 ghost use Prim.Native.Nat.{ℕ, _+_, _-_, _*_, _/_, _%_, _^_, _≤_, _<_};
-ghost use Rattle.network.specs.Rows.{plus, minus, reversed, rowsOf};
-ghost use Rattle.network.specs.RowRule.{lifted};
-ghost use Rattle.building.specs.Search.{none-fits, rowWith, rowOver, tried, firstFit};
+ghost use lib.Dec.{T};
+ghost use Rattle.network.specs.Rows.{rowsOf};
+ghost use Rattle.network.specs.RowRule.{lifted, isRowSign};
+ghost use Rattle.building.specs.Search.{none-fits, tried, firstFit};
 ghost use Rattle.row_index.specs.Index.{valueAt, Indexed};
 ghost use Rattle.pair_search.specs.NewRow.{fitOf};
-ghost use Rattle.pair_search.specs.Pairs.{fitAtShift, fitAtLeft, Searchable, AtShift, NoLeft};
+ghost use Rattle.pair_search.specs.Pairs.{fitAtShift, fitAtLeft, rightValue, Searchable, AtShift, NoLeft};
+use network::MINUS;
+use network::PLUS;
+use network::REVERSED;
 use network::Row;
 use row_index::Found;
 
@@ -97,22 +101,51 @@ fn lowest_left(table: &[u32], heads: &[u16], links: &[u16], n: usize, most: u32,
     low
 }
 
-// The new row of value v with the row of value x on the right.
-fn with_right(
+// a - b, and 0 where b is larger.
+fn less(a: u64, b: u64) -> u64
+    ensures { λ r. ⌜ r ≡ a - b ⌝ }
+{
+    if b < a { a - b } else { 0 }
+}
+
+// The value that makes v on the right, a being 2^shift times the left row; 0 where none does.
+fn right_value(sign: u32, a: u64, v: u32) -> u64
+    requires { ⌜ a ≤ 2 ^ 32 ⌝ }
+    ensures { λ r. ⌜ r ≡ rightValue sign a v ⌝ }
+{
+    if sign == PLUS {
+        return less(v as u64, a);
+    }
+    if sign == MINUS {
+        return less(a, v as u64);
+    }
+    a + v as u64
+}
+
+// One left row, shift and sign.
+fn with_sign(
     table: &[u32],
     heads: &[u16],
     links: &[u16],
     n: usize,
-    x: u32,
+    most: u32,
     v: u32,
     left: u32,
     shift: u32,
+    a: u64,
     sign: u32,
 ) -> NewRow
-    requires { ⌜ Indexed (now table) (now heads) (now links) n ⌝ }
-    ensures { λ r. ⌜ fitOf r ≡ rowOver v left shift sign (rowWith (rowsOf (now (table .entry)) n) x) ⌝ }
+    requires { ⌜ Searchable (now table) (now heads) (now links) n most v × AtShift (now table) n left shift a × T (isRowSign sign) ⌝ }
+    ensures { λ r. ⌜ fitOf r ≡ tried (rowsOf (now (table .entry)) n) v left shift sign ⌝ }
 {
-    match row_index::find(table, heads, links, n, x) {
+    let x = right_value(sign, a, v);
+    if x == 0 {
+        return NewRow::NoneFits;
+    }
+    if x > most as u64 {
+        return NewRow::NoneFits;
+    }
+    match row_index::find(table, heads, links, n, x as u32) {
         Found::At(k) => NewRow::Fits(Row {
             left,
             right: narrow(k),
@@ -124,41 +157,7 @@ fn with_right(
     }
 }
 
-// The sign r, a being 2^shift times the left row.
-fn reversed(
-    table: &[u32],
-    heads: &[u16],
-    links: &[u16],
-    n: usize,
-    most: u32,
-    v: u32,
-    left: u32,
-    shift: u32,
-    a: u64,
-) -> NewRow
-    requires { ⌜ Searchable (now table) (now heads) (now links) n most v × AtShift (now table) n left shift a ⌝ }
-    ensures { λ r. ⌜ fitOf r ≡ tried (rowsOf (now (table .entry)) n) v left shift reversed ⌝ }
-{
-    let x = a + v as u64;
-    if x <= most as u64 {
-        with_right(
-            table,
-            heads,
-            links,
-            n,
-            x as u32,
-            v,
-            left,
-            shift,
-            network::REVERSED,
-        )
-    } else {
-        NewRow::NoneFits
-    }
-}
-
-// One left row and one shift: the signs in the order +, -, r. Below v only +, from v on only - can
-// come before r.
+// One left row and shift: the signs in the order +, -, r.
 fn at_shift(
     table: &[u32],
     heads: &[u16],
@@ -170,39 +169,18 @@ fn at_shift(
     shift: u32,
     a: u64,
 ) -> NewRow
-    requires { ⌜ Searchable (now table) (now heads) (now links) n most v × AtShift (now table) n left shift a × (a ≤ v + most) ⌝ }
+    requires { ⌜ Searchable (now table) (now heads) (now links) n most v × AtShift (now table) n left shift a ⌝ }
     ensures { λ r. ⌜ fitOf r ≡ fitAtShift (rowsOf (now (table .entry)) n) v left shift ⌝ }
 {
-    let w = v as u64;
-    if a < w {
-        match with_right(
-            table,
-            heads,
-            links,
-            n,
-            (w - a) as u32,
-            v,
-            left,
-            shift,
-            network::PLUS,
-        ) {
-            NewRow::Fits(row) => NewRow::Fits(row),
-            NewRow::NoneFits => reversed(table, heads, links, n, most, v, left, shift, a),
-        }
-    } else {
-        match with_right(
-            table,
-            heads,
-            links,
-            n,
-            (a - w) as u32,
-            v,
-            left,
-            shift,
-            network::MINUS,
-        ) {
-            NewRow::Fits(row) => NewRow::Fits(row),
-            NewRow::NoneFits => reversed(table, heads, links, n, most, v, left, shift, a),
+    match with_sign(table, heads, links, n, most, v, left, shift, a, PLUS) {
+        NewRow::Fits(row) => NewRow::Fits(row),
+        NewRow::NoneFits => {
+            match with_sign(table, heads, links, n, most, v, left, shift, a, MINUS) {
+                NewRow::Fits(row) => NewRow::Fits(row),
+                NewRow::NoneFits => {
+                    with_sign(table, heads, links, n, most, v, left, shift, a, REVERSED)
+                }
+            }
         }
     }
 }

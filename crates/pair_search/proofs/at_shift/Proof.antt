@@ -1,21 +1,15 @@
 -- `pair_search::at_shift` meets its contract. Assumes nothing.
 use mathlib.Core.Path.{refl, sym, ap, _∙_}
-use native.Mathlib.Omega.{arith}
 use borrow.Author.Needs.{needs}
-use Rattle.building.specs.Search.{orElse}
+use Rattle.network.specs.Rows.{minus, reversed, rowsOf}
+use Rattle.building.specs.Search.{fit, none-fits, orElse, tried}
 use Rattle.pair_search.specs.NewRow.{fitOf}
-use Rattle.pair_search.proofs.Shifts.{shift-low, shift-high}
+use Rattle.pair_search.proofs.Shifts.{three-signs}
 use Rattle.pair_search.proofs.at_shift.Statement.{statement}
 use Rattle.pair_search.proofs.at_shift.Tie as tie
 
-sub-with-right : tie.Need-sub-with-right
-sub-with-right c = search needs
-
-cast-with-right : tie.Need-cast-with-right
-cast-with-right c = search needs
-
-with-right-requires : tie.Need-with-right-requires
-with-right-requires c κs = search needs
+with-sign-requires : tie.Need-with-sign-requires
+with-sign-requires c κs = search needs
 
 enum-known-row : tie.Need-enum-known-row
 enum-known-row c = search needs
@@ -23,14 +17,8 @@ enum-known-row c = search needs
 enum-told : tie.Need-enum-told
 enum-told c = search needs
 
-reversed-requires : tie.Need-reversed-requires
-reversed-requires c κs = search needs
-
-cast-with-right-2 : tie.Need-cast-with-right-2
-cast-with-right-2 c = search needs
-
-with-right-requires-2 : tie.Need-with-right-requires-2
-with-right-requires-2 c κs = search needs
+with-sign-requires-2 : tie.Need-with-sign-requires-2
+with-sign-requires-2 c κs = search needs
 
 enum-known-row-2 : tie.Need-enum-known-row-2
 enum-known-row-2 c = search needs
@@ -38,61 +26,47 @@ enum-known-row-2 c = search needs
 enum-told-2 : tie.Need-enum-told-2
 enum-told-2 c = search needs
 
-reversed-requires-2 : tie.Need-reversed-requires-2
-reversed-requires-2 c κs = search needs
+with-sign-requires-3 : tie.Need-with-sign-requires-3
+with-sign-requires-3 c κs = search needs
 
 returns : tie.Need-returns
 unfolding orElse
 returns c =
-    let s = c .before .before .before .before .before .before .before .before in
-    let a = s .args in
+    let a = c .before .before .before .before .before .before .before .args in
+    let rows = rowsOf (a .table .now) (a .n) in
     sym
-    (shift-low (a .table .now) (a .heads .now) (a .links .now) (a .n) (a .most) (a .v) (s .pre .0) (a .left) (a .shift) (a .a) (s .pre .1) (omega arith)
-    ∙ rw (sym (c .before .before .before .with-right .ensures) ∙ ap fitOf (c .before .row .given .1)) refl)
+    (three-signs rows (a .v) (a .left) (a .shift) (fit (c .before .row .given .0 .0)) (tried rows (a .v) (a .left) (a .shift) minus) (tried rows (a .v) (a .left) (a .shift) reversed)
+    (sym (c .before .before .before .with-sign .ensures) ∙ ap fitOf (c .before .row .given .1)) refl refl)
 
 returns-2 : tie.Need-returns-2
 unfolding orElse
 returns-2 c =
-    let s = c .before .before .before .before .before .before .before .before in
-    let a = s .args in
+    let a = c .before .before .before .before .before .before .before .before .before .before .args in
+    let rows = rowsOf (a .table .now) (a .n) in
     sym
-    (shift-low (a .table .now) (a .heads .now) (a .links .now) (a .n) (a .most) (a .v) (s .pre .0) (a .left) (a .shift) (a .a) (s .pre .1) (omega arith)
-    ∙ rw (sym (c .before .before .before .with-right .ensures) ∙ ap fitOf (c .before .enum-told .given .1)) (sym (c .reversed .ensures)))
+    (three-signs rows (a .v) (a .left) (a .shift) none-fits (fit (c .before .row2 .given .0 .0)) (tried rows (a .v) (a .left) (a .shift) reversed)
+    (sym (c .before .before .before .before .before .before .with-sign .ensures) ∙ ap fitOf (c .before .before .before .before .enum-told .given .1)) (sym (c .before .before .before .with-sign2 .ensures) ∙ ap fitOf (c .before .row2 .given .1)) refl)
 
 returns-3 : tie.Need-returns-3
 unfolding orElse
 returns-3 c =
-    let s = c .before .before .before .before .before .before .before .before in
-    let a = s .args in
+    let a = c .before .before .before .before .before .before .before .before .before .before .args in
+    let rows = rowsOf (a .table .now) (a .n) in
     sym
-    (shift-high (a .table .now) (a .heads .now) (a .links .now) (a .n) (a .most) (a .v) (s .pre .0) (a .left) (a .shift) (a .a) (s .pre .1) (omega arith)
-    ∙ rw (sym (c .before .before .before .with-right2 .ensures) ∙ ap fitOf (c .before .row2 .given .1)) refl)
-
-returns-4 : tie.Need-returns-4
-unfolding orElse
-returns-4 c =
-    let s = c .before .before .before .before .before .before .before .before in
-    let a = s .args in
-    sym
-    (shift-high (a .table .now) (a .heads .now) (a .links .now) (a .n) (a .most) (a .v) (s .pre .0) (a .left) (a .shift) (a .a) (s .pre .1) (omega arith)
-    ∙ rw (sym (c .before .before .before .with-right2 .ensures) ∙ ap fitOf (c .before .enum-told2 .given .1)) (sym (c .reversed2 .ensures)))
+    (three-signs rows (a .v) (a .left) (a .shift) none-fits none-fits (fitOf (c .with-sign3 .result))
+    (sym (c .before .before .before .before .before .before .with-sign .ensures) ∙ ap fitOf (c .before .before .before .before .enum-told .given .1)) (sym (c .before .before .before .with-sign2 .ensures) ∙ ap fitOf (c .before .enum-told2 .given .1)) (sym (c .with-sign3 .ensures)))
 
 pub at-shift-spec : {M : Type 1} → statement M
 at-shift-spec =
     tie.close
     (tie.spec
-    sub-with-right
-    cast-with-right
-    with-right-requires
+    with-sign-requires
     enum-known-row
     enum-told
-    reversed-requires
-    cast-with-right-2
-    with-right-requires-2
+    with-sign-requires-2
     enum-known-row-2
     enum-told-2
-    reversed-requires-2
+    with-sign-requires-3
     returns
     returns-2
-    returns-3
-    returns-4)
+    returns-3)

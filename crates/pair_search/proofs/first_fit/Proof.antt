@@ -64,7 +64,7 @@ at-shift-requires c κs =
     let s = c .before .before .before .before .before .before .before .before .before .before in
     let lp = c .before .loop in
     let w : c .before .before .before .narrow .result < s .args .n = omega (arith, c .before .before .before .narrow .ensures) in
-    (s .pre, record { within = w; is-lifted = lp .inv .2; low = omega (arith, s .pre .small, s .pre .new-small) }, omega arith)
+    (s .pre, record { within = w; is-lifted = lp .inv .2; low = omega (arith, s .pre .small, s .pre .new-small) })
 
 enum-known-row : tie.Need-enum-known-row Inv-loop μ-loop Inv-search μ-search
 enum-known-row c = search needs

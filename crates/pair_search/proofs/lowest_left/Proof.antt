@@ -46,12 +46,13 @@ loop-less c = omega arith
 
 loop-again : tie.Need-loop-again Inv-loop μ-loop
 loop-again c =
+    let a = c .before .before .before .before .before .before .before .before .args in
     let lp = c .before .before .before .before .loop in
     let l = c .before .lower-left .ensures in (
       omega arith,
       omega (arith, l .0, lp .inv .1),
-      below-more (λ k. NoLeft (c .before .before .before .before .before .before .before .before .args .table .now) (c .before .lower-left .result) (c .before .before .before .before .before .before .before .before .args .v) (valueAt (c .before .before .before .before .before .before .before .before .args .table .now) k)) (lp .j) (λ k b. fewer-lefts (c .before .lower-left .result) (l .0) (lp .inv .2 k b))
-          (subst (λ r. NoLeft (c .before .before .before .before .before .before .before .before .args .table .now) (c .before .lower-left .result) (c .before .before .before .before .before .before .before .before .args .v) r) (c .before .before .read-value .ensures) (l .1)),
+      below-more (λ k. NoLeft (a .table .now) (c .before .lower-left .result) (a .v) (valueAt (a .table .now) k)) (lp .j) (λ k b. fewer-lefts (c .before .lower-left .result) (l .0) (lp .inv .2 k b))
+          (subst (λ r. NoLeft (a .table .now) (c .before .lower-left .result) (a .v) r) (c .before .before .read-value .ensures) (l .1)),
     )
 
 returns-2 : tie.Need-returns-2 Inv-loop μ-loop
