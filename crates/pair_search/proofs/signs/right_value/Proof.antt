@@ -1,9 +1,9 @@
--- `pair_search::right_value` meets its contract. Assumes nothing.
+-- `pair_search::signs::right_value` meets its contract. Assumes nothing.
 use mathlib.Core.Path.{refl}
 use borrow.Author.Needs.{needs}
 use borrow.Author.Tests.{eq-eqb, ne-eqb}
-use Rattle.pair_search.proofs.right_value.Statement.{statement}
-use Rattle.pair_search.proofs.right_value.Tie as tie
+use Rattle.pair_search.proofs.signs.right_value.Statement.{statement}
+use Rattle.pair_search.proofs.signs.right_value.Tie as tie
 
 less-requires : tie.Need-less-requires
 less-requires c κs = search needs

@@ -1,7 +1,7 @@
--- `pair_search::odd_part` meets its contract. Assumes nothing.
+-- `pair_search::left_rows::odd_part` meets its contract. Assumes nothing.
 use Rattle.pair_search.proofs.OddPart.{zeros-below, odd-part-is}
-use Rattle.pair_search.proofs.odd_part.Statement.{statement}
-use Rattle.pair_search.proofs.odd_part.Tie as tie
+use Rattle.pair_search.proofs.left_rows.odd_part.Statement.{statement}
+use Rattle.pair_search.proofs.left_rows.odd_part.Tie as tie
 
 shr-result : tie.Need-shr-result
 shr-result c = zeros-below 32 (c .args .x) (c .pre) (c .fits .x .fits)

@@ -1,4 +1,4 @@
--- `pair_search::lower_left` meets its contract. Assumes nothing.
+-- `pair_search::left_rows::lower_left` meets its contract. Assumes nothing.
 use mathlib.Core.Path.{_≡_, sym, ap, _∙_}
 use Prim.Native.Nat.{_+_, _-_}
 use native.Mathlib.Omega.{arith}
@@ -8,8 +8,8 @@ use Rattle.network.proofs.Booleans.{both}
 use Rattle.network.specs.RowRule.{lifted}
 use Rattle.row_index.proofs.Chains.{empty-bucket}
 use Rattle.pair_search.proofs.Lefts.{no-left}
-use Rattle.pair_search.proofs.lower_left.Statement.{statement}
-use Rattle.pair_search.proofs.lower_left.Tie as tie
+use Rattle.pair_search.proofs.left_rows.lower_left.Statement.{statement}
+use Rattle.pair_search.proofs.left_rows.lower_left.Tie as tie
 
 add-odd-part : tie.Need-add-odd-part
 add-odd-part c = search needs

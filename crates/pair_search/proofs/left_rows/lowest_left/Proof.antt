@@ -1,4 +1,4 @@
--- `pair_search::lowest_left` meets its contract. The invariant: no left row below `low` goes with a right row passed. Assumes nothing.
+-- `pair_search::left_rows::lowest_left` meets its contract. The invariant: no left row below `low` goes with a right row passed. Assumes nothing.
 use mathlib.Core.Path.{_≡_, sym, subst, _∙_}
 use Prim.Native.Nat.{ℕ, _+_, _-_, _≤_, _<_}
 use native.Mathlib.Omega.{arith}
@@ -9,8 +9,8 @@ use Rattle.row_index.proofs.Values.{row-missing}
 use Rattle.pair_search.specs.Pairs.{NoLeft}
 use Rattle.pair_search.proofs.Lefts.{fewer-lefts, left-fits-none}
 use Rattle.pair_search.proofs.Shifts.{positive}
-use Rattle.pair_search.proofs.lowest_left.Statement.{statement}
-use Rattle.pair_search.proofs.lowest_left.Tie as tie
+use Rattle.pair_search.proofs.left_rows.lowest_left.Statement.{statement}
+use Rattle.pair_search.proofs.left_rows.lowest_left.Tie as tie
 
 abbrev Inv-loop : tie.InvT-loop
 Inv-loop table heads links n most v low₀ j₀ low j = (j ≤ n) × (low ≤ n) × ((k : ℕ) → k < j → NoLeft table low v (valueAt table k))

@@ -1,4 +1,4 @@
--- `pair_search::lower` meets its contract. Assumes nothing.
+-- `pair_search::left_rows::lower` meets its contract. Assumes nothing.
 use mathlib.Core.Path.{_≡_, sym, ap, _∙_}
 use mathlib.Core.List.{List}
 use Prim.Native.Nat.{ℕ, _≤_, _<_}
@@ -10,8 +10,8 @@ use Rattle.building.specs.Search.{rowWith}
 use Rattle.row_index.specs.Found.{foundAt}
 use Rattle.row_index.specs.Index.{valueAt, Indexed}
 use Rattle.row_index.proofs.Values.{row-found, row-missing}
-use Rattle.pair_search.proofs.lower.Statement.{statement}
-use Rattle.pair_search.proofs.lower.Tie as tie
+use Rattle.pair_search.proofs.left_rows.lower.Statement.{statement}
+use Rattle.pair_search.proofs.left_rows.lower.Tie as tie
 
 -- no row before the one that has the value
 before-found : (t heads links : List ℕ) (n x k : ℕ) → Indexed t heads links n → rowWith (rowsOf t n) x ≡ at-place k → (i : ℕ) → i < k → valueAt t i ≡ x → ⊥

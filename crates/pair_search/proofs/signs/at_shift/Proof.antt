@@ -1,12 +1,12 @@
--- `pair_search::at_shift` meets its contract. Assumes nothing.
+-- `pair_search::signs::at_shift` meets its contract. Assumes nothing.
 use mathlib.Core.Path.{refl, sym, ap, _∙_}
 use borrow.Author.Needs.{needs}
 use Rattle.network.specs.Rows.{minus, reversed, rowsOf}
 use Rattle.building.specs.Search.{fit, none-fits, orElse, tried}
 use Rattle.pair_search.specs.NewRow.{fitOf}
 use Rattle.pair_search.proofs.Shifts.{three-signs}
-use Rattle.pair_search.proofs.at_shift.Statement.{statement}
-use Rattle.pair_search.proofs.at_shift.Tie as tie
+use Rattle.pair_search.proofs.signs.at_shift.Statement.{statement}
+use Rattle.pair_search.proofs.signs.at_shift.Tie as tie
 
 with-sign-requires : tie.Need-with-sign-requires
 with-sign-requires c κs = search needs

@@ -1,12 +1,12 @@
--- `pair_search::with_sign` meets its contract. Assumes nothing.
+-- `pair_search::signs::with_sign` meets its contract. Assumes nothing.
 use mathlib.Core.Path.{sym, ap, _∙_}
 use native.Mathlib.Omega.{arith}
 use borrow.Author.Needs.{needs}
 use Rattle.row_index.specs.Found.{foundAt}
 use Rattle.row_index.proofs.Values.{row-found}
 use Rattle.pair_search.proofs.Shifts.{sign-zero, sign-past, sign-found, sign-missing}
-use Rattle.pair_search.proofs.with_sign.Statement.{statement}
-use Rattle.pair_search.proofs.with_sign.Tie as tie
+use Rattle.pair_search.proofs.signs.with_sign.Statement.{statement}
+use Rattle.pair_search.proofs.signs.with_sign.Tie as tie
 
 right-value-requires : tie.Need-right-value-requires
 right-value-requires c κs = search needs
