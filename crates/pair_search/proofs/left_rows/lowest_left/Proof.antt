@@ -28,7 +28,7 @@ lower-left-requires : tie.Need-lower-left-requires Inv-loop μ-loop
 lower-left-requires c κs =
     let s = c .before .before .before .before .before .before in
     let lp = c .before .before .loop in
-    let h = c .before .loop-test .taken in
+    let h : lp .j < s .args .n = omega arith in
     let e = c .read-value .ensures in
     ((s .pre .index, lp .inv .1, s .pre .odd), (s .pre .new-small, omega (arith, e, s .pre .bounded (lp .j) h, s .pre .small), omega (arith, s .pre .new-odd), λ q. row-missing (s .args .table .now) (s .args .n) (s .args .v) (s .pre .new) (lp .j) h (sym e ∙ q)))
 
