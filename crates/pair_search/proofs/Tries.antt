@@ -2,12 +2,12 @@
 use mathlib.Core.Path.{_≡_, refl, sym, ap, _∙_, subst}
 use mathlib.Core.Bool.{Bool, true, false, cond, or-false, _||_}
 use mathlib.Core.List.{List, [], _∷_}
-use Prim.Native.Nat.{ℕ, suc, _+_, _-_, _*_, _^_, _≤_, _<_, zero-le, suc-le-suc}
+use Prim.Native.Nat.{ℕ, suc, _+_, _-_, _^_, _≤_, _<_, zero-le, suc-le-suc}
 use native.Mathlib.Omega.{arith}
 use borrow.Author.Tests.{eqb-true, eq-eqb, ne-eqb, le-leb}
 use lib.Dec.{T, eqb, leb}
 use lib.ListN.{length, getD}
-use Rattle.refusal.specs.Answer.{Place, nowhere, lowest, lowestFrom}
+use Rattle.refusal.specs.Answer.{Place, lowest, lowestFrom}
 use Rattle.refusal.proofs.Checks.{lowest-alike}
 use Rattle.network.specs.declared.Row.{Row}
 use Rattle.network.specs.Rows.{plus, minus, reversed, rowsOf, rowIn, noRow}

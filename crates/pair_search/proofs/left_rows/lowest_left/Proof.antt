@@ -1,6 +1,6 @@
 -- `pair_search::left_rows::lowest_left` meets its contract. The invariant: no left row below `low` goes with a right row passed. Assumes nothing.
-use mathlib.Core.Path.{_≡_, sym, subst, _∙_}
-use Prim.Native.Nat.{ℕ, _+_, _-_, _≤_, _<_}
+use mathlib.Core.Path.{sym, subst, _∙_}
+use Prim.Native.Nat.{ℕ, _-_, _≤_, _<_}
 use native.Mathlib.Omega.{arith}
 use borrow.Author.Count.{below-more}
 use borrow.Author.Needs.{needs}
@@ -8,7 +8,6 @@ use Rattle.row_index.specs.Index.{valueAt}
 use Rattle.row_index.proofs.Values.{row-missing}
 use Rattle.pair_search.specs.Pairs.{NoLeft}
 use Rattle.pair_search.proofs.Lefts.{fewer-lefts, left-fits-none}
-use Rattle.pair_search.proofs.Shifts.{positive}
 use Rattle.pair_search.proofs.left_rows.lowest_left.Statement.{statement}
 use Rattle.pair_search.proofs.left_rows.lowest_left.Tie as tie
 
