@@ -97,16 +97,16 @@ module _ (t heads links : List ℕ) (n most v : ℕ) (s : Searchable t heads lin
   -- ---- one left row, while its shifts are tried
 
   module _ (left : ℕ) (w : left < n) (z a : ℕ) (g : Trying t n v left z a) where
-    -- within the limit there is a shift to try
-    pub few-shifts : a ≤ v + most → z < 32
+    -- below 2^32 there is a shift to try
+    pub few-shifts : a < 2 ^ 32 → z < 32
     few-shifts h =
         ⊎-elim
         (λ (b : 32 ≤ z).
-        absurd (omega (arith, g .is-lifted, le-mul-of-pos-right (2 ^ z) (positive left w), pow-mono {i = 32} b, s .small, s .new-small)))
+        absurd (omega (arith, g .is-lifted, le-mul-of-pos-right (2 ^ z) (positive left w), pow-mono {i = 32} b)))
         (λ b. b)
         (le-or-lt 32 z)
 
-    pub try-next : a ≤ v + most → fitAtShift (rowsOf t n) v left z ≡ none-fits → Trying t n v left (z + 1) (a * 2)
+    pub try-next : a < 2 ^ 32 → fitAtShift (rowsOf t n) v left z ≡ none-fits → Trying t n v left (z + 1) (a * 2)
     try-next h e =
         record {
           from = omega arith;
@@ -126,7 +126,7 @@ module _ (t heads links : List ℕ) (n most v : ℕ) (s : Searchable t heads lin
         (λ (b : suc k < z). g .tried-below k b)
         (le-or-lt z (suc k)))
 
-    pub left-first : a ≤ v + most → (r : Row) → fitAtShift (rowsOf t n) v left z ≡ fit r → fitAtLeft (rowsOf t n) v left ≡ fit r
+    pub left-first : a < 2 ^ 32 → (r : Row) → fitAtShift (rowsOf t n) v left z ≡ fit r → fitAtLeft (rowsOf t n) v left ≡ fit r
     unfolding fitAtLeft
     left-first h r e =
         let q : suc (z - 1) ≡ z = omega (arith, g .from) in

@@ -1,7 +1,7 @@
 -- `pair_search::first_fit` meets its contract. The invariants: nothing fits with the left rows passed, and with this one at the shifts passed.
 -- Assumes nothing.
 use mathlib.Core.Path.{_≡_, sym, ap, _∙_}
-use Prim.Native.Nat.{ℕ, _+_, _-_, _*_, _≤_, _<_}
+use Prim.Native.Nat.{ℕ, _+_, _-_, _*_, _^_, _≤_, _<_}
 use native.Mathlib.Omega.{arith}
 use borrow.Author.Count.{below-more}
 use borrow.Author.Needs.{needs}
@@ -77,7 +77,7 @@ loop-less c =
     let lp = c .before .before .before .before .loop in
     let left = c .before .before .before .before .before .before .narrow in
     let w : left .result < a .n = omega (arith, left .ensures) in
-    let h : lp .a ≤ a .v + a .most = c .before .before .before .loop-test .taken in
+    let h : lp .a < 2 ^ 32 = omega (arith, c .before .before .before .loop-test .taken, s .pre .small, s .pre .new-small) in
     omega (arith, few-shifts (a .table .now) (a .heads .now) (a .links .now) (a .n) (a .most) (a .v) (s .pre) (left .result) w (lp .s) (lp .a) (lp .inv) h)
 
 loop-again : tie.Need-loop-again Inv-loop μ-loop Inv-search μ-search
@@ -87,7 +87,7 @@ loop-again c =
     let lp = c .before .before .before .before .loop in
     let left = c .before .before .before .before .before .before .narrow in
     let w : left .result < a .n = omega (arith, left .ensures) in
-    let h : lp .a ≤ a .v + a .most = c .before .before .before .loop-test .taken in
+    let h : lp .a < 2 ^ 32 = omega (arith, c .before .before .before .loop-test .taken, s .pre .small, s .pre .new-small) in
     try-next (a .table .now) (a .heads .now) (a .links .now) (a .n) (a .most) (a .v) (s .pre) (left .result) w (lp .s) (lp .a) (lp .inv) h (sym (c .before .before .at-shift .ensures) ∙ ap fitOf (c .enum-told .given .1))
 
 add-i : tie.Need-add-i Inv-loop μ-loop Inv-search μ-search
@@ -122,7 +122,7 @@ returns-2 c =
     let lp = c .before .before .before .before .before .loop in
     let left = c .before .before .before .before .before .before .before .narrow in
     let w : left .result < a .n = omega (arith, left .ensures) in
-    let h : lp .a ≤ a .v + a .most = c .before .before .before .before .loop-test .taken in
+    let h : lp .a < 2 ^ 32 = omega (arith, c .before .before .before .before .loop-test .taken, s .pre .small, s .pre .new-small) in
     let sc = c .before .before .before .before .before .before .before .before .before .search in
     let row = c .before .row .given .0 .0 in
     sym
