@@ -31,14 +31,14 @@ lower-left-requires c κs =
     let e = c .read-value .ensures in
     ((s .pre .index, lp .inv .1, s .pre .odd), (s .pre .new-small, omega (arith, e, s .pre .bounded (lp .j) h, s .pre .small), omega (arith, s .pre .new-odd), λ q. row-missing (s .args .table .now) (s .args .n) (s .args .v) (s .pre .new) (lp .j) h (sym e ∙ q)))
 
-add-j : tie.Need-add-j Inv-loop μ-loop
-add-j c = search needs
-
-sub-if1 : tie.Need-sub-if1 Inv-loop μ-loop
-sub-if1 c = search needs
+sub-if2 : tie.Need-sub-if2 Inv-loop μ-loop
+sub-if2 c = search needs
 
 returns : tie.Need-returns Inv-loop μ-loop
 returns c = (omega arith, λ i l. absurd (omega arith))
+
+add-j : tie.Need-add-j Inv-loop μ-loop
+add-j c = search needs
 
 loop-less : tie.Need-loop-less Inv-loop μ-loop
 loop-less c = omega arith
@@ -70,9 +70,9 @@ lowest-left-spec =
     loop-holds
     read-value-requires
     lower-left-requires
-    add-j
-    sub-if1
+    sub-if2
     returns
+    add-j
     loop-less
     loop-again
     returns-2)
