@@ -1,1 +1,17 @@
 pub mod Example
+pub mod Lookup
+pub mod Lawful
+pub mod FirstOver
+pub mod FirstFit
+pub mod ChainValue
+pub mod ChosenForm
+pub mod Growth
+pub mod Chain
+pub mod Steps
+pub mod Order
+pub mod PartsInOrder
+pub mod Reduced
+pub mod TapRow
+pub mod Passes
+pub mod Words
+pub mod Answers
