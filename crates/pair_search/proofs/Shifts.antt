@@ -1,0 +1,110 @@
+-- One left row and one shift: which signs can fit, by size; and the shifts that cannot fit at all. Assumes nothing.
+use mathlib.Core.Path.{_≡_, refl, sym, ap, _∙_}
+use mathlib.Core.List.{List}
+use mathlib.Core.Logic.{⊎-elim}
+use Prim.Native.Nat.{ℕ, suc, _+_, _-_, _*_, _%_, _^_, _≤_, _<_}
+use native.Mathlib.Nat.{mul-assoc, pow-succ', le-mul-of-pos-right, mul-le-mul-right}
+use native.Mathlib.Omega.{arith}
+use lib.ListN.{length}
+use lib.Pow.{pow-mono}
+use Rattle.network.specs.declared.Row.{Row}
+use Rattle.network.specs.Rows.{plus, minus, reversed, rowsOf}
+use Rattle.network.specs.RowRule.{lifted}
+use Rattle.building.specs.Search.{Fit, fit, none-fits, orElse, firstOver, rowWith, rowOver, tried, firstFit}
+use Rattle.row_index.specs.Index.{valueAt}
+use Rattle.row_index.proofs.Compare.{le-or-lt}
+use Rattle.row_index.proofs.Values.{length-rows}
+use Rattle.pair_search.specs.Pairs.{fitAtShift, fitAtLeft, Searchable, AtShift}
+use Rattle.pair_search.proofs.FirstOver.{else-none, over-none, over-first}
+use Rattle.pair_search.proofs.Tries.{plus-right, minus-right, plus-none, minus-none, reversed-none}
+
+-- ---- 2^s·left
+
+pub lifted-next : (s l : ℕ) → lifted (suc s) l ≡ 2 * lifted s l
+lifted-next s l = rw (pow-succ' 2 s) (mul-assoc 2 (2 ^ s) l)
+
+lifted-up : (s k l : ℕ) → s ≤ k → lifted s l ≤ lifted k l
+lifted-up s k l h = mul-le-mul-right l (pow-mono h)
+
+-- below 2^32 the shift is at most 31
+pub few-shifts : (s l : ℕ) → 0 < l → lifted s l < 2 ^ 32 → s < 32
+few-shifts s l p h =
+    ⊎-elim (λ (a : 32 ≤ s). let q : 2 ^ 32 ≤ 2 ^ s = pow-mono {i = 32} a in absurd (omega (arith, le-mul-of-pos-right (2 ^ s) p))) (λ b. b) (le-or-lt 32 s)
+
+-- ---- the signs in their order
+
+pub three-signs : (rows : List Row) (v left shift : ℕ) (f g h : Fit) → tried rows v left shift plus ≡ f → tried rows v left shift minus ≡ g
+    → tried rows v left shift reversed ≡ h → fitAtShift rows v left shift ≡ orElse f (orElse g h)
+unfolding fitAtShift firstOver
+three-signs rows v left shift f g h e p q = rw (e, p, q) (ap (λ (x : Fit). orElse f (orElse g x)) (else-none h))
+
+module _ (t heads links : List ℕ) (n most v : ℕ) (s : Searchable t heads links n most v) where
+  pub positive : (k : ℕ) → k < n → 0 < valueAt t k
+  positive k l = omega (arith, s .odd k l)
+
+  module _ (left shift a : ℕ) (at : AtShift t n left shift a) where
+    -- below v: + and r
+    pub shift-low : a < v
+        → fitAtShift (rowsOf t n) v left shift
+        ≡ orElse (rowOver v left shift plus (rowWith (rowsOf t n) (v - a))) (tried (rowsOf t n) v left shift reversed)
+    unfolding orElse
+    shift-low h =
+        three-signs (rowsOf t n) v left shift (rowOver v left shift plus (rowWith (rowsOf t n) (v - a))) none-fits (tried (rowsOf t n) v left shift reversed)
+        (plus-right t n v left shift a (at .within) (at .is-lifted) (omega arith) (at .low))
+        (minus-none t n v left shift a (at .within) (at .is-lifted) (λ k l e. omega arith)) refl
+
+    -- from v on: - and r
+    pub shift-high : v ≤ a
+        → fitAtShift (rowsOf t n) v left shift
+        ≡ orElse (rowOver v left shift minus (rowWith (rowsOf t n) (a - v))) (tried (rowsOf t n) v left shift reversed)
+    unfolding orElse
+    shift-high h =
+        three-signs (rowsOf t n) v left shift none-fits (rowOver v left shift minus (rowWith (rowsOf t n) (a - v))) (tried (rowsOf t n) v left shift reversed)
+        (plus-none t n v left shift a (at .within) (at .is-lifted) (λ k l e. omega (arith, positive k l)))
+        (minus-right t n v left shift a (at .within) (at .is-lifted) h (at .low)) refl
+
+    pub reversed-past : most < a + v → tried (rowsOf t n) v left shift reversed ≡ none-fits
+    reversed-past h = reversed-none t n v left shift a (at .within) (at .is-lifted) (λ k l e. omega (arith, s .bounded k l))
+
+  -- ---- the limit
+
+  -- past v + the largest value nothing fits
+  pub shift-past : (left shift : ℕ) → left < n → v + most < lifted shift (valueAt t left) → fitAtShift (rowsOf t n) v left shift ≡ none-fits
+  unfolding orElse
+  shift-past left shift w h =
+      let a = lifted shift (valueAt t left) in
+      three-signs (rowsOf t n) v left shift none-fits none-fits none-fits
+      (plus-none t n v left shift a w refl (λ k l e. omega (arith, positive k l)))
+      (minus-none t n v left shift a w refl (λ k l e. omega (arith, s .bounded k l)))
+      (reversed-none t n v left shift a w refl (λ k l e. omega (arith, s .bounded k l)))
+
+  -- ---- one left row: the shifts below z have been tried
+
+  module _ (i : ℕ) (w : i < n) (z : ℕ) (tried-below : (k : ℕ) → suc k < z → fitAtShift (rowsOf t n) v i (suc k) ≡ none-fits) where
+    pub left-none : v + most < lifted z (valueAt t i) → fitAtLeft (rowsOf t n) v i ≡ none-fits
+    unfolding fitAtLeft
+    left-none h =
+        over-none (λ (shift : ℕ). fitAtShift (rowsOf t n) v i shift) suc 31
+        (λ k l.
+        ⊎-elim (λ (past : z ≤ suc k). shift-past i (suc k) w (omega (arith, lifted-up z (suc k) (valueAt t i) past))) (λ (b : suc k < z). tried-below k b)
+        (le-or-lt z (suc k)))
+
+    pub left-first : (r : Row) → 1 ≤ z → z < 32 → fitAtShift (rowsOf t n) v i z ≡ fit r → fitAtLeft (rowsOf t n) v i ≡ fit r
+    unfolding fitAtLeft
+    left-first r low high e =
+        let q : suc (z - 1) ≡ z = omega arith in
+        over-first (λ (shift : ℕ). fitAtShift (rowsOf t n) v i shift) suc 31 (z - 1) r (omega arith) (λ k l. tried-below k (omega arith))
+        (ap (fitAtShift (rowsOf t n) v i) q ∙ e)
+
+-- ---- the left rows below i have been tried
+
+module _ (t : List ℕ) (n v i : ℕ) (tried-below : (k : ℕ) → k < i → fitAtLeft (rowsOf t n) v k ≡ none-fits) where
+  pub fit-none : n ≤ i → firstFit (rowsOf t n) v ≡ none-fits
+  unfolding firstFit fitAtLeft fitAtShift
+  fit-none h =
+      over-none (fitAtLeft (rowsOf t n) v) (λ (k : ℕ). k) (length (rowsOf t n)) (λ k l. tried-below k (omega (arith, length-rows t n)))
+
+  pub fit-first : (r : Row) → i < n → fitAtLeft (rowsOf t n) v i ≡ fit r → firstFit (rowsOf t n) v ≡ fit r
+  unfolding firstFit fitAtLeft fitAtShift
+  fit-first r w e =
+      over-first (fitAtLeft (rowsOf t n) v) (λ (k : ℕ). k) (length (rowsOf t n)) i r (omega (arith, length-rows t n)) tried-below e
