@@ -39,7 +39,7 @@ tap-words-append (t ∷ taps) more = ap (λ (l : List ℕ). t .sign ∷ t .row �
 -- ---- what a table that starts with these words holds
 module _ (rest : List ℕ) where
   next-row : (a b c d e : ℕ) (l : List ℕ) (i : ℕ) → rowAt (a ∷ b ∷ c ∷ d ∷ e ∷ l) (suc i) ≡ rowAt l i
-  next-row a b c d e l i = 
+  next-row a b c d e l i =
       cc (
         word (rowWords * suc i) (rowWords * i) (omega arith),
         word (rowWords * suc i + 1) (rowWords * i + 1) (omega arith),
