@@ -1,11 +1,11 @@
 -- Step 3 of building: what a chain adds keeps the row rule, and its last value has a row. Assumes nothing.
 use mathlib.Core.Path.{_≡_, refl, sym, ap, _∙_, subst}
-use mathlib.Core.List.{List, [], _∷_, _++_}
-use Prim.Native.Nat.{ℕ, zero, suc, _+_, _*_, _-_, _%_, _^_, _≤_, _<_}
+use mathlib.Core.List.{List, [], _∷_}
+use Prim.Native.Nat.{ℕ, suc, _+_, _*_, _-_, _^_, _≤_, _<_}
 use native.Mathlib.Decide.{decLe}
 use native.Mathlib.Nat.{lt-of-not-le, le-mul-of-pos-right}
 use native.Mathlib.Omega.{arith}
-use lib.IntN.{ℤ, pos, _-ℤ_, +ℤ-negℤ-cancel}
+use lib.IntN.{pos, _-ℤ_, +ℤ-negℤ-cancel}
 use lib.ListN.{length}
 use lib.Pow.{pow-mono}
 use Rattle.refusal.specs.Answer.{Place, nowhere, at-place, placeOr}
@@ -20,7 +20,7 @@ use Rattle.building.specs.Chain.{addUnless, chainStep, chainFrom, chainD
 use Rattle.building.proofs.Lookup.{row-within, row-value}
 use Rattle.building.proofs.Lawful.{Made, by-sum, by-difference, Lawful, lawful-some, lawful-first, lawful-own}
 use Rattle.building.proofs.ChainValue.{chainValue, chainEnd, doubled, no-less, never-falls}
-use Rattle.building.proofs.Growth.{HasRow, Growth, unchanged, one-row, then}
+use Rattle.building.proofs.Growth.{Growth, unchanged, one-row, then}
 
 -- 2^gap·v is no more than 2^31, so the gap is at most 31
 pub few-places : (gap v : ℕ) → 1 ≤ v → 2 ^ gap * v ≤ 2 ^ 31 → gap ≤ 31

@@ -1,7 +1,7 @@
 -- The value that a chain ends with. Read from its highest nonzero digit down, a string of an odd positive value ends at this value.
 -- Assumes nothing.
-use mathlib.Core.Path.{_≡_, refl, sym, ap, _∙_}
-use mathlib.Core.List.{List, [], _∷_, _++_, reverse, reverse-cons}
+use mathlib.Core.Path.{_≡_, refl, ap, _∙_}
+use mathlib.Core.List.{[], _∷_, _++_, reverse, reverse-cons}
 use Prim.Native.Nat.{ℕ, zero, suc, _+_, _*_, _-_, _%_, _^_, _≤_, _<_}
 use native.Mathlib.Nat.{pow-suc, pow-succ', mul-assoc, le-refl}
 use native.Mathlib.Omega.{arith}
@@ -10,7 +10,6 @@ use Rattle.signed_digit.specs.Digit.{Digit, one, nought, minus-one, nonzero}
 use Rattle.signed_digit.specs.String.{DigitString}
 use Rattle.signed_digit.specs.Weight.{weight}
 use Rattle.signed_digit.specs.Masks.{mask, plusBit, minusBit}
-use Rattle.signed_digit.proofs.Strings.{bit}
 
 -- the last v, from v and `gap` on; the digits from high to low, as in specs/Chain.antt
 unfoldable pub chainValue : ℕ → ℕ → DigitString → ℕ

@@ -1,29 +1,27 @@
 -- Step 2 of building in document 01's words: the row that the search finds keeps the row rule, has the value that was searched for, and no such row
 -- comes before it by "lowest left, then lowest shift, then sign in the order `+`, `-`, `r`"; where nothing is found, there is no such row.
 -- Assumes nothing.
-use mathlib.Core.Path.{_≡_, refl, sym, ap, _∙_, subst}
-use mathlib.Core.Bool.{Bool, true, false, cond, true≢false, _&&_}
-use mathlib.Core.List.{List, [], _∷_}
-use mathlib.Core.Logic.{_⊎_, inl, inr, ⊎-elim}
-use Prim.Native.Nat.{ℕ, zero, suc, _+_, _-_, _%_, _^_, _≤_, _<_}
+use mathlib.Core.Path.{_≡_, refl, sym, ap, _∙_}
+use mathlib.Core.Bool.{Bool, true, false, cond, true≢false}
+use mathlib.Core.List.{List}
+use mathlib.Core.Logic.{_⊎_, ⊎-elim}
+use Prim.Native.Nat.{ℕ, zero, suc, _-_, _%_, _^_, _≤_, _<_}
 use native.Mathlib.Decide.{decLe}
 use native.Mathlib.Nat.{eq-or-lt-of-le, lt-of-not-le}
 use native.Mathlib.Omega.{arith}
-use borrow.Author.Tests.{leb-true, le-leb, eqb-true}
-use lib.Dec.{T, eqb, leb}
+use borrow.Author.Tests.{eqb-true}
+use lib.Dec.{T, eqb}
 use lib.IntN.{pos}
 use lib.ListN.{length, getD}
-use Rattle.refusal.specs.Answer.{Place, nowhere, at-place, lowest}
-use Rattle.refusal.proofs.Checks.{lowest-none-at}
 use Rattle.sequence.proofs.UpTo.{length-upTo, getD-upTo}
 use Rattle.network.specs.declared.Row.{Row}
-use Rattle.network.specs.Rows.{plus, minus, reversed, rowIn, noRow}
-use Rattle.network.specs.RowRule.{combined, isRowSign, isNatural, isWorked, lifted, LaterRow}
-use Rattle.network.proofs.Booleans.{holds, is-true, both}
+use Rattle.network.specs.Rows.{plus, minus, reversed, rowIn}
+use Rattle.network.specs.RowRule.{combined, isRowSign, isNatural, lifted, LaterRow}
+use Rattle.network.proofs.Booleans.{is-true, both}
 use Rattle.network.proofs.Rules.{natural-is, is-natural}
-use Rattle.building.specs.Search.{Fit, fit, none-fits, firstOver, rowOver, tried, signs, shifts, firstFit}
-use Rattle.building.proofs.Lookup.{lowest-is}
-use Rattle.building.proofs.FirstOver.{not-both, FirstAt, over-fit, over-none, up-to-fit, up-to-none}
+use Rattle.building.specs.Search.{Fit, fit, none-fits, firstOver, tried, signs, shifts, firstFit}
+use Rattle.building.proofs.FirstOver.{FirstAt, over-fit, over-none, up-to-fit, up-to-none}
+use Rattle.building.proofs.Tried.{Tried, tried-fit, tried-none}
 
 -- ---- the statements
 
@@ -42,57 +40,6 @@ pub record FirstFit (rows : List Row) (v : ℕ) (r : Row) : Type 0 where
   pub value : r .value ≡ v
   pub rule : LaterRow rows (length rows) r
   pub first : (q : Row) → q .value ≡ v → LaterRow rows (length rows) q → NoLater r q
-
--- ---- one left row, shift and sign
-module _ (rows : List Row) (v left shift sign : ℕ) where
-  -- 2^s·left
-  abbrev above : ℕ
-  above = lifted shift (rowIn rows left .value)
-
-  abbrev makes : Row → Bool
-  makes r = isWorked sign (lifted shift (rowIn rows left .value)) (r .value) v
-
-  record Tried (r : Row) : Type 0 where
-    left-is : r .left ≡ left
-    shift-is : r .shift ≡ shift
-    sign-is : r .sign ≡ sign
-    value-is : r .value ≡ v
-    right-in : r .right < length rows
-    works : makes (rowIn rows (r .right)) ≡ true
-    bounded : above ≤ 2 ^ 32
-
-  over-right : (p : Place) (r : Row) → lowest makes rows ≡ p → rowOver v left shift sign p ≡ fit r → above ≤ 2 ^ 32 → Tried r
-  unfolding rowOver
-  over-right nowhere r l e b = absurd (not-both e)
-  over-right (at-place j) r l e b =
-      let w = lowest-is noRow makes rows j l in
-      let q : j ≡ r .right = cc in
-      record {
-        left-is = cc;
-        shift-is = cc;
-        sign-is = cc;
-        value-is = cc;
-        right-in = omega (arith, w .within);
-        works = ap (λ (k : ℕ). makes (rowIn rows k)) (sym q) ∙ w .holds;
-        bounded = b;
-      }
-
-  tried-fit : (r : Row) → tried rows v left shift sign ≡ fit r → Tried r
-  unfolding tried
-  tried-fit r e = go (leb above (2 ^ 32)) refl e
-    where
-      go : (b : Bool) → leb above (2 ^ 32) ≡ b → cond b (rowOver v left shift sign (lowest makes rows)) none-fits ≡ fit r → Tried r
-      go true t e = over-right (lowest makes rows) r refl e (leb-true above (2 ^ 32) t)
-      go false t e = absurd (not-both e)
-
-  no-right : (p : Place) → lowest makes rows ≡ p → rowOver v left shift sign p ≡ none-fits → (j : ℕ) → j < length rows → makes (rowIn rows j) ≡ false
-  unfolding rowOver
-  no-right nowhere l e j h = lowest-none-at noRow makes 0 rows j l h
-  no-right (at-place i) l e j h = absurd (not-both (sym e))
-
-  tried-none : tried rows v left shift sign ≡ none-fits → above ≤ 2 ^ 32 → (j : ℕ) → j < length rows → makes (rowIn rows j) ≡ false
-  unfolding tried
-  tried-none e b = no-right (lowest makes rows) refl (sym (ap (λ (t : Bool). cond t (rowOver v left shift sign (lowest makes rows)) none-fits) (le-leb above (2 ^ 32) b)) ∙ e)
 
 -- ---- signs
 sign-at : (k : ℕ) → k < 3 → (T (isRowSign (getD signs k 0))) × (signPlace (getD signs k 0) ≡ k)

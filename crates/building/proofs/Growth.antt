@@ -51,3 +51,6 @@ then {rows} i j most a b l = record {
 -- a value that had a row has it still
 pub still : {rows grown : List Row} {v : ℕ} (most u : ℕ) → Growth rows grown v most → HasRow rows u → HasRow grown u
 still {rows} most u a h = subst (λ (l : List Row). HasRow l u) (sym (a .is)) (has-still rows (a .more) u h)
+
+pub grown-length : {rows grown : List Row} {v : ℕ} (most : ℕ) → Growth rows grown v most → length grown ≤ length rows + most
+grown-length {rows} most a = omega (arith, ap length (a .is) ∙ length-append rows (a .more), a .few)

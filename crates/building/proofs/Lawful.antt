@@ -2,20 +2,19 @@
 -- the row rule, and no two have one value. Assumes nothing.
 use mathlib.Core.Path.{_≡_, refl, sym, ap, _∙_, subst}
 use mathlib.Core.List.{List, [], _∷_, _++_}
-use mathlib.Core.Logic.{_⊎_, inl, inr, ⊎-elim}
+use mathlib.Core.Logic.{_⊎_, inl, inr}
 use Prim.Native.Nat.{ℕ, zero, suc, _+_, _*_, _-_, _%_, _^_, _≤_, _<_, zero-le, suc-le-suc}
 use native.Mathlib.Nat.{eq-or-lt-of-le}
 use native.Mathlib.Omega.{arith}
-use lib.IntN.{pos}
-use lib.ListN.{length, getD, take, length-append, List·getD-append}
+use lib.ListN.{length, take, length-append, List·getD-append}
 use lib.Seq.{getD-at, take-at, take-append-le}
 use Rattle.refusal.specs.Answer.{nowhere, at-place, lowestFrom}
 use Rattle.network.specs.declared.Row.{Row}
 use Rattle.network.specs.Rows.{plus, minus, rowIn, noRow}
-use Rattle.network.specs.RowRule.{lifted, combined, FirstRow, LaterRow, RowRule}
+use Rattle.network.specs.RowRule.{FirstRow, LaterRow, RowRule}
 use Rattle.building.specs.Search.{rowWith, fit, firstFit}
 use Rattle.building.specs.Steps.{firstRow}
-use Rattle.building.proofs.Lookup.{row-within, row-absent, row-is, row-stays, row-joins}
+use Rattle.building.proofs.Lookup.{row-stays, row-joins}
 
 -- where a new row comes from: step 2, "The first fit is added"; or step 3, "v = 2^gap·v ± 1 with row 0 on the right"
 pub data Made (rows : List Row) (r : Row) : Type 0 where

@@ -1,14 +1,14 @@
 -- The row that has a value: what a look-up tells, what tells its answer, and that an answer stays while rows are added. Assumes nothing.
-use mathlib.Core.Path.{_≡_, refl, sym, ap, _∙_}
+use mathlib.Core.Path.{_≡_, refl, ap, _∙_}
 use mathlib.Core.Bool.{Bool, true, false, cond}
 use mathlib.Core.List.{List, [], _∷_, _++_}
-use Prim.Native.Nat.{ℕ, zero, suc, _+_, _≤_, _<_, zero-le, suc-le-suc}
+use Prim.Native.Nat.{ℕ, zero, suc, _+_, _<_, zero-le, suc-le-suc}
 use native.Mathlib.Nat.{le-of-suc-le-suc, not-suc-le-zero}
 use native.Mathlib.Omega.{arith}
 use borrow.Author.Tests.{eqb-true, eqb-false, eq-eqb, ne-eqb}
 use lib.Dec.{eqb}
 use lib.ListN.{length, getD}
-use Rattle.refusal.specs.Answer.{Place, nowhere, at-place, lowestFrom, lowest}
+use Rattle.refusal.specs.Answer.{nowhere, at-place, lowestFrom, lowest}
 use Rattle.refusal.proofs.Checks.{lowest-none-at}
 use Rattle.network.specs.declared.Row.{Row}
 use Rattle.network.specs.Rows.{rowIn, noRow}

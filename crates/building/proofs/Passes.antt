@@ -1,22 +1,20 @@
 -- The network that document 01's building steps give passes every check, and its coefficients are those that it was built for. Assumes nothing.
 use mathlib.Core.Path.{_≡_, refl, sym, ap, _∙_, subst}
-use mathlib.Core.Bool.{Bool, true, false, not}
+use mathlib.Core.Bool.{false}
 use mathlib.Core.List.{List, [], _∷_, map, List·Memᴰ}
-use Prim.Native.Nat.{ℕ, zero, suc, _+_, _*_, _%_, _^_, _≤_, _<_, suc-le-suc}
+use Prim.Native.Nat.{ℕ, suc, _≤_, _<_, suc-le-suc}
 use native.Mathlib.Omega.{arith}
 use borrow.Author.Tests.{not-false, ltb-true}
 use lib.Dec.{ltb}
 use lib.IntN.{ℤ, pos}
 use lib.ListN.{length, getD, List·getD-map}
-use lib.Seq.{ext-getD}
 use Rattle.refusal.specs.Answer.{given}
 use Rattle.refusal.proofs.Tables.{length-map}
 use Rattle.signed_digit.specs.Coefficient.{Coefficient}
 use Rattle.signed_digit.specs.Forms.{listing}
-use Rattle.coefficient.specs.Parts.{Parts, no-odd-part, parts, partsOf}
+use Rattle.coefficient.specs.Parts.{Parts, parts, partsOf}
 use Rattle.network.specs.declared.Row.{Row}
-use Rattle.network.specs.declared.TapRow.{TapRow}
-use Rattle.network.specs.Rows.{Network, tapRowIn, noTap}
+use Rattle.network.specs.Rows.{tapRowIn, noTap}
 use Rattle.network.specs.Coefficients.{coefficientOf, coefficients}
 use Rattle.network.specs.TapRowRule.{TapRowRule}
 use Rattle.network.specs.Check.{checked}
@@ -49,7 +47,8 @@ pub record RowsBuilt (coefficients : List ℤ) (rows : List Row) : Type 0 where
   pub few : length rows ≤ 3841
 
 module _ (cs : List ℤ) (ks : List ℕ) (c : CanBuild cs ks) where
-  part-buildable : (p : Part) → List·Memᴰ p (partsToBuild cs ks) → Buildable p
+  -- every part to be built is odd, below 2^31, and its choice is below the number of its forms
+  pub part-buildable : (p : Part) → List·Memᴰ p (partsToBuild cs ks) → Buildable p
   unfolding noSuchForm
   part-buildable p m =
       let e = parts-in-order cs ks (c .enough) .earliest p m in
@@ -102,9 +101,9 @@ module _ (cs : List ℤ) (ks : List ℕ) (c : CanBuild cs ks) where
   unfolding built
   built-few = rows-built cs ks c .few
 
-  passed : Passed (built cs ks) cs
+  pub built-passed : Passed (built cs ks) cs
   unfolding built
-  passed =
+  built-passed =
       let r = rows-built cs ks c in
       record {
         rows-from = lawful-some (r .lawful);
@@ -119,4 +118,4 @@ module _ (cs : List ℤ) (ks : List ℕ) (c : CanBuild cs ks) where
 
   -- the built network passes, and its coefficients are the ones that were given
   pub built-passes : checked (built cs ks) ≡ given cs
-  built-passes = passed-checked (built cs ks) cs passed
+  built-passes = passed-checked (built cs ks) cs built-passed

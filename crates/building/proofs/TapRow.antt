@@ -1,13 +1,12 @@
 -- The tap row of a coefficient keeps the tap row rule, and its product is the coefficient, where the rows have one of its odd part's value.
 -- Assumes nothing.
-use mathlib.Core.Path.{_≡_, refl, sym, ap, _∙_, subst}
-use Prim.Native.Nat.{ℕ, _*_, _^_, _≤_, _<_}
+use mathlib.Core.Path.{_≡_, refl, sym, ap, _∙_}
+use Prim.Native.Nat.{ℕ, _*_, _^_}
 use mathlib.Core.List.{List}
 use native.Mathlib.Omega.{arith}
 use lib.Dec.{T}
 use lib.IntN.{ℤ, pos, negℤ}
-use lib.ListN.{length}
-use Rattle.refusal.specs.Answer.{at-place, placeOr}
+use Rattle.refusal.specs.Answer.{placeOr}
 use Rattle.signed_digit.specs.Coefficient.{Coefficient}
 use Rattle.signed_digit.specs.Reduction.{Sign, positive, negative}
 use Rattle.coefficient.specs.Parts.{Parts, no-odd-part, parts, partsOf}

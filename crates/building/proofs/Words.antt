@@ -1,12 +1,12 @@
 -- Rows and tap rows as words: what a table that starts with the words of some rows holds, and the words of what a table holds. Assumes nothing.
 use mathlib.Core.Path.{_≡_, refl, sym, ap, _∙_}
-use mathlib.Core.List.{List, [], _∷_, _++_, append-assoc}
-use Prim.Native.Nat.{ℕ, zero, suc, _+_, _*_, _≤_, _<_, suc-le-suc}
+use mathlib.Core.List.{List, [], _∷_, _++_}
+use Prim.Native.Nat.{ℕ, zero, suc, _+_, _*_, _≤_, _<_}
 use native.Mathlib.Nat.{not-suc-le-zero, le-of-suc-le-suc}
 use native.Mathlib.Numerals.{add-one}
 use native.Mathlib.Omega.{arith}
-use lib.ListN.{length, getD, take, drop, set, take-append-drop, length-set}
-use lib.Seq.{drop-cons, take-add, ext-getD, getD-set-same, getD-set-other, drop-set-lt}
+use lib.ListN.{length, getD, take, drop, take-append-drop}
+use lib.Seq.{drop-cons, take-add, ext-getD}
 use Rattle.sequence.specs.UpTo.{upTo}
 use Rattle.sequence.proofs.UpTo.{length-upTo, getD-upTo}
 use Rattle.network.specs.declared.Row.{Row}
@@ -29,12 +29,12 @@ length-tap-words (t ∷ taps) = omega (arith, length-tap-words taps)
 pub row-words-append : (rows more : List Row) → wordsOfRows (rows ++ more) ≡ wordsOfRows rows ++ wordsOfRows more
 unfolding wordsOfRows
 row-words-append [] more = refl
-row-words-append (r ∷ rows) more = ap (λ (l : List ℕ). r .left ∷ r .right ∷ r .shift ∷ r .sign ∷ r .value ∷ l) (row-words-append rows more)
+row-words-append (r ∷ rows) more = rw (row-words-append rows more)
 
 pub tap-words-append : (taps more : List TapRow) → wordsOfTapRows (taps ++ more) ≡ wordsOfTapRows taps ++ wordsOfTapRows more
 unfolding wordsOfTapRows
 tap-words-append [] more = refl
-tap-words-append (t ∷ taps) more = ap (λ (l : List ℕ). t .sign ∷ t .row ∷ t .shift ∷ l) (tap-words-append taps more)
+tap-words-append (t ∷ taps) more = rw (tap-words-append taps more)
 
 -- ---- what a table that starts with these words holds
 module _ (rest : List ℕ) where
