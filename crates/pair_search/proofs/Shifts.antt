@@ -1,27 +1,34 @@
--- One left row and one shift: which signs can fit, by size; and the shifts that cannot fit at all. Assumes nothing.
+-- The search step by step: a sign, the three signs, the shifts of a left row, the left rows. Assumes nothing.
 use mathlib.Core.Path.{_≡_, refl, sym, ap, _∙_}
 use mathlib.Core.List.{List}
 use mathlib.Core.Logic.{⊎-elim}
 use Prim.Native.Nat.{ℕ, suc, _+_, _-_, _*_, _%_, _^_, _≤_, _<_}
-use native.Mathlib.Nat.{mul-assoc, pow-succ', le-mul-of-pos-right, mul-le-mul-right}
+use native.Mathlib.Nat.{eq-or-lt-of-le, mul-assoc, pow-succ', le-mul-of-pos-right, mul-le-mul-right}
+use native.Mathlib.Numerals.{add-one}
 use native.Mathlib.Omega.{arith}
+use lib.Dec.{T}
 use lib.ListN.{length}
 use lib.Pow.{pow-mono}
+use Rattle.refusal.specs.Answer.{nowhere, at-place}
 use Rattle.network.specs.declared.Row.{Row}
 use Rattle.network.specs.Rows.{plus, minus, reversed, rowsOf}
-use Rattle.network.specs.RowRule.{lifted}
+use Rattle.network.specs.RowRule.{lifted, isRowSign}
 use Rattle.building.specs.Search.{Fit, fit, none-fits, orElse, firstOver, rowWith, rowOver, tried, firstFit}
 use Rattle.row_index.specs.Index.{valueAt}
 use Rattle.row_index.proofs.Compare.{le-or-lt}
 use Rattle.row_index.proofs.Values.{length-rows}
-use Rattle.pair_search.specs.Pairs.{fitAtShift, fitAtLeft, Searchable, AtShift}
+use Rattle.pair_search.specs.Pairs.{fitAtShift, fitAtLeft, rightValue, Searchable, AtShift}
 use Rattle.pair_search.proofs.FirstOver.{else-none, over-none, over-first}
-use Rattle.pair_search.proofs.Tries.{plus-right, minus-right, plus-none, minus-none, reversed-none}
+use Rattle.pair_search.proofs.Tries.{plus-none, minus-none, reversed-none, tried-right, tried-missing}
 
 -- ---- 2^s·left
 
-pub lifted-next : (s l : ℕ) → lifted (suc s) l ≡ 2 * lifted s l
+lifted-next : (s l : ℕ) → lifted (suc s) l ≡ 2 * lifted s l
 lifted-next s l = rw (pow-succ' 2 s) (mul-assoc 2 (2 ^ s) l)
+
+-- one more shift
+pub lifted-more : (s l a : ℕ) → a ≡ lifted s l → a * 2 ≡ lifted (s + 1) l
+lifted-more s l a e = ap (λ (x : ℕ). x * 2) e ∙ omega (arith, lifted-next s l, ap (λ (k : ℕ). lifted k l) (add-one s))
 
 lifted-up : (s k l : ℕ) → s ≤ k → lifted s l ≤ lifted k l
 lifted-up s k l h = mul-le-mul-right l (pow-mono h)
@@ -42,29 +49,32 @@ module _ (t heads links : List ℕ) (n most v : ℕ) (s : Searchable t heads lin
   pub positive : (k : ℕ) → k < n → 0 < valueAt t k
   positive k l = omega (arith, s .odd k l)
 
-  module _ (left shift a : ℕ) (at : AtShift t n left shift a) where
-    -- below v: + and r
-    pub shift-low : a < v
-        → fitAtShift (rowsOf t n) v left shift
-        ≡ orElse (rowOver v left shift plus (rowWith (rowsOf t n) (v - a))) (tried (rowsOf t n) v left shift reversed)
-    unfolding orElse
-    shift-low h =
-        three-signs (rowsOf t n) v left shift (rowOver v left shift plus (rowWith (rowsOf t n) (v - a))) none-fits (tried (rowsOf t n) v left shift reversed)
-        (plus-right t n v left shift a (at .within) (at .is-lifted) (omega arith) (at .low))
-        (minus-none t n v left shift a (at .within) (at .is-lifted) (λ k l e. omega arith)) refl
+  -- ---- one sign: x is the value that makes v on the right
 
-    -- from v on: - and r
-    pub shift-high : v ≤ a
-        → fitAtShift (rowsOf t n) v left shift
-        ≡ orElse (rowOver v left shift minus (rowWith (rowsOf t n) (a - v))) (tried (rowsOf t n) v left shift reversed)
-    unfolding orElse
-    shift-high h =
-        three-signs (rowsOf t n) v left shift none-fits (rowOver v left shift minus (rowWith (rowsOf t n) (a - v))) (tried (rowsOf t n) v left shift reversed)
-        (plus-none t n v left shift a (at .within) (at .is-lifted) (λ k l e. omega (arith, positive k l)))
-        (minus-right t n v left shift a (at .within) (at .is-lifted) h (at .low)) refl
+  module _ (left shift a : ℕ) (at : AtShift t n left shift a) (sign : ℕ) (known : T (isRowSign sign)) (x : ℕ) (is : x ≡ rightValue sign a v) where
+    missing : ((k : ℕ) → k < n → valueAt t k ≡ rightValue sign a v → ⊥) → none-fits ≡ tried (rowsOf t n) v left shift sign
+    missing h = sym (tried-missing t n v left shift a (at .within) (at .is-lifted) (at .low) positive sign known h)
 
-    pub reversed-past : most < a + v → tried (rowsOf t n) v left shift reversed ≡ none-fits
-    reversed-past h = reversed-none t n v left shift a (at .within) (at .is-lifted) (λ k l e. omega (arith, s .bounded k l))
+    pub sign-zero : x ≡ 0 → none-fits ≡ tried (rowsOf t n) v left shift sign
+    sign-zero z = missing (λ k l e. omega (arith, positive k l))
+
+    pub sign-past : most < x → none-fits ≡ tried (rowsOf t n) v left shift sign
+    sign-past h = missing (λ k l e. omega (arith, s .bounded k l))
+
+    right : tried (rowsOf t n) v left shift sign ≡ rowOver v left shift sign (rowWith (rowsOf t n) x)
+    right =
+        tried-right t n v left shift a (at .within) (at .is-lifted) (at .low) positive sign known
+        ∙ ap (λ (y : ℕ). rowOver v left shift sign (rowWith (rowsOf t n) y)) (sym is)
+
+    pub sign-missing : rowWith (rowsOf t n) x ≡ nowhere → none-fits ≡ tried (rowsOf t n) v left shift sign
+    unfolding rowOver
+    sign-missing e = sym (right ∙ ap (rowOver v left shift sign) e)
+
+    pub sign-found : (k j : ℕ) → rowWith (rowsOf t n) x ≡ at-place k → j ≡ k
+        → fit (record { left = left; right = j; shift = shift; sign = sign; value = v }) ≡ tried (rowsOf t n) v left shift sign
+    unfolding rowOver
+    sign-found k j e q =
+        ap (λ (i : ℕ). fit (record { left = left; right = i; shift = shift; sign = sign; value = v })) q ∙ sym (right ∙ ap (rowOver v left shift sign) e)
 
   -- ---- the limit
 
@@ -95,6 +105,12 @@ module _ (t heads links : List ℕ) (n most v : ℕ) (s : Searchable t heads lin
         let q : suc (z - 1) ≡ z = omega arith in
         over-first (λ (shift : ℕ). fitAtShift (rowsOf t n) v i shift) suc 31 (z - 1) r (omega arith) (λ k l. tried-below k (omega arith))
         (ap (fitAtShift (rowsOf t n) v i) q ∙ e)
+
+-- one more shift has been tried
+pub shifts-more : (rows : List Row) (v left z : ℕ) → ((k : ℕ) → suc k < z → fitAtShift rows v left (suc k) ≡ none-fits) → fitAtShift rows v left z ≡ none-fits
+    → (k : ℕ) → suc k < z + 1 → fitAtShift rows v left (suc k) ≡ none-fits
+shifts-more rows v left z h e k l =
+    ⊎-elim (λ (q : suc k ≡ z). ap (fitAtShift rows v left) q ∙ e) (λ (b : suc k < z). h k b) (eq-or-lt-of-le (let q : suc k ≤ z = omega arith in q))
 
 -- ---- the left rows below i have been tried
 

@@ -1,35 +1,56 @@
 -- One left row, shift and sign: the right row by its value, and where no row can be it. Assumes nothing.
-use mathlib.Core.Path.{_≡_, refl, sym, ap, _∙_}
-use mathlib.Core.Bool.{Bool, true, false, cond, or-false}
+use mathlib.Core.Path.{_≡_, refl, sym, ap, _∙_, subst}
+use mathlib.Core.Bool.{Bool, true, false, cond, or-false, _||_}
 use mathlib.Core.List.{List}
 use Prim.Native.Nat.{ℕ, _+_, _-_, _*_, _^_, _≤_, _<_}
 use native.Mathlib.Omega.{arith}
 use borrow.Author.Tests.{eqb-true, eq-eqb, ne-eqb, le-leb}
-use lib.Dec.{eqb, leb}
+use lib.Dec.{T, eqb, leb}
 use lib.ListN.{length}
-use Rattle.refusal.specs.Answer.{Place, nowhere, lowest, lowestFrom}
+use Rattle.refusal.specs.Answer.{Place, nowhere, lowest}
 use Rattle.network.specs.declared.Row.{Row}
 use Rattle.network.specs.Rows.{plus, minus, reversed, rowsOf, rowIn, noRow}
-use Rattle.network.specs.RowRule.{lifted, isWorked}
+use Rattle.network.specs.RowRule.{lifted, isRowSign, isWorked}
 use Rattle.network.proofs.Booleans.{same-truth}
 use Rattle.network.proofs.RowTests.{worked-tests}
-use Rattle.building.specs.Search.{Fit, fit, none-fits, rowWith, rowOver, tried}
+use Rattle.building.specs.Search.{none-fits, rowWith, rowOver, tried}
 use Rattle.row_index.specs.Index.{valueAt}
 use Rattle.row_index.proofs.Lowest.{none-at, lowest-same}
 use Rattle.row_index.proofs.Values.{length-rows, value-in}
+use Rattle.pair_search.specs.Pairs.{rightValue}
+
+-- ---- what each sign asks of the right row, without a difference
+
+plus-asks : (a b v : ℕ) → isWorked plus a b v ≡ eqb (a + b) v
+plus-asks a b v = refl
+
+minus-asks : (a b v : ℕ) → isWorked minus a b v ≡ eqb (v + b) a
+minus-asks a b v = sym (worked-tests minus a b v) ∙ or-false (eqb (v + b) a)
+
+reversed-asks : (a b v : ℕ) → isWorked reversed a b v ≡ eqb (v + a) b
+reversed-asks a b v = sym (worked-tests reversed a b v)
 
 eqb-same : (a b c d : ℕ) → (a ≡ b → c ≡ d) → (c ≡ d → a ≡ b) → eqb a b ≡ eqb c d
 eqb-same a b c d f g = same-truth (eqb a b) (eqb c d) (λ e. eq-eqb c d (f (eqb-true a b e))) (λ e. eq-eqb a b (g (eqb-true c d e)))
 
--- what each sign asks of the right row, without a difference
-pub plus-asks : (a b v : ℕ) → isWorked plus a b v ≡ eqb (a + b) v
-plus-asks a b v = refl
+-- a right row of a positive value is asked for by its value
+asks : (sign a b v : ℕ) → 0 < b → T (isRowSign sign) → isWorked sign a b v ≡ eqb b (rightValue sign a v)
+asks sign a b v h s = by-sign (eqb sign plus) (eqb sign minus) (eqb sign reversed) refl refl refl s
+  where
+    by-plus : isWorked plus a b v ≡ eqb b (rightValue plus a v)
+    by-plus = plus-asks a b v ∙ eqb-same (a + b) v b (v - a) (λ e. omega arith) (λ e. omega arith)
 
-pub minus-asks : (a b v : ℕ) → isWorked minus a b v ≡ eqb (v + b) a
-minus-asks a b v = sym (worked-tests minus a b v) ∙ or-false (eqb (v + b) a)
+    by-minus : isWorked minus a b v ≡ eqb b (rightValue minus a v)
+    by-minus = minus-asks a b v ∙ eqb-same (v + b) a b (a - v) (λ e. omega arith) (λ e. omega arith)
 
-pub reversed-asks : (a b v : ℕ) → isWorked reversed a b v ≡ eqb (v + a) b
-reversed-asks a b v = sym (worked-tests reversed a b v)
+    by-reversed : isWorked reversed a b v ≡ eqb b (rightValue reversed a v)
+    by-reversed = reversed-asks a b v ∙ eqb-same (v + a) b b (a + v) (λ e. omega arith) (λ e. omega arith)
+
+    by-sign : (x y z : Bool) → eqb sign plus ≡ x → eqb sign minus ≡ y → eqb sign reversed ≡ z → T (x || y || z) → isWorked sign a b v ≡ eqb b (rightValue sign a v)
+    by-sign true y z e f g t = subst (λ (k : ℕ). isWorked k a b v ≡ eqb b (rightValue k a v)) (sym (eqb-true sign plus e)) by-plus
+    by-sign false true z e f g t = subst (λ (k : ℕ). isWorked k a b v ≡ eqb b (rightValue k a v)) (sym (eqb-true sign minus f)) by-minus
+    by-sign false false true e f g t = subst (λ (k : ℕ). isWorked k a b v ≡ eqb b (rightValue k a v)) (sym (eqb-true sign reversed g)) by-reversed
+    by-sign false false false e f g t = absurd t
 
 same-none : (b : Bool) → cond b none-fits none-fits ≡ none-fits
 same-none true = refl
@@ -47,8 +68,9 @@ module _ (t : List ℕ) (n v left shift a : ℕ) (within : left < n) (is : a ≡
       (λ (x : ℕ). cond (leb x (2 ^ 32)) (rowOver v left shift sign (lowest (λ (r : Row). isWorked sign x (r .value) v) (rowsOf t n))) none-fits)
       lift-is
 
-  -- no row can be on the right
-  pub tried-none : (sign : ℕ) → ((k : ℕ) → k < n → isWorked sign a (valueAt t k) v ≡ false) → tried (rowsOf t n) v left shift sign ≡ none-fits
+  -- ---- no row can be on the right
+
+  tried-none : (sign : ℕ) → ((k : ℕ) → k < n → isWorked sign a (valueAt t k) v ≡ false) → tried (rowsOf t n) v left shift sign ≡ none-fits
   unfolding rowOver
   tried-none sign h =
       opened sign
@@ -56,24 +78,6 @@ module _ (t : List ℕ) (n v left shift a : ℕ) (within : left < n) (is : a ≡
       (none-at noRow (λ (r : Row). isWorked sign a (r .value) v) 0 (rowsOf t n)
       (λ k l. let b : k < n = omega (arith, length-rows t n) in ap (λ (x : ℕ). isWorked sign a x v) (value-in t n k b) ∙ h k b))
       ∙ same-none (leb a (2 ^ 32))
-
-  -- the row of value x is the one on the right
-  pub tried-right : (sign x : ℕ) → a ≤ 2 ^ 32 → ((r : ℕ) → isWorked sign a r v ≡ eqb r x) → tried (rowsOf t n) v left shift sign ≡ rowOver v left shift sign (rowWith (rowsOf t n) x)
-  unfolding rowWith
-  tried-right sign x low same =
-      opened sign
-      ∙ ap (λ (b : Bool). cond b (rowOver v left shift sign (lowest (λ (r : Row). isWorked sign a (r .value) v) (rowsOf t n))) none-fits) (le-leb a (2 ^ 32) low)
-      ∙ ap (rowOver v left shift sign)
-      (lowest-same (λ (r : Row). isWorked sign a (r .value) v) (λ (r : Row). eqb (r .value) x) (λ (r : Row). same (r .value)) 0 (rowsOf t n))
-
-  pub plus-right : a ≤ v → a ≤ 2 ^ 32 → tried (rowsOf t n) v left shift plus ≡ rowOver v left shift plus (rowWith (rowsOf t n) (v - a))
-  plus-right h low = tried-right plus (v - a) low (λ r. plus-asks a r v ∙ eqb-same (a + r) v r (v - a) (λ e. omega arith) (λ e. omega arith))
-
-  pub minus-right : v ≤ a → a ≤ 2 ^ 32 → tried (rowsOf t n) v left shift minus ≡ rowOver v left shift minus (rowWith (rowsOf t n) (a - v))
-  minus-right h low = tried-right minus (a - v) low (λ r. minus-asks a r v ∙ eqb-same (v + r) a r (a - v) (λ e. omega arith) (λ e. omega arith))
-
-  pub reversed-right : a ≤ 2 ^ 32 → tried (rowsOf t n) v left shift reversed ≡ rowOver v left shift reversed (rowWith (rowsOf t n) (a + v))
-  reversed-right low = tried-right reversed (a + v) low (λ r. reversed-asks a r v ∙ eqb-same (v + a) r r (a + v) (λ e. omega arith) (λ e. omega arith))
 
   pub plus-none : ((k : ℕ) → k < n → a + valueAt t k ≡ v → ⊥) → tried (rowsOf t n) v left shift plus ≡ none-fits
   plus-none h = tried-none plus (λ k l. plus-asks a (valueAt t k) v ∙ ne-eqb (a + valueAt t k) v (h k l))
@@ -83,3 +87,23 @@ module _ (t : List ℕ) (n v left shift a : ℕ) (within : left < n) (is : a ≡
 
   pub reversed-none : ((k : ℕ) → k < n → v + a ≡ valueAt t k → ⊥) → tried (rowsOf t n) v left shift reversed ≡ none-fits
   reversed-none h = tried-none reversed (λ k l. reversed-asks a (valueAt t k) v ∙ ne-eqb (v + a) (valueAt t k) (h k l))
+
+  -- ---- the row of one value can be
+
+  module _ (low : a ≤ 2 ^ 32) (positive : (k : ℕ) → k < n → 0 < valueAt t k) (sign : ℕ) (known : T (isRowSign sign)) where
+    pub tried-right : tried (rowsOf t n) v left shift sign ≡ rowOver v left shift sign (rowWith (rowsOf t n) (rightValue sign a v))
+    unfolding rowWith
+    tried-right =
+        opened sign
+        ∙ ap (λ (b : Bool). cond b (rowOver v left shift sign (lowest (λ (r : Row). isWorked sign a (r .value) v) (rowsOf t n))) none-fits) (le-leb a (2 ^ 32) low)
+        ∙ ap (rowOver v left shift sign)
+        (lowest-same noRow (λ (r : Row). isWorked sign a (r .value) v) (λ (r : Row). eqb (r .value) (rightValue sign a v)) 0 (rowsOf t n)
+        (λ k l.
+        let b : k < n = omega (arith, length-rows t n) in
+        let p : 0 < rowIn (rowsOf t n) k .value = omega (arith, value-in t n k b, positive k b) in
+        asks sign a (rowIn (rowsOf t n) k .value) v p known))
+
+    -- no row has it
+    pub tried-missing : ((k : ℕ) → k < n → valueAt t k ≡ rightValue sign a v → ⊥) → tried (rowsOf t n) v left shift sign ≡ none-fits
+    tried-missing h =
+        tried-none sign (λ k l. asks sign a (valueAt t k) v (positive k l) known ∙ ne-eqb (valueAt t k) (rightValue sign a v) (h k l))

@@ -38,8 +38,8 @@ module _ {A : Type 0} (d : A) (test : A → Bool) where
   holds-at k [] j e = let z : _≡_ {A = ℕ} 0 1 = cc in absurd (omega arith)
   holds-at k (x ∷ xs) j e = here-or-later k x xs j (test x) refl e (holds-at (suc k) xs)
 
--- tests that agree on every element
-pub lowest-same : {A : Type 0} (p q : A → Bool) → ((x : A) → p x ≡ q x) → (k : ℕ) (xs : List A) → lowestFrom k p xs ≡ lowestFrom k q xs
+-- tests that agree on every element of a list
+pub lowest-same : {A : Type 0} (d : A) (p q : A → Bool) (k : ℕ) (xs : List A) → ((i : ℕ) → i < length xs → p (getD xs i d) ≡ q (getD xs i d)) → lowestFrom k p xs ≡ lowestFrom k q xs
 unfolding lowestFrom
-lowest-same p q e k [] = refl
-lowest-same p q e k (x ∷ xs) = lowest-alike p q k x xs (e x) (lowest-same p q e (suc k) xs)
+lowest-same d p q k [] e = refl
+lowest-same d p q k (x ∷ xs) e = lowest-alike p q k x xs (e 0 (suc-le-suc zero-le)) (lowest-same d p q (suc k) xs (λ i l. e (suc i) (suc-le-suc l)))

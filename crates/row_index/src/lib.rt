@@ -77,9 +77,9 @@ fn enter(heads: &mut [u16], links: &mut [u16], n: usize, x: u32)
     ensures { λ _. ⌜ now (links .exit) ≡ set (now (links .entry)) n (getD (now (heads .entry)) (bucketOf (length (now (heads .entry))) x) 0) ⌝ }
     ensures { λ _. ⌜ now (heads .exit) ≡ set (now (heads .entry)) (bucketOf (length (now (heads .entry))) x) (n + 1) ⌝ }
 {
-    let h = bucket(x, heads.len());
-    links[n] = heads[h];
-    heads[h] = (n + 1) as u16;
+    let own = bucket(x, heads.len());
+    links[n] = heads[own];
+    heads[own] = (n + 1) as u16;
 }
 
 // Row n is written and joins the index. No row has its value yet.
