@@ -11,7 +11,7 @@ use Rattle.signed_digit.specs.String.{DigitString}
 use Rattle.network.specs.declared.Row.{Row}
 use Rattle.network.specs.Rows.{plus, minus}
 use Rattle.building.specs.Search.{rowWith}
-use Rattle.building.specs.Chain.{addUnless, chainStep, chainFrom}
+use Rattle.building.specs.Chain.{addUnless, chainStep, chainFrom, chainDown}
 
 unless-longer : (p : Place) (rows : List Row) (r : Row) → length rows ≤ length (addUnless p rows r)
 unfolding addUnless
@@ -28,3 +28,10 @@ chain-longer rows v gap [] = le-refl (length rows)
 chain-longer rows v gap (nought ∷ s) = chain-longer rows v (suc gap) s
 chain-longer rows v gap (one ∷ s) = le-trans (step-longer rows v gap plus (2 ^ gap * v + 1)) (chain-longer _ (2 ^ gap * v + 1) 1 s)
 chain-longer rows v gap (minus-one ∷ s) = le-trans (step-longer rows v gap minus (2 ^ gap * v - 1)) (chain-longer _ (2 ^ gap * v - 1) 1 s)
+
+pub down-longer : (rows : List Row) (s : DigitString) → length rows ≤ length (chainDown rows s)
+unfolding chainDown
+down-longer rows [] = le-refl (length rows)
+down-longer rows (nought ∷ s) = down-longer rows s
+down-longer rows (one ∷ s) = chain-longer rows 1 1 s
+down-longer rows (minus-one ∷ s) = le-refl (length rows)

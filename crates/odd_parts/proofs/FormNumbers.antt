@@ -1,14 +1,13 @@
 -- A choice and the number of forms. Assumes nothing.
 use mathlib.Core.Path.{_≡_, refl, sym, ap, _∙_}
 use mathlib.Core.Bool.{Bool, true, false, not}
-use mathlib.Core.List.{List, [], _∷_}
 use mathlib.Core.Logic.{_≢_}
 use Prim.Native.Nat.{ℕ, zero, suc, _≤_, _<_, _^_}
 use native.Mathlib.Omega.{arith}
 use borrow.Author.Tests.{lt-ltb, ne-eqb}
 use lib.Dec.{ltb}
 use lib.IntN.{ℤ, pos, negsuc, natAbs}
-use lib.ListN.{length, drop, getD}
+use lib.ListN.{length}
 use lib.Signed.{natAbs-le}
 use mir.Syntax.{w32}
 use mir.Val.{SFits}
@@ -21,7 +20,7 @@ use Rattle.coefficient.specs.declared.Reduced.the-variants.{Split}
 use Rattle.coefficient.specs.Parts.{Parts, no-odd-part, parts, partsOf, partsIn}
 use Rattle.coefficient.proofs.TheReduction.{reduction-parts, answer-right}
 use Rattle.coefficient.proofs.PartsOf.{reduction-bounds}
-use Rattle.building.specs.Answer.{Choice, choicesOf, noSuchForm}
+use Rattle.building.specs.Answer.{noSuchForm}
 
 -- the odd part of a coefficient is below 2^31
 pub split-small : (n : ℤ) → SFits w32 n → (r : Reduction) → partsIn (Split r) ≡ partsOf n → r .«odd_part» < 2 ^ 31
@@ -62,21 +61,3 @@ pub counted-choice : (p : Parts) (s : Sign) (v i k count : ℕ) → parts s v i 
 unfolding noSuchForm
 counted-choice p s v i k count e f =
     ap (λ (n : ℕ). ltb k n) f ∙ not-twice (ltb k (length (listing 32 (pos v)))) ∙ ap (λ (q : Parts). not (noSuchForm q k)) e
-
--- ---- taps with their choices, one by one
-pub choices-length : (ns : List ℤ) (ks : List ℕ) → length ns ≤ length ks → length (choicesOf ns ks) ≡ length ns
-unfolding choicesOf
-choices-length [] ks h = refl
-choices-length (n ∷ ns) [] h = absurd (omega arith)
-choices-length (n ∷ ns) (k ∷ ks) h = ap suc (choices-length ns ks (omega arith))
-
-abbrev pub noChoice : Choice
-noChoice = record { tap = partsOf (pos 0); number = 0 }
-
-pub choices-at : (ns : List ℤ) (ks : List ℕ) (i : ℕ) → length ns ≤ length ks → i < length ns
-    → getD (choicesOf ns ks) i noChoice ≡ record { tap = partsOf (getD ns i (pos 0)); number = getD ks i 0 }
-unfolding choicesOf
-choices-at [] ks i h l = absurd (omega arith)
-choices-at (n ∷ ns) [] i h l = absurd (omega arith)
-choices-at (n ∷ ns) (k ∷ ks) zero h l = refl
-choices-at (n ∷ ns) (k ∷ ks) (suc i) h l = choices-at ns ks i (omega arith) (omega arith)

@@ -13,9 +13,13 @@ use Rattle.refusal.specs.Answer.{lowestFrom, lowest, placeOr}
 use Rattle.refusal.proofs.Checks.{lowest-here, lowest-later, lowest-none}
 use Rattle.coefficient.specs.Parts.{partsOf}
 use Rattle.building.specs.Answer.{Choice, choicesOf, noSuchForm}
-use Rattle.odd_parts.proofs.FormNumbers.{choices-length, choices-at, noChoice}
+use Rattle.building.proofs.Answers.{length-choices, choice-at}
 use Rattle.odd_parts.proofs.choices.first_without_form.Statement.{statement}
 use Rattle.odd_parts.proofs.choices.first_without_form.Tie as tie
+
+-- what stands past the last tap
+abbrev noChoice : Choice
+noChoice = record { tap = partsOf (pos 0); number = 0 }
 
 -- a tap whose choice is not below the number of forms
 abbrev breaks : Choice → Bool
@@ -59,7 +63,7 @@ tested c t e =
     let s = l .before .before in
     let n = getD (s .args .coefficients .now) (l .loop .i) (pos 0) in
     let f = c .has-form .ensures ∙ ap (λ (z : ℤ). not (noSuchForm (partsOf z) (getD (s .args .choices .now) (l .loop .i) 0))) (toZ-ofZ w32 n (record { sfits = c .before .before .has-form-arg .given })) in
-    ap breaks (choices-at (s .args .coefficients .now) (s .args .choices .now) (l .loop .i) (s .pre) (c .before .before .before .loop-test .taken)) ∙ not-swap (c .has-form .result) (noSuchForm (partsOf n) (getD (s .args .choices .now) (l .loop .i) 0)) t f e
+    ap breaks (choice-at noChoice (s .args .coefficients .now) (s .args .choices .now) (l .loop .i) (s .pre) (c .before .before .before .loop-test .taken)) ∙ not-swap (c .has-form .result) (noSuchForm (partsOf n) (getD (s .args .choices .now) (l .loop .i) 0)) t f e
 
 returns : tie.Need-returns Inv-loop μ-loop
 returns c =
@@ -67,7 +71,7 @@ returns c =
     let l = t .before in
     let s = l .before .before in
     let xs = choicesOf (s .args .coefficients .now) (s .args .choices .now) in
-    let m = choices-length (s .args .coefficients .now) (s .args .choices .now) (s .pre) in
+    let m = length-choices (s .args .coefficients .now) (s .args .choices .now) (s .pre) in
     let b = tested (c .before) true (not-true (c .before .has-form .result) (c .if1 .taken)) in
     ap (placeOr (length (s .args .coefficients .now))) (sym (lowest-here noChoice breaks xs (l .loop .i) (omega (arith, m, t .loop-test .taken)) b) ∙ l .loop .inv .1)
 
@@ -83,7 +87,7 @@ loop-again c =
     let l = t .before in
     let s = l .before .before in
     let xs = choicesOf (s .args .coefficients .now) (s .args .choices .now) in
-    let m = choices-length (s .args .coefficients .now) (s .args .choices .now) (s .pre) in
+    let m = length-choices (s .args .coefficients .now) (s .args .choices .now) (s .pre) in
     let b = tested (c .before) false (not-false (c .before .has-form .result) (c .if1 .left)) in
     (search needs, sym (lowest-later noChoice breaks xs (l .loop .i) (omega (arith, m, t .loop-test .taken)) b) ∙ l .loop .inv .1)
 
@@ -92,7 +96,7 @@ returns-2 c =
     let l = c .before in
     let s = l .before .before in
     let xs = choicesOf (s .args .coefficients .now) (s .args .choices .now) in
-    let m = choices-length (s .args .coefficients .now) (s .args .choices .now) (s .pre) in
+    let m = length-choices (s .args .coefficients .now) (s .args .choices .now) (s .pre) in
     let e : l .loop .i ≡ length (s .args .coefficients .now) = omega (arith, l .loop .inv .0, c .loop-test .left) in
     e ∙ ap (placeOr (length (s .args .coefficients .now))) (sym (lowest-none noChoice breaks xs (l .loop .i) (omega (arith, m, c .loop-test .left))) ∙ l .loop .inv .1)
 
