@@ -1,21 +1,17 @@
-//! Rows by value, for speed: a filter in front of chains, and the search by right rows.
+//! Rows by value, for speed: chains, and a filter for the search.
 //!
-//! The left row of a fit is the odd part of the sum or the difference of the value and the right
-//! row. A number and its odd part, turned to binary32, have the same mantissa, whether or not it
-//! was rounded; its upper bits say which cell of the filter to look at. So most right rows are
-//! passed without their odd parts worked out. All fits are met, and the first in order is kept.
+//! A number and its odd part, turned to binary32, have the same mantissa, whether or not they were
+//! rounded. Its upper bits are the cell of the filter, which has a mark for each row in it.
 
 use super::call::Row;
-use crate::network::{MINUS, MOST_ROWS, PLUS, REVERSED};
+use crate::network::{MOST_ROWS, PLUS};
 use std::mem::MaybeUninit;
 
 /// The cells of the filter and the chains, at most.
 const CELLS: usize = 1 << 16;
 const CHAINS: usize = 1 << 13;
 /// Rows looked at together.
-const BLOCK: usize = 8;
-/// The signs in order.
-const SIGNS: [u32; 3] = [PLUS, MINUS, REVERSED];
+pub const BLOCK: usize = 8;
 
 /// The memory of an index. Only as much is cleared as the rows may need.
 pub struct Room {
@@ -41,7 +37,7 @@ pub struct Index<'a> {
     room: &'a mut Room,
     rows: &'a mut [Row],
     pub count: usize,
-    filter_bits: u32,
+    pub filter_bits: u32,
     chain_bits: u32,
 }
 
@@ -68,20 +64,27 @@ impl<'a> Index<'a> {
         (value.wrapping_mul(0x9e37_79b1) >> (32 - self.chain_bits)) as usize
     }
 
-    /// The cell of a number and of its odd part alike, whatever its sign.
     #[inline(always)]
     fn cell(&self, number: i32) -> usize {
-        (((number as f32).to_bits() << 9) >> (32 - self.filter_bits)) as u16 as usize
+        cell(number, self.filter_bits) as usize
+    }
+
+    /// The values of all rows, and something to the end of the last block.
+    #[inline(always)]
+    pub fn values(&self) -> &[u32] {
+        let filled = self.count.next_multiple_of(BLOCK);
+        // SAFETY: a block that holds a row is filled to its end.
+        unsafe { self.room.values[..filled].assume_init_ref() }
     }
 
     #[inline(always)]
-    fn value(&self, row: usize) -> u32 {
+    pub fn value(&self, row: usize) -> u32 {
         // SAFETY: only rows that have been added are asked for.
         unsafe { self.room.values[row].assume_init() }
     }
 
     #[inline(always)]
-    fn mark(&self, cell: usize) -> u8 {
+    pub fn mark(&self, cell: usize) -> u8 {
         // SAFETY: all cells below 2^filter_bits have been cleared, and a cell is below that.
         unsafe { self.room.filter[cell].assume_init() }
     }
@@ -95,7 +98,8 @@ impl<'a> Index<'a> {
         }
         self.room.values[number].write(value);
         let (cell, chain) = (self.cell(value as i32), self.chain(value));
-        self.room.filter[cell].write(1);
+        let marks = self.mark(cell) | mark(number);
+        self.room.filter[cell].write(marks);
         self.room.links[number] = self.room.heads[chain];
         self.room.heads[chain].write(number as u16 + 1);
         self.count += 1;
@@ -114,72 +118,17 @@ impl<'a> Index<'a> {
         }
         None
     }
-
-    /// The place in order of the fit with this right row, and the right row below it.
-    #[inline(always)]
-    fn fit(&self, number: u32, sign: u64, right: usize) -> u64 {
-        let shift = number.trailing_zeros();
-        match self.row_with(number >> shift) {
-            None => u64::MAX,
-            Some(left) => (left as u64) << 32 | (shift as u64) << 24 | sign << 16 | right as u64,
-        }
-    }
-
-    /// The first fit among those whose right row is one of these.
-    #[inline(never)]
-    fn first_of(&self, value: u32, rights: std::ops::Range<usize>) -> u64 {
-        let mut first = u64::MAX;
-        for right in rights {
-            let other = self.value(right);
-            let (sum, difference) = cells_of(value, other);
-            if self.mark(self.cell(sum)) != 0 {
-                first = first.min(self.fit(value + other, 1, right));
-            }
-            if self.mark(self.cell(difference)) != 0 {
-                let sign = if other < value { 0 } else { 2 };
-                first = first.min(self.fit(value.abs_diff(other), sign, right));
-            }
-        }
-        first
-    }
-
-    /// The first row of this value that can be made from two of the rows, none of which has it.
-    #[inline(never)]
-    pub fn first_fit(&self, value: u32) -> Option<Row> {
-        let mut first = u64::MAX;
-        for at in (0..self.count).step_by(BLOCK) {
-            let mut marks = 0;
-            let mut sums = [0; BLOCK];
-            let mut differences = [0; BLOCK];
-            for i in 0..BLOCK {
-                (sums[i], differences[i]) = cells_of(value, self.value(at + i));
-            }
-            for number in sums.into_iter().chain(differences) {
-                marks |= self.mark(self.cell(number));
-            }
-            if marks != 0 {
-                let rights = at..(at + BLOCK).min(self.count);
-                first = first.min(self.first_of(value, rights));
-            }
-        }
-        (first != u64::MAX).then(|| {
-            let [left, shift, sign] = [first >> 32, first >> 24 & 31, first >> 16 & 3];
-            let sign = SIGNS[sign as usize];
-            [
-                left as u32,
-                first as u32 & 0xffff,
-                shift as u32,
-                sign,
-                value,
-            ]
-        })
-    }
 }
 
-/// Half the sum and half the difference of two odd values below 2^31.
+/// The mark of a row: the earlier the row, the higher the bit.
 #[inline(always)]
-fn cells_of(value: u32, other: u32) -> (i32, i32) {
-    let sum = (value + other) >> 1;
-    let difference = (value as i32 - other as i32) >> 1;
-    (sum as i32, difference)
+pub fn mark(row: usize) -> u8 {
+    let bits = usize::BITS - row.leading_zeros();
+    0x80 >> bits.min(7)
+}
+
+/// The cell of a number and of its odd part alike, whatever its sign.
+#[inline(always)]
+pub fn cell(number: i32, bits: u32) -> u32 {
+    ((number as f32).to_bits() << 9) >> ((32 - bits) & 31)
 }

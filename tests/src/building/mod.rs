@@ -4,6 +4,7 @@ pub mod call;
 pub mod chosen;
 pub mod core;
 pub mod fast;
+pub mod fits;
 pub mod hard;
 pub mod index;
 pub mod literal;
