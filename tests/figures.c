@@ -43,6 +43,7 @@ int main(void)
     taps();
     coefficients();
     forms();
+    networks();
     printf("figures.c: %d figures, %d wrong\n", figures, wrong);
     return wrong != 0;
 }

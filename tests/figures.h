@@ -21,5 +21,6 @@ void answer(const char *what, uint32_t refusal, int32_t lower, uint64_t got);
 void taps(void);
 void coefficients(void);
 void forms(void);
+void networks(void);
 
 #endif

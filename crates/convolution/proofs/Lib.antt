@@ -3,4 +3,4 @@ pub mod Sizes
 pub mod Terms
 pub mod Steps
 pub mod Theorems
-pub mod Same
+pub mod Trailing

@@ -1,4 +1,4 @@
--- Magnitudes of sums and products.
+-- Magnitudes of sums and products. Assumes nothing.
 use mathlib.Core.Path.{_≡_, refl}
 use mathlib.Core.Bool.{Bool, true, false}
 use Prim.Native.Nat.{ℕ, zero, suc, _+_, _*_, _<_, _≤_}

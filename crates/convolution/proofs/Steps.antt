@@ -1,8 +1,8 @@
--- The registers after a sample, one by one, and lengths.
+-- The registers after a sample, one by one, and lengths. Assumes nothing.
 use mathlib.Core.Path.{_≡_, refl, sym, ap, ap₂, _∙_}
 use mathlib.Core.Bool.{Bool, true, false, cond}
 use mathlib.Core.List.{List, [], _∷_, _++_}
-use Prim.Native.Nat.{ℕ, zero, suc, _+_, _<_, _≤_}
+use Prim.Native.Nat.{ℕ, suc, _+_, _<_, _≤_}
 use native.Mathlib.Omega.{arith}
 use borrow.Author.Tests.{ltb-true, ltb-false, lt-ltb, le-ltb}
 use lib.Dec.{ltb}
@@ -27,7 +27,7 @@ held-high r k l = rw (le-ltb k 256 l)
 pub next-low : (h : List ℤ) (x : ℤ) (r : List ℕ) (k : ℕ) → k < 255 → getD (next h x r) k 0 ≡ sumAt h x r (suc k)
 unfolding next
 next-low h x r k l =
-    List·getD-append (upTo 255 (λ j. sumAt h x r (suc j))) (0 ∷ drop 256 r) 0 k (omega (arith, length-upTo 255 (λ j. sumAt h x r (suc j))))
+    List·getD-append (upTo 255 (λ j. sumAt h x r (suc j))) _ 0 k (omega (arith, length-upTo 255 (λ j. sumAt h x r (suc j))))
     ∙ getD-upTo 255 (λ j. sumAt h x r (suc j)) 0 k l
 
 pub next-last : (h : List ℤ) (x : ℤ) (r : List ℕ) → getD (next h x r) 255 0 ≡ 0

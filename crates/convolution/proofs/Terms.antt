@@ -1,9 +1,9 @@
--- The sums, term by term: what one sample more changes.
+-- The sums, term by term: what one sample more changes. Assumes nothing.
 use mathlib.Core.Path.{_≡_, refl, sym, ap, ap₂, _∙_, fun-ext}
 use mathlib.Core.List.{List, [], _∷_, _++_, reverse, reverse-append}
-use Prim.Native.Nat.{ℕ, zero, suc, _+_, _<_, _≤_}
+use Prim.Native.Nat.{ℕ, zero, suc, _+_, _≤_}
 use native.Mathlib.Omega.{arith}
-use lib.IntN.{ℤ, pos, _+ℤ_, _*ℤ_, zero-*ℤ, *ℤ-zero, +ℤ-idl, +ℤ-idr, +ℤ-assoc, +ℤ-comm}
+use lib.IntN.{ℤ, pos, _+ℤ_, _*ℤ_, zero-*ℤ, *ℤ-zero, +ℤ-idr, +ℤ-assoc, +ℤ-comm}
 use lib.ListN.{length, getD, List·getD-eq-default}
 use mir.Syntax.{w16, w32, w64}
 use mir.Val.{SFits}

@@ -1,22 +1,19 @@
--- Running samples comes to the sums of whole numbers: modulo 2^64 from any content of the registers, exactly from cleared registers.
+-- Running samples comes to the sums of whole numbers: modulo 2^64 from any content of the registers, exactly from cleared registers. Assumes nothing.
 use mathlib.Core.Path.{_≡_, refl, sym, ap, ap₂, _∙_}
-use mathlib.Core.Bool.{Bool, true, false, cond}
 use mathlib.Core.List.{List, [], _∷_, _++_, reverse, append-assoc, append-nil}
 use Prim.Native.Nat.{ℕ, zero, suc, _+_, _<_, _≤_}
 use native.Mathlib.Omega.{arith}
-use lib.Dec.{ltb}
 use lib.IntN.{ℤ, pos, _+ℤ_, _*ℤ_, +ℤ-assoc, +ℤ-idl, +ℤ-idr}
-use lib.ListN.{length, getD, take, length-append, replicate, getD-replicate}
-use lib.Seq.{take-length}
+use lib.ListN.{length, getD, take, length-append}
 use mir.Syntax.{w16, w32, w64}
 use mir.Val.{SFits, toZ}
 use Rattle.convolution.specs.Words.{wrapped}
-use Rattle.convolution.specs.Running.{sumAt, outputOf, next, registersOf, outputsOf}
+use Rattle.convolution.specs.Running.{sumAt, next, registersOf, outputsOf}
 use Rattle.convolution.specs.Bounds.{Within, Words}
-use Rattle.convolution.specs.Sums.{before, outputSum, registerSum, outputSums, held}
+use Rattle.convolution.specs.Sums.{outputSum, registerSum, outputSums, held}
 use Rattle.convolution.proofs.Words.{wrapped-next, wrapped-word, wrapped-exact}
 use Rattle.convolution.proofs.Terms.{sumFrom, output-from, register-from, from-next, from-none, from-fits, reverse-snoc}
-use Rattle.convolution.proofs.Steps.{held-low, held-high, sum-step, stepAt, held-next}
+use Rattle.convolution.proofs.Steps.{held-low, sum-step, stepAt, held-next}
 
 -- ---- from any content
 

@@ -1,7 +1,7 @@
--- Laws of `wrapped`: it is the word congruent to z modulo 2^64, it goes on as whole sums do, and small numbers are read back.
+-- Laws of `wrapped`: it is the word congruent to z modulo 2^64, it goes on as whole sums do, and small numbers are read back. Assumes nothing.
 use mathlib.Core.Path.{_≡_, refl, sym, ap, ap₂, _∙_}
 use mathlib.Core.Bool.{Bool, true, false}
-use Prim.Native.Nat.{ℕ, zero, suc, _+_, _-_, _*_, _%_, _/_, _<_, _≤_}
+use Prim.Native.Nat.{ℕ, suc, _+_, _-_, _*_, _%_, _/_, _<_, _≤_}
 use native.Mathlib.Omega.{arith}
 use borrow.Author.Tests.{ltb-true, ltb-false, lt-ltb, le-ltb}
 use lib.Dec.{ltb}

@@ -1,5 +1,5 @@
--- What a running call leaves, by its answer.
-use mathlib.Core.Path.{_≡_, refl, sym, ap, ap₂, _∙_}
+-- What a running call leaves, by its answer. Assumes nothing.
+use mathlib.Core.Path.{_≡_, refl, sym, ap, _∙_}
 use mathlib.Core.Bool.{Bool, true, false, _||_, true≢false}
 use mathlib.Core.List.{List, _++_}
 use Prim.Native.Nat.{ℕ}
@@ -7,7 +7,7 @@ use lib.IntN.{ℤ}
 use lib.ListN.{length, drop}
 use Rattle.refusal.specs.Answer.{Answer, given, refused}
 use Rattle.convolution.specs.Running.{registersOf, outputsOf}
-use Rattle.convolution.proofs.Same.{same-registers, same-outputs}
+use Rattle.convolution.proofs.Trailing.{same-registers, same-outputs}
 use Rattle.network.specs.Check.{outcome}
 use Rattle.network_check.specs.Steps.{isGiven, padded}
 use Rattle.network_check.proofs.Padded.{padded-at}

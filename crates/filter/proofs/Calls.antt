@@ -1,7 +1,7 @@
--- One running call: from registers that are the sums over the samples so far to registers that are the sums after it.
+-- One running call: from registers that are the sums over the samples so far to registers that are the sums after it. Assumes nothing.
 use mathlib.Core.Path.{_≡_, refl, sym, ap, ap₂, _∙_, subst}
-use mathlib.Core.List.{List, [], _∷_, _++_, reverse, map}
-use Prim.Native.Nat.{ℕ, zero, suc, _+_, _<_, _≤_}
+use mathlib.Core.List.{List, [], _++_, reverse, map}
+use Prim.Native.Nat.{ℕ, _+_, _<_, _≤_}
 use native.Mathlib.Omega.{arith}
 use lib.IntN.{ℤ, pos}
 use lib.ListN.{length, getD, take, drop, length-map, List·getD-map}
@@ -17,7 +17,7 @@ use Rattle.convolution.specs.Sums.{outputSums, registerSum, held}
 use Rattle.convolution.proofs.Steps.{length-registers, drop-registers, length-sums}
 use Rattle.convolution.proofs.Theorems.{Holds, Cleared, holds-after, within-after, register-exact, outputs-exact}
 use Rattle.network.specs.Check.{outcome}
-use Rattle.filter.specs.Run.{runRegisters, runOutputs}
+use Rattle.filter.specs.Run.{runOutputs}
 use Rattle.filter.specs.Memory.{Lending, lent, after, memory}
 use Rattle.filter.proofs.Stretches.{length-lent, same-memory, first-256, past-256, held-lent, beyond-stays, registers-new, held-first, length-first}
 

@@ -1,18 +1,16 @@
 -- Document 01, "Bench figures": the sheet's filter, cleared, samples 1, 2, -32768 gives 3, 0, -98271. Assumes nothing.
-use mathlib.Core.Path.{_≡_, refl, sym, ap, _∙_}
+use mathlib.Core.Path.{_≡_, refl, ap, _∙_}
 use mathlib.Core.Bool.{Bool, true, false, _||_}
 use mathlib.Core.List.{List, [], _∷_, _++_}
-use Prim.Native.Nat.{ℕ, zero, suc, _+_, _*_, _<_, _≤_}
+use Prim.Native.Nat.{ℕ, zero, suc, _*_, _<_, _≤_}
 use native.Mathlib.Omega.{arith}
 use borrow.Author.Tests.{ltb-true, ltb-false, le-ltb}
 use lib.Dec.{ltb, lit≤}
 use lib.IntN.{ℤ, pos, negℤ}
-use lib.ListN.{length, drop, replicate, getD-replicate, length-append, length-replicate, List·getD-append}
+use lib.ListN.{length, replicate, getD-replicate, length-append, length-replicate, List·getD-append}
 use mir.Syntax.{w16, w32}
-use mir.Val.{SFits}
 use Rattle.refusal.specs.Answer.{given}
 use Rattle.convolution.specs.Bounds.{Within}
-use Rattle.convolution.specs.Running.{outputsOf}
 use Rattle.convolution.specs.Sums.{held, outputSum, outputSums}
 use Rattle.convolution.proofs.Steps.{held-low, held-high}
 use Rattle.convolution.proofs.Theorems.{Cleared, holds-start, outputs-exact}

@@ -1,15 +1,15 @@
--- Demand 3 of running calls, for every network that passes the check: proved over the whole list of calls.
+-- Demand 3 of running calls, for every network that passes the check: proved over the whole list of calls. Assumes nothing.
 use mathlib.Core.Path.{_≡_, refl, sym, ap, ap₂, _∙_, subst}
 use mathlib.Core.Bool.{Bool, true, false, _||_}
-use mathlib.Core.List.{List, [], _∷_, _++_, map}
-use Prim.Native.Nat.{ℕ, zero, suc, _+_, _*_, _<_, _≤_}
+use mathlib.Core.List.{List, [], _∷_, map}
+use Prim.Native.Nat.{ℕ, _<_, _≤_}
 use native.Mathlib.Omega.{arith}
 use borrow.Author.Tests.{ltb-true, ltb-false, le-ltb}
 use lib.Dec.{ltb}
 use lib.IntN.{ℤ, pos}
 use lib.ListN.{length, getD, take, drop, replicate, length-replicate, getD-replicate, List·getD-eq-default}
-use mir.Syntax.{w16, w32, w64}
-use mir.Val.{SFits, toZ}
+use mir.Syntax.{w32}
+use mir.Val.{SFits}
 use Rattle.refusal.specs.Answer.{Answer, given}
 use Rattle.sequence.proofs.UpTo.{length-upTo}
 use Rattle.convolution.specs.Bounds.{Within}
@@ -22,7 +22,7 @@ use Rattle.network.proofs.Passed.{Passed, Accepted, given-accepted, accepted-gi
 use Rattle.network.proofs.Given.{given-length, given-fits, same-coefficients}
 use Rattle.filter.specs.Run.{runOutputs}
 use Rattle.filter.specs.Call.{Call, networkIn, tableAnswer, joined, saidOf, saidFrom}
-use Rattle.filter.specs.Memory.{Lending, Found, due, dueAll, lent, answered, after, found, foundFrom}
+use Rattle.filter.specs.Memory.{Lending, due, dueAll, lent, answered, after, found, foundFrom}
 use Rattle.filter.specs.Demand.{Fair, EachFair, FullLength, Demand}
 use Rattle.filter.proofs.Answers.{or-first}
 use Rattle.filter.proofs.Stretches.{length-lent}

@@ -1,7 +1,7 @@
--- Registers and outputs while samples pass, one by one and four by four.
-use mathlib.Core.Path.{_≡_, refl, sym, ap, ap₂, _∙_}
+-- Registers and outputs while samples pass, one by one and four by four. Assumes nothing.
+use mathlib.Core.Path.{_≡_, sym, ap, ap₂, _∙_}
 use mathlib.Core.List.{List, [], _∷_, _++_}
-use Prim.Native.Nat.{ℕ, zero, suc, _+_, _<_, _≤_}
+use Prim.Native.Nat.{ℕ, suc, _+_, _<_, _≤_}
 use native.Mathlib.Nat.{zero-add}
 use native.Mathlib.Numerals.{add-one}
 use native.Mathlib.Omega.{arith}
@@ -12,7 +12,7 @@ use mir.Syntax.{w64}
 use mir.Val.{toZ}
 use Rattle.convolution.specs.Running.{sumAt, next, outputsOf, registersOf}
 use Rattle.convolution.proofs.Steps.{length-outputs}
-use Rattle.tables.specs.Tables.{after4}
+use Rattle.kernel_tables.specs.Tables.{after4}
 
 -- ---- one sample
 

@@ -7,17 +7,17 @@ ghost use Prim.Native.Nat.{_≤_, _<_};
 ghost use lib.ListN.{length, drop};
 ghost use lib.Seq.{sets};
 ghost use Rattle.convolution.specs.Running.{next, outputsOf, registersOf};
-ghost use Rattle.tables.specs.Tables.{coefficientsIn, Padded, Corrected};
-ghost use Rattle.tables.specs.Quiet.{Quiet};
-use products::signed;
-use products::sum;
+ghost use Rattle.kernel_tables.specs.Tables.{coefficientsIn, Padded, Corrected};
+ghost use Rattle.kernel_tables.specs.Quiet.{Quiet};
+use kernel_products::signed;
+use kernel_products::sum;
 
 // The registers after one sample; those from w on are 0 and stay so.
 fn move_one(h: &[i32; 256], x: i16, w: usize, registers: &mut [u64])
     requires { ⌜ (length (now h) ≡ 256) × ((256 ≤ length (now registers)) × (Quiet w (now h) (now registers))) ⌝ }
     ensures { λ _. ⌜ now (registers .exit) ≡ next (now (h .entry)) x (now (registers .entry)) ⌝ }
 {
-    let n = tables::least(w, 255);
+    let n = kernel_tables::least(w, 255);
     let mut k: usize = 0;
     while k < n {
         registers[k] = sum(registers[k + 1], h[k + 1], x);
@@ -42,7 +42,7 @@ fn fours(
 {
     let mut i: usize = 0;
     while samples.len() - i >= 4 {
-        passes::of_four(c, t, w, samples, i, registers, outputs);
+        kernel_passes::of_four(c, t, w, samples, i, registers, outputs);
         i += 4;
     }
     i
@@ -83,9 +83,9 @@ fn with_tables(
     ensures { λ _. ⌜ now (outputs .exit) ≡ sets (now (outputs .entry)) 0 (outputsOf (now (h .entry)) (now (registers .entry)) (now (samples .entry))) ⌝ }
 {
     let mut c = [2147483648u64; 264];
-    tables::offset_all(h, &mut c);
+    kernel_tables::offset_all(h, &mut c);
     let mut t = [0u64; 260];
-    tables::corrections(&c, &mut t);
+    kernel_tables::corrections(&c, &mut t);
     let i = fours(&c, &t, w, samples, registers, outputs);
     singly(h, w, samples, i, registers, outputs);
 }
@@ -97,7 +97,7 @@ pub fn feed(h: &[i32; 256], samples: &[i16], registers: &mut [u64], outputs: &mu
     ensures { λ _. ⌜ now (registers .exit) ≡ registersOf (now (h .entry)) (now (registers .entry)) (now (samples .entry)) ⌝ }
     ensures { λ _. ⌜ now (outputs .exit) ≡ outputsOf (now (h .entry)) (now (registers .entry)) (now (samples .entry)) ++ drop (length (now (samples .entry))) (now (outputs .entry)) ⌝ }
 {
-    let w = tables::used(h, registers);
+    let w = kernel_tables::used(h, registers);
     if samples.len() < 4 {
         singly(h, w, samples, 0, registers, outputs);
         return;

@@ -1,18 +1,9 @@
--- `kernel::feed` meets its contract.
-use Prim.Native.Nat.{ℕ, _≤_, _-_, _+_, _*_, _<_}
-use mathlib.Core.Path.{_≡_, refl, sym, ap, subst, _∙_}
-use mathlib.Core.Logic.{⊎-elim}
-use native.Mathlib.Omega.{arith}
-use lib.ListN.{length, length-set, take, drop, set, getD}
+-- `kernel::feed` meets its contract. Assumes nothing.
+use mathlib.Core.Path.{_∙_}
 use borrow.Author.Needs.{needs}
 use Rattle.kernel.proofs.Passes.{all-outputs}
 use Rattle.kernel.proofs.feed.Statement.{statement}
 use Rattle.kernel.proofs.feed.Tie as tie
-use Rattle.kernel.proofs.feed.Reads as reads
-use Rattle.kernel.proofs.feed.Lts as lts
-use Rattle.kernel.proofs.singly.Reads as singly-reads
-use Rattle.kernel.proofs.with_tables.Reads as with-tables-reads
-use Rattle.tables.proofs.used.Reads as used-reads
 
 used-requires : tie.Need-used-requires
 used-requires c κs = search needs

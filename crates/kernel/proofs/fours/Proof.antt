@@ -1,23 +1,19 @@
--- `kernel::fours` meets its contract.
-use Prim.Native.Nat.{ℕ, _≤_, _-_, _+_, _*_, _<_}
-use mathlib.Core.Path.{_≡_, refl, sym, ap, subst, _∙_}
-use mathlib.Core.Logic.{⊎-elim}
+-- `kernel::fours` meets its contract. Assumes nothing.
+use Prim.Native.Nat.{_≤_, _-_, _+_}
+use mathlib.Core.Path.{_≡_, refl, sym, subst, _∙_}
 use native.Mathlib.Omega.{arith}
-use lib.ListN.{length, length-set, take, drop, set, getD}
+use lib.ListN.{length, drop, getD}
 use borrow.Author.Needs.{needs}
 use lib.IntN.{pos}
 use lib.Seq.{sets}
 use Rattle.convolution.specs.Running.{registersOf, outputsOf}
-use Rattle.tables.specs.Tables.{coefficientsIn}
-use Rattle.tables.specs.Quiet.{Quiet}
-use Rattle.passes.proofs.Places.{length-in}
-use Rattle.tables.proofs.Quiets.{quiet-four}
+use Rattle.kernel_tables.specs.Tables.{coefficientsIn}
+use Rattle.kernel_tables.specs.Quiet.{Quiet}
+use Rattle.kernel_moves.proofs.Places.{length-in}
+use Rattle.kernel_tables.proofs.Quiets.{quiet-four}
 use Rattle.kernel.proofs.Passes.{fours-registers, fours-outputs}
 use Rattle.kernel.proofs.fours.Statement.{statement}
 use Rattle.kernel.proofs.fours.Tie as tie
-use Rattle.kernel.proofs.fours.Reads as reads
-use Rattle.kernel.proofs.fours.Lts as lts
-use Rattle.passes.proofs.of_four.Reads as of-four-reads
 
 abbrev Inv-loop : tie.InvT-loop
 Inv-loop c t w samples registers₀ outputs₀ i₀ registers outputs i =

@@ -1,9 +1,8 @@
--- `kernel::move_one` meets its contract.
-use Prim.Native.Nat.{ℕ, _≤_, _-_, _+_, _*_, _<_}
-use mathlib.Core.Path.{_≡_, refl, sym, ap, subst, _∙_}
-use mathlib.Core.Logic.{⊎-elim}
+-- `kernel::move_one` meets its contract. Assumes nothing.
+use Prim.Native.Nat.{_≤_, _-_, _+_, _<_}
+use mathlib.Core.Path.{_≡_, refl, sym, ap, _∙_}
 use native.Mathlib.Omega.{arith}
-use lib.ListN.{length, length-set, take, drop, set, getD}
+use lib.ListN.{length, length-set, set, getD}
 use borrow.Author.Needs.{needs}
 use Prim.Native.Nat.{min}
 use mathlib.Core.Path.{ap₂}
@@ -18,13 +17,9 @@ use Rattle.convolution.specs.Words.{wrapped}
 use Rattle.convolution.specs.Running.{next}
 use Rattle.convolution.specs.Sums.{held}
 use Rattle.convolution.proofs.Steps.{held-low, held-next}
-use Rattle.passes.proofs.Moves.{moved-one}
+use Rattle.kernel_moves.proofs.Moves.{moved-one}
 use Rattle.kernel.proofs.move_one.Statement.{statement}
 use Rattle.kernel.proofs.move_one.Tie as tie
-use Rattle.kernel.proofs.move_one.Reads as reads
-use Rattle.kernel.proofs.move_one.Lts as lts
-use Rattle.tables.proofs.least.Reads as least-reads
-use Rattle.products.proofs.sum.Reads as sum-reads
 
 abbrev Inv-loop : tie.InvT-loop
 Inv-loop h x w registers₀ n k₀ registers k =

@@ -1,9 +1,8 @@
--- `kernel::singly` meets its contract.
-use Prim.Native.Nat.{ℕ, _≤_, _-_, _+_, _*_, _<_}
+-- `kernel::singly` meets its contract. Assumes nothing.
+use Prim.Native.Nat.{_≤_, _-_, _<_}
 use mathlib.Core.Path.{_≡_, refl, sym, ap, subst, _∙_}
-use mathlib.Core.Logic.{⊎-elim}
 use native.Mathlib.Omega.{arith}
-use lib.ListN.{length, length-set, take, drop, set, getD}
+use lib.ListN.{length, length-set, drop, getD}
 use borrow.Author.Needs.{needs}
 use mathlib.Core.Path.{ap₂}
 use lib.IntN.{pos, _+ℤ_, _*ℤ_}
@@ -13,16 +12,11 @@ use mir.Val.{toZ, ofZ}
 use mir.ValLaws.{toZ-ofZ}
 use Rattle.convolution.specs.Words.{wrapped}
 use Rattle.convolution.specs.Running.{sumAt, next, registersOf, outputsOf}
-use Rattle.tables.specs.Quiet.{Quiet}
-use Rattle.tables.proofs.Quiets.{quiet-next}
+use Rattle.kernel_tables.specs.Quiet.{Quiet}
+use Rattle.kernel_tables.proofs.Quiets.{quiet-next}
 use Rattle.kernel.proofs.Passes.{one-registers, one-outputs, end-registers, end-outputs}
 use Rattle.kernel.proofs.singly.Statement.{statement}
 use Rattle.kernel.proofs.singly.Tie as tie
-use Rattle.kernel.proofs.singly.Reads as reads
-use Rattle.kernel.proofs.singly.Lts as lts
-use Rattle.kernel.proofs.move_one.Reads as move-one-reads
-use Rattle.products.proofs.signed.Reads as signed-reads
-use Rattle.products.proofs.sum.Reads as sum-reads
 
 abbrev Inv-loop : tie.InvT-loop
 Inv-loop h w samples start registers₀ outputs₀ i₀ registers outputs i =

@@ -1,20 +1,11 @@
--- `kernel::with_tables` meets its contract.
-use Prim.Native.Nat.{ℕ, _≤_, _-_, _+_, _*_, _<_}
-use mathlib.Core.Path.{_≡_, refl, sym, ap, subst, _∙_}
-use mathlib.Core.Logic.{⊎-elim}
+-- `kernel::with_tables` meets its contract. Assumes nothing.
+use mathlib.Core.Path.{sym, subst, _∙_}
 use native.Mathlib.Omega.{arith}
-use lib.ListN.{length, length-set, take, drop, set, getD}
 use borrow.Author.Needs.{needs}
-use Rattle.tables.specs.Quiet.{Quiet}
+use Rattle.kernel_tables.specs.Quiet.{Quiet}
 use Rattle.kernel.proofs.Passes.{renamed-registers, renamed-outputs}
 use Rattle.kernel.proofs.with_tables.Statement.{statement}
 use Rattle.kernel.proofs.with_tables.Tie as tie
-use Rattle.kernel.proofs.with_tables.Reads as reads
-use Rattle.kernel.proofs.with_tables.Lts as lts
-use Rattle.kernel.proofs.fours.Reads as fours-reads
-use Rattle.kernel.proofs.singly.Reads as singly-reads
-use Rattle.tables.proofs.corrections.Reads as corrections-reads
-use Rattle.tables.proofs.offset_all.Reads as offset-all-reads
 
 offset-all-requires : tie.Need-offset-all-requires
 offset-all-requires c κs = search needs
@@ -35,7 +26,7 @@ singly-requires c κs =
     let st = c .before .before .before .before .before .before .before .before .before .before .before .before .before .before .before .before in
     let oa = c .before .before .before .before .before .before .before .before .before .before .before .before .before .offset-all .ensures in
     let fo = c .before .before .before .before .before .fours in (
-      (st .pre .0 .0, (fo .ensures .0, (search needs, search needs))),
+      (st .pre .0 .0, (omega (arith, fo .ensures .0), (search needs, search needs))),
       subst (λ h. Quiet (st .args .w) h (fo .last .1 .1 .1 .1 .0)) (oa .1) (fo .ensures .1 .0),
     )
 

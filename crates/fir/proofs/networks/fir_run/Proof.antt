@@ -25,9 +25,9 @@ returns c =
     let s = c .before .before .before .before .before .before .before .before .before .before in
     let k = c .before .before .before .before .run in (
       c .checked-word .ensures
-      ∙ ap refusalWord (k .ensures .0)
-      ∙ word-of-outcome
-      (runAnswer (s .args .rows .now) (s .args .row-count) (s .args .taps .now) (s .args .tap-count) (s .args .samples .now) (length (s .args .registers .now)) (length (s .args .outputs .now))),
+          ∙ ap refusalWord (k .ensures .0)
+          ∙ word-of-outcome
+          (runAnswer (s .args .rows .now) (s .args .row-count) (s .args .taps .now) (s .args .tap-count) (s .args .samples .now) (length (s .args .registers .now)) (length (s .args .outputs .now))),
       k .ensures .1,
     )
 

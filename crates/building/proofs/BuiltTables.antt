@@ -1,0 +1,93 @@
+-- The tables that building leaves hold the network that it gives, and an entry that is handed them accepts it, with the coefficients that it was
+-- built for. Assumes nothing.
+use mathlib.Core.Path.{_≡_, refl, sym, ap, ap₂, _∙_, subst}
+use mathlib.Core.Bool.{false}
+use mathlib.Core.List.{List, _++_}
+use Prim.Native.Nat.{ℕ, _+_, _≤_, _<_}
+use native.Mathlib.Omega.{arith}
+use lib.IntN.{ℤ, pos}
+use lib.ListN.{length, getD, drop, length-append, length-drop}
+use Rattle.refusal.specs.Answer.{given, filled}
+use Rattle.refusal.proofs.Tables.{length-map}
+use Rattle.signed_digit.specs.Coefficient.{Coefficient}
+use Rattle.coefficient.specs.Parts.{partsOf}
+use Rattle.network.specs.declared.Row.{Row}
+use Rattle.network.specs.declared.TapRow.{TapRow}
+use Rattle.network.specs.Rows.{Network, networkOf}
+use Rattle.network.specs.Check.{networkAnswer}
+use Rattle.network.proofs.Passed.{Passed, accepted-given}
+use Rattle.building.specs.Steps.{builtRows}
+use Rattle.building.specs.TapRows.{tapRowOf, built}
+use Rattle.building.specs.Answer.{buildAnswer}
+use Rattle.building.specs.Tables.{wordsOfRows, wordsOfTapRows}
+use Rattle.building.proofs.Words.{length-row-words, length-tap-words, rows-of-words, taps-of-words}
+use Rattle.building.proofs.Passes.{CanBuild, built-few, built-passed}
+use Rattle.building.proofs.Answers.{Given, given-tells, given-can-build}
+
+-- tables that start with a network's words hold it, whatever follows
+pub network-of-words : (net : Network) (more others : List ℕ)
+    → networkOf (wordsOfRows (net .rows) ++ more) (length (net .rows)) (wordsOfTapRows (net .taps) ++ others) (length (net .taps)) ≡ net
+network-of-words net more others = ap₂ together (rows-of-words more (net .rows)) (taps-of-words others (net .taps))
+  where
+    together : List Row → List TapRow → Network
+    together rows taps = record { rows = rows; taps = taps }
+
+pub length-built-taps : (cs : List ℤ) (ks : List ℕ) → length (built cs ks .taps) ≡ length cs
+unfolding built
+length-built-taps cs ks = length-map (λ (n : ℤ). tapRowOf (builtRows cs ks) (partsOf n)) cs
+
+filled-length : (words old : List ℕ) → length words ≤ length old → length (words ++ drop (length words) old) ≡ length old
+filled-length words old l = omega (arith, length-append words (drop (length words) old), length-drop (length words) old)
+
+module _ (cs : List ℤ) (ks rows taps : List ℕ) (net : Network) (e : buildAnswer cs ks rows taps ≡ given net)
+    (bounds : (i : ℕ) → i < length cs → Coefficient (getD cs i (pos 0))) where
+  -- the lent tables afterwards
+  abbrev pub rowsLeft : List ℕ
+  rowsLeft = filled (buildAnswer cs ks rows taps) (wordsOfRows (net .rows)) rows
+
+  abbrev pub tapsLeft : List ℕ
+  tapsLeft = filled (buildAnswer cs ks rows taps) (wordsOfTapRows (net .taps)) taps
+
+  told : Given cs ks rows taps net
+  told = given-tells cs ks rows taps net e
+
+  pub can-build : CanBuild cs ks
+  can-build = given-can-build cs ks rows taps net told bounds
+
+  rows-few : length (net .rows) ≤ 3841
+  rows-few = rw (told .network) (built-few cs ks can-build)
+
+  taps-are : length (net .taps) ≡ length cs
+  taps-are = ap (λ (x : Network). length (x .taps)) (told .network) ∙ length-built-taps cs ks
+
+  rows-left : rowsLeft ≡ wordsOfRows (net .rows) ++ drop (length (wordsOfRows (net .rows))) rows
+  rows-left = rw e
+
+  taps-left : tapsLeft ≡ wordsOfTapRows (net .taps) ++ drop (length (wordsOfTapRows (net .taps))) taps
+  taps-left = rw e
+
+  pub network-left : networkOf rowsLeft (length (net .rows)) tapsLeft (length cs) ≡ net
+  network-left =
+      ap (λ (m : ℕ). networkOf rowsLeft (length (net .rows)) tapsLeft m) (sym taps-are)
+      ∙ ap (λ (l : List ℕ). networkOf l (length (net .rows)) tapsLeft (length (net .taps))) rows-left
+      ∙ ap (λ (l : List ℕ). networkOf (wordsOfRows (net .rows) ++ drop (length (wordsOfRows (net .rows))) rows) (length (net .rows)) l (length (net .taps))) taps-left
+      ∙ network-of-words net (drop (length (wordsOfRows (net .rows))) rows) (drop (length (wordsOfTapRows (net .taps))) taps)
+
+  pub length-rows-left : length rowsLeft ≡ length rows
+  length-rows-left = ap length rows-left ∙ filled-length (wordsOfRows (net .rows)) rows (omega (arith, length-row-words (net .rows), rows-few, told .rows-long))
+
+  pub length-taps-left : length tapsLeft ≡ length taps
+  length-taps-left = ap length taps-left ∙ filled-length (wordsOfTapRows (net .taps)) taps (omega (arith, length-tap-words (net .taps), taps-are, told .taps-long, told .taps-to))
+
+  -- an entry whose own tables are long enough accepts it
+  pub built-accepted : networkAnswer false rowsLeft (length (net .rows)) tapsLeft (length cs) ≡ given cs
+  built-accepted =
+      accepted-given false rowsLeft (length (net .rows)) tapsLeft (length cs) cs
+      (record {
+        taps-from = told .taps-from;
+        taps-to = told .taps-to;
+        rows-long = omega (arith, length-rows-left, told .rows-long);
+        taps-long = omega (arith, length-taps-left, told .taps-long);
+        others-long = refl;
+        passed = subst (λ (x : Network). Passed x cs) (sym (told .network) ∙ sym network-left) (built-passed cs ks can-build);
+      })

@@ -1,0 +1,51 @@
+-- Demand 3 whole, proved.
+use mathlib.Core.Path.{_≡_, refl, sym, ap, _∙_, subst}
+use mathlib.Core.Bool.{Bool, true, false, not}
+use mathlib.Core.List.{List}
+use Prim.Native.Nat.{ℕ, _*_, _<_, _≤_}
+use native.Mathlib.Omega.{arith}
+use borrow.Author.Tests.{eq-eqb, lt-ltb}
+use lib.Dec.{ltb, eqb}
+use lib.IntN.{ℤ, pos}
+use lib.ListN.{length, getD}
+use Rattle.refusal.specs.Answer.{given}
+use Rattle.signed_digit.specs.Forms.{listing}
+use Rattle.coefficient.specs.Parts.{Parts, no-odd-part, parts, partsOf}
+use Rattle.form_listing.proofs.Written.{minimal-forms-written}
+use Rattle.network.specs.Rows.{Network, networkOf, rowWords, tapWords}
+use Rattle.building.specs.TapRows.{built}
+use Rattle.building.specs.Answer.{noSuchForm, buildAnswer}
+use Rattle.building.proofs.Answers.{exist-forms, network-given, not-short}
+use Rattle.building.proofs.BuiltTables.{network-left, built-accepted}
+use Rattle.filter.specs.Memory.{Lending}
+use Rattle.filter.specs.Demand.{EachFair, Demand}
+use Rattle.filter.proofs.Theorem.{running-sums}
+use Rattle.guarantee.specs.Demand3.{Listed, Taken, rowsLeft, tapsLeft, Guaranteed, Demand3}
+
+-- a choice that is listed is one of the forms
+has-form : (p : Parts) (choice : ℕ) → Listed p choice → noSuchForm p choice ≡ false
+unfolding noSuchForm
+has-form no-odd-part choice l = ap not (eq-eqb choice 0 l)
+has-form (parts sign oddPart shift) choice l = ap not (lt-ltb choice (length (listing 32 (pos oddPart))) l)
+
+module _ (cs : List ℤ) (ks rows taps : List ℕ) (t : Taken cs ks) (rows-long : 4096 * rowWords ≤ length rows) (taps-long : 256 * tapWords ≤ length taps) where
+  accepted : buildAnswer cs ks rows taps ≡ given (built cs ks)
+  accepted =
+      let l : length cs ≤ length ks = omega (arith, t .one-per-tap) in
+      network-given cs ks rows taps (t .from-1) (t .to-256) (not-short cs ks rows taps l rows-long taps-long)
+      (exist-forms cs ks l (λ (i : ℕ) h. has-form (partsOf (getD cs i (pos 0))) (getD ks i 0) (t .listed i h)))
+
+  held : networkOf (rowsLeft cs ks rows taps) (length (built cs ks .rows)) (tapsLeft cs ks rows taps) (length cs) ≡ built cs ks
+  held = network-left cs ks rows taps (built cs ks) accepted (t .within-bounds)
+
+  sums : (calls : List Lending) → EachFair (built cs ks) calls → Demand cs (built cs ks) calls
+  sums calls f =
+      subst (λ (net : Network). Demand cs net calls) held
+      (running-sums cs (rowsLeft cs ks rows taps) (length (built cs ks .rows)) (tapsLeft cs ks rows taps) (length cs)
+      (built-accepted cs ks rows taps (built cs ks) accepted (t .within-bounds)) calls (subst (λ (net : Network). EachFair net calls) (sym held) f))
+
+  guaranteed : Guaranteed cs ks rows taps
+  guaranteed = record { accepts = accepted; holds = held; sums = sums }
+
+pub demand-3 : Demand3
+demand-3 = record { listings = minimal-forms-written; networks = guaranteed }

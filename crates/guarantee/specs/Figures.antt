@@ -1,0 +1,50 @@
+-- All figures that document 01, "Bench figures", marks [P], in one list. Definitions only; the theorem is in proofs/Figures.antt.
+use mathlib.Core.Path.{_≡_}
+use mathlib.Core.List.{List, [], _∷_, _++_}
+use Prim.Native.Nat.{ℕ, _*_, _≤_}
+use lib.IntN.{ℤ, pos, negℤ, negsuc}
+use lib.ListN.{length, replicate}
+use Rattle.refusal.specs.Answer.{given}
+use Rattle.signed_digit.proofs.Figures.{Figures}
+use Rattle.tap.proofs.Figures.{TapFigures}
+use Rattle.network.specs.Rows.{Network, rowWords, tapWords, plus, minus, noTap}
+use Rattle.building.specs.Steps.{firstRow}
+use Rattle.building.specs.TapRows.{built}
+use Rattle.filter.specs.Run.{runAnswer, runOutputs}
+use Rattle.guarantee.specs.Demand3.{rowsLeft, tapsLeft}
+
+-- the sheet's filter: 3, -6, 45, 0 with choices 0
+abbrev pub sheetTaps : List ℤ
+sheetTaps = pos 3 ∷ negsuc 5 ∷ pos 45 ∷ pos 0 ∷ []
+
+abbrev pub noChoices : List ℕ
+noChoices = 0 ∷ 0 ∷ 0 ∷ 0 ∷ []
+
+-- the samples 1, 2, -32768 and what they give
+abbrev pub samples : List ℤ
+samples = pos 1 ∷ pos 2 ∷ negℤ (pos 32768) ∷ []
+
+abbrev pub outputs : List ℤ
+outputs = pos 3 ∷ pos 0 ∷ negℤ (pos 98271) ∷ []
+
+-- from cleared registers, with the tables that `build` leaves for it, whatever lies past the tables' rows, the registers and the outputs
+pub record SheetFilter (rows taps beyond : List ℕ) (a b c : ℤ) (rest : List ℤ) : Type 0 where
+  pub answer : runAnswer (rowsLeft sheetTaps noChoices rows taps) (length (built sheetTaps noChoices .rows)) (tapsLeft sheetTaps noChoices rows taps) (length sheetTaps) samples
+      (length (replicate 256 0 ++ beyond)) (length (a ∷ b ∷ c ∷ rest)) ≡ given sheetTaps
+  pub given-outputs : runOutputs (given sheetTaps) samples (replicate 256 0 ++ beyond) (a ∷ b ∷ c ∷ rest) ≡ outputs ++ rest
+
+-- the rows and tap rows of the sheet
+abbrev pub sheet : Network
+sheet = record {
+  rows = firstRow ∷ record { left = 0; right = 0; shift = 1; sign = plus; value = 3 } ∷ record { left = 1; right = 1; shift = 4; sign = minus; value = 45 } ∷ [];
+  taps = record { sign = plus; row = 1; shift = 0 } ∷ record { sign = minus; row = 1; shift = 1 } ∷ record { sign = plus; row = 2; shift = 0 } ∷ noTap ∷ [];
+}
+
+pub record ProvedFigures : Type 0 where
+  -- "Forms of 45 .. in order", of 180, -45, 3, 11, 13, 0, 1, 2^31 - 1 and -2^31
+  pub forms : Figures
+  -- "0.625 at F = 2", and its neighbours
+  pub taps : TapFigures
+  -- "The sheet's filter": its rows, and "cleared, samples 1, 2, -32768: 3, 0, -98271"
+  pub rows-of-the-sheet : built sheetTaps noChoices ≡ sheet
+  pub sheet-filter : (rows taps beyond : List ℕ) (a b c : ℤ) (rest : List ℤ) → 4096 * rowWords ≤ length rows → 256 * tapWords ≤ length taps → SheetFilter rows taps beyond a b c rest

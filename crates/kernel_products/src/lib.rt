@@ -1,0 +1,122 @@
+// Registers and products as 64-bit words: one product with its sign, and four at a time in offset
+// binary, where a number is stored with half its range added, so that a product of two is one
+// multiplication without a sign. Every function here serves the crate `kernel`.
+ghost use mathlib.Core.Path.{_≡_};
+ghost use Prim.Native.Nat.{_≤_, _+_, _*_, _%_};
+ghost use lib.IntN.{pos, _+ℤ_, _*ℤ_};
+ghost use mir.Syntax.{w64};
+ghost use mir.Val.{ofZ, toZ};
+ghost use Rattle.convolution.specs.Words.{wrapped};
+ghost use Rattle.kernel_products.specs.Offset.{coefficientIn, sampleIn, coefficientCorrection, sampleCorrection, fourSums};
+
+// The 64-bit pattern of n in two's complement.
+fn pattern(n: i64) -> u64
+    ensures { λ r. ⌜ r ≡ ofZ w64 n ⌝ }
+{
+    if n < 0 {
+        18446744073709551615 - (!n) as u64
+    } else {
+        n as u64
+    }
+}
+
+// A word read as signed.
+pub fn signed(word: u64) -> i64
+    ensures { λ r. ⌜ r ≡ toZ w64 word ⌝ }
+{
+    if word < 9223372036854775808 {
+        word as i64
+    } else {
+        !((18446744073709551615 - word) as i64)
+    }
+}
+
+fn product(c: i32, x: i16) -> i64
+    ensures { λ r. ⌜ r ≡ c *ℤ x ⌝ }
+{
+    (c as i64) * (x as i64)
+}
+
+// A register and the product of a coefficient and a sample.
+pub fn sum(register: u64, c: i32, x: i16) -> u64
+    ensures { λ s. ⌜ s ≡ wrapped (pos register +ℤ c *ℤ x) ⌝ }
+{
+    std::num::wrapping_add_u64(register, pattern(product(c, x)))
+}
+
+// A coefficient with 2^31 added.
+pub fn offset_coefficient(n: i32) -> u64
+    ensures { λ r. ⌜ coefficientIn r ≡ n ⌝ }
+{
+    if n < 0 {
+        2147483647 - (!n) as u64
+    } else {
+        n as u64 + 2147483648
+    }
+}
+
+// A sample with 2^15 added.
+pub fn offset_sample(x: i16) -> u16
+    ensures { λ r. ⌜ sampleIn r ≡ x ⌝ }
+{
+    if x < 0 {
+        32767 - (!x) as u16
+    } else {
+        x as u16 + 32768
+    }
+}
+
+// One multiplication without a sign.
+fn part(c: u64, y: u16) -> u64
+    ensures { λ r. ⌜ (r ≡ (c % 4294967296) * y) × (r ≤ 281474976710656) ⌝ }
+{
+    (c % 4294967296) * (y as u64)
+}
+
+// What the offsets of four coefficients add to the four products, to be taken off.
+pub fn coefficient_correction(a: u64, b: u64, c: u64, d: u64) -> u64
+    ensures { λ r. ⌜ r ≡ coefficientCorrection a b c d ⌝ }
+{
+    1125899906842624 - 32768 * (a % 4294967296 + b % 4294967296 + c % 4294967296 + d % 4294967296)
+}
+
+fn word(y: u16) -> u64
+    ensures { λ r. ⌜ r ≡ y ⌝ }
+{
+    y as u64
+}
+
+// The same of four samples.
+pub fn sample_correction(a: u16, b: u16, c: u16, d: u16) -> u64
+    ensures { λ r. ⌜ r ≡ sampleCorrection a b c d ⌝ }
+{
+    18445899648779419648 - 2147483648 * (word(a) + word(b) + word(c) + word(d))
+}
+
+// A register and four products; t and z are the corrections of the coefficients and the samples.
+// Internal: its caller has worked them out.
+pub fn four(
+    register: u64,
+    c0: u64,
+    c1: u64,
+    c2: u64,
+    c3: u64,
+    y0: u16,
+    y1: u16,
+    y2: u16,
+    y3: u16,
+    t: u64,
+    z: u64,
+) -> u64
+    requires { ⌜ (t ≡ coefficientCorrection c0 c1 c2 c3) × (z ≡ sampleCorrection y0 y1 y2 y3) ⌝ }
+    ensures { λ r. ⌜ r ≡ fourSums register (coefficientIn c0) (coefficientIn c1) (coefficientIn c2) (coefficientIn c3) (sampleIn y0) (sampleIn y1) (sampleIn y2) (sampleIn y3) ⌝ }
+{
+    let p0 = part(c0, y0);
+    let p1 = part(c1, y1);
+    let p2 = part(c2, y2);
+    let p3 = part(c3, y3);
+    let p = p0 + p1 + p2 + p3;
+    let s = std::num::wrapping_add_u64(register, p);
+    let e = std::num::wrapping_add_u64(t, z);
+    std::num::wrapping_add_u64(s, e)
+}

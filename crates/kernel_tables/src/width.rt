@@ -1,0 +1,29 @@
+// How many registers are in use.
+ghost use mathlib.Core.Path.{_≡_};
+ghost use Prim.Native.Nat.{_≤_, min};
+ghost use lib.ListN.{length};
+ghost use Rattle.kernel_tables.specs.Quiet.{Quiet};
+
+pub fn least(a: usize, b: usize) -> usize
+    ensures { λ r. ⌜ r ≡ min a b ⌝ }
+{
+    if a < b { a } else { b }
+}
+
+// From the number returned on, registers and coefficients are 0.
+pub fn used(h: &[i32; 256], registers: &[u64]) -> usize
+    requires { ⌜ (length (now h) ≡ 256) × (256 ≤ length (now registers)) ⌝ }
+    ensures { λ r. ⌜ Quiet r (now (h .entry)) (now (registers .entry)) ⌝ }
+{
+    let mut w: usize = 256;
+    while w > 0 {
+        if registers[w - 1] != 0 {
+            return w;
+        }
+        if h[w - 1] != 0 {
+            return w;
+        }
+        w -= 1;
+    }
+    0
+}

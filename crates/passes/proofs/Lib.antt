@@ -1,4 +1,0 @@
-pub mod Fronts
-pub mod Places
-pub mod Moves
-pub mod Outputs
