@@ -1,6 +1,4 @@
 // A network built from coefficients and chosen forms.
-mod tap_rows;
-
 ghost use mathlib.Core.Path.{_≡_};
 ghost use Prim.Native.Nat.{_≤_};
 ghost use Rattle.refusal.specs.Answer.{filled};

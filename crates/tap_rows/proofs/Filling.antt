@@ -13,7 +13,7 @@ use Rattle.network.specs.Rows.{tapWords, tapRowsOf}
 use Rattle.building.specs.Tables.{wordsOfTapRows}
 use Rattle.building.proofs.TapWritten.{withTapRow, rest-kept, length-written, taps-written}
 use Rattle.building.proofs.Words.{table-with-taps}
-use Rattle.builder.specs.Plan.{over}
+use Rattle.tap_rows.specs.Table.{over}
 
 module _ (f : ℤ → TapRow) (cs : List ℤ) (old : List ℕ) where
   -- the tap rows of the first j coefficients are written
