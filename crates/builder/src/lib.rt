@@ -73,7 +73,7 @@ fn write_many(
     requires { ⌜ Planned (now coefficients) (now choices) (now keys) m (now rows) (now taps) ⌝ }
     ensures { λ r. ⌜ Written (now (coefficients .entry)) (now (choices .entry)) (now (rows .entry)) (now (taps .entry)) (now (rows .exit)) (now (taps .exit)) r ⌝ }
 {
-    let mut heads = [0u16; 65536];
+    let mut heads = [0u16; 131072];
     let mut links = [0u16; 4096];
     write_network(
         coefficients,
