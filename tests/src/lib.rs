@@ -3,6 +3,7 @@
 
 pub mod answer;
 pub mod binary64;
+pub mod building;
 pub mod coefficients;
 pub mod core;
 pub mod fast;

@@ -18,6 +18,8 @@ fn main() {
     bench::forms::run();
     println!("\nNetworks");
     bench::network::run();
+    println!("\nBuilding, with the first forms");
+    bench::building::run();
     println!(
         "\nRunning, each call best of {}; a call checks its network",
         bench::running::REPETITIONS

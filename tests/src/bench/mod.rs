@@ -1,5 +1,6 @@
 //! Times versions of the same in one run, in turns.
 
+pub mod building;
 pub mod forms;
 pub mod network;
 pub mod running;

@@ -24,7 +24,7 @@ fn random_taps() -> Vec<f64> {
 }
 
 /// A low-pass of 101 taps with a Hamming window, its edge at an eighth of the sample rate.
-fn low_pass() -> Vec<f64> {
+pub fn low_pass() -> Vec<f64> {
     let tap = |i: i32| {
         let x = (i - 50) as f64;
         let ideal = if i == 50 {
