@@ -95,9 +95,9 @@ fn change_argument(random: &mut Random, argument: &mut Option<Vec<u8>>) {
 pub fn changed(random: &mut Random, input: &Input) -> Input {
     let mut input = input.clone();
     for _ in 0..=random.below(4) {
-        match random.below(8) {
+        match random.below(16) {
             0 => change_argument(random, &mut input.argument),
-            1 | 2 => change_bytes(random, &mut input.bytes),
+            1 => change_bytes(random, &mut input.bytes),
             _ => change_taps(random, &mut input.bytes),
         }
     }
