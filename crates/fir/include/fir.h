@@ -9,6 +9,7 @@
  *   3 a lent table is too short      7 the sum is zero, infinite or not a number (place 0),
  *   4 more than 31 fraction bits       or a quotient is infinite
  *   8 the masks of a form overlap (place: the lowest digit that is in both)
+ *   9 a choice is not below the number of forms
  *  10 a row breaks the row rule, or there are none or more than 4096 rows (place 0)
  *  11 a tap row breaks the tap row rule
  * Where nothing else is said, the lower half is the place of the refusal, counted from 0, and 0
@@ -78,6 +79,16 @@ uint64_t fir_form_count(int32_t n, uint32_t *count);
  *   rows[rows_length]  at least 20480 words, of which row_count rows are the network's
  *   taps[taps_length]  at least 768 words, of which tap_count tap rows are the network's
  * What lies past them in the tables does not matter. */
+
+/* Builds the network of coefficients[coefficient_count], one tap row for each. choices[choice_count]
+ * has for each coefficient the number of a minimal form of its odd part, counted from 0 in the order of
+ * fir_minimal_forms, and 0 for a coefficient of 0; of equal odd parts the earliest choice is used. The
+ * rows and tap rows are written from the start of the tables, which are untouched past them, and
+ * *row_count is the number of rows, at most 3841; one less is the number of adders. Turned down with
+ * 1, 2, 3 (also where there are fewer choices than coefficients) or 9. */
+uint64_t fir_build(const int32_t *coefficients, size_t coefficient_count, const uint32_t *choices,
+                   size_t choice_count, uint32_t *rows, size_t rows_length, uint32_t *taps,
+                   size_t taps_length, size_t *row_count);
 
 /* Whether the tables hold a network that keeps the rules. Turned down with 1, 2, 3, 10 or 11. */
 uint64_t fir_check(const uint32_t *rows, size_t rows_length, size_t row_count,

@@ -19,6 +19,13 @@ use Rattle.network.specs.TapRowRule.{TapRowRule}
 use Rattle.network.specs.Check.{breaksRowRule, breaksTapRowRule, numbers, checked, shortTables, networkAnswer}
 use Rattle.network.proofs.Rules.{row-rule, row-kept, tap-rule, tap-kept}
 
+-- the number at place i is i
+length-numbers : (n : ℕ) → length (numbers n) ≡ n
+length-numbers n = length-upTo n _
+
+number-at : (n i : ℕ) → i < n → getD (numbers n) i 0 ≡ i
+number-at n i l = getD-upTo n _ 0 i l
+
 -- a network that passes, and its coefficients h
 pub record Passed (net : Network) (h : List ℤ) : Type 0 where
   -- "network rows 1 to 4,096"
@@ -77,7 +84,7 @@ checked-passed net h e =
     let t = given-at (lowest (breaksTapRowRule rs) (net .taps)) 11 _ h (r .1) in
     let w = neither (eqb n 0) (ltb 4096 n) (c .0) in
     let kept : (i : ℕ) → i < n → keepsRowRule rs i ≡ true =
-    λ i l. not-false (keepsRowRule rs i) (ap (breaksRowRule rs) (sym (getD-upTo n (λ (k : ℕ). k) 0 i l)) ∙ lowest-none-at 0 (breaksRowRule rs) 0 (numbers n) i (r .0) (omega (arith, length-upTo n (λ (k : ℕ). k)))) in
+    λ i l. not-false (keepsRowRule rs i) (ap (breaksRowRule rs) (sym (number-at n i l)) ∙ lowest-none-at 0 (breaksRowRule rs) 0 (numbers n) i (r .0) (omega (arith, length-numbers n))) in
     record {
       rows-from = some n (eqb-false n 0 (w .0));
       rows-to = ltb-false 4096 n (w .1);
@@ -93,13 +100,13 @@ passed-checked net h p =
     checked-is net
     ∙ check-passes (eqb n 0 || ltb 4096 n) 10 _ (rw (ne-eqb n 0 (above n (p .rows-from)), le-ltb 4096 n (p .rows-to)))
     ∙ ap (λ (w : Place). refuseAt w 10 (refuseAt (lowest (breaksTapRowRule rs) (net .taps)) 11 (given (coefficients net))))
-    (all-keep 0 (breaksRowRule rs) 0 (numbers n) (λ i l. row-at i (omega (arith, length-upTo n (λ (k : ℕ). k)))))
+    (all-keep 0 (breaksRowRule rs) 0 (numbers n) (λ i l. row-at i (omega (arith, length-numbers n))))
     ∙ ap (λ (w : Place). refuseAt w 11 (given (coefficients net)))
     (all-keep noTap (breaksTapRowRule rs) 0 (net .taps) (λ j l. ap not (tap-kept rs (tapRowIn (net .taps) j) (p .taps j l))))
     ∙ ap given (sym (p .result))
   where
     row-at : (i : ℕ) → i < length (net .rows) → breaksRowRule (net .rows) (getD (numbers (length (net .rows))) i 0) ≡ false
-    row-at i l = ap (breaksRowRule (net .rows)) (getD-upTo (length (net .rows)) (λ (k : ℕ). k) 0 i l) ∙ ap not (row-kept (net .rows) i (p .rows i l))
+    row-at i l = ap (breaksRowRule (net .rows)) (number-at (length (net .rows)) i l) ∙ ap not (row-kept (net .rows) i (p .rows i l))
 
 module _ (short : Bool) (rows : List ℕ) (rowCount : ℕ) (taps : List ℕ) (tapCount : ℕ) (h : List ℤ) where
   answer-is : networkAnswer short rows rowCount taps tapCount

@@ -17,11 +17,11 @@ const ROW_WORDS: usize = 5;
 const TAP_WORDS: usize = 3;
 
 // The signs of rows and tap rows, as they are stored; an empty tap row has none.
-const PLUS: u32 = 43;
+pub const PLUS: u32 = 43;
 
-const MINUS: u32 = 45;
+pub const MINUS: u32 = 45;
 
-const REVERSED: u32 = 114;
+pub const REVERSED: u32 = 114;
 
 const NONE: u32 = 0;
 
@@ -54,7 +54,8 @@ fn read_row(rows: &[u32], i: usize) -> Row
     }
 }
 
-fn read_value(rows: &[u32], i: usize) -> u32
+// The value of row i. Internal: the crates above ask for the table's length.
+pub fn read_value(rows: &[u32], i: usize) -> u32
     requires { ⌜ rowWords * i + rowWords ≤ length (now rows) ⌝ }
     ensures { λ r. ⌜ r ≡ rowAt (now (rows .entry)) i .value ⌝ }
 {

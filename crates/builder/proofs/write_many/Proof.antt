@@ -1,0 +1,47 @@
+-- `builder::write_many` meets its contract. Assumes nothing.
+use borrow.Author.Needs.{needs}
+use mathlib.Core.Path.{refl}
+use Prim.Native.Nat.{ℕ, _-_, _≤_, _<_}
+use lib.Dec.{lit<, lit≤}
+use lib.ListN.{replicate}
+use Rattle.row_index.proofs.Empty.{indexed-none}
+use Rattle.builder.proofs.Plans.{room-many}
+use Rattle.builder.proofs.write_many.Statement.{statement}
+use Rattle.builder.proofs.write_many.Tie as tie
+
+slice-aggregate-write-network : tie.Need-slice-aggregate-write-network
+slice-aggregate-write-network c = search needs
+
+slice-aggregate-write-network-2 : tie.Need-slice-aggregate-write-network-2
+slice-aggregate-write-network-2 c = search needs
+
+write-network-requires : tie.Need-write-network-requires
+write-network-requires c κs =
+    let s = c .before .before .before .before .before .before .before .before in
+    let a = s .args in (
+      s .pre,
+      record {
+        index = indexed-none (a .rows .now) (replicate {A = ℕ} 32768 0) (replicate {A = ℕ} 4096 0) 32768 refl (lit< tt);
+        room = room-many (a .coefficients .now) (a .choices .now) (a .keys .now) (a .m) (a .rows .now) (a .taps .now) (s .pre) (replicate {A = ℕ} 4096 0) (lit≤ tt);
+      },
+    )
+
+same-length : tie.Need-same-length
+same-length c = search needs
+
+same-length-2 : tie.Need-same-length-2
+same-length-2 c = search needs
+
+returns : tie.Need-returns
+returns c = search needs
+
+pub write-many-spec : {M : Type 1} → statement M
+write-many-spec =
+    tie.close
+    (tie.spec
+    slice-aggregate-write-network
+    slice-aggregate-write-network-2
+    write-network-requires
+    same-length
+    same-length-2
+    returns)

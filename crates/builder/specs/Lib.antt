@@ -1,0 +1,3 @@
+pub mod Answer
+-- For the contracts of the internal functions:
+pub mod Plan

@@ -1,0 +1,7 @@
+pub mod FormNumbers
+pub mod Weights
+pub mod Rises
+pub mod Slots
+pub mod Shifts
+pub mod KeyParts
+pub mod Taken

@@ -1,0 +1,5 @@
+pub mod FirstOver
+pub mod Tries
+pub mod Shifts
+pub mod OddPart
+pub mod Lefts

@@ -1,0 +1,3 @@
+pub mod NewRow
+-- For the contracts of the internal functions:
+pub mod Pairs

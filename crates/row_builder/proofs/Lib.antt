@@ -1,0 +1,4 @@
+pub mod Bounds
+pub mod Longer
+pub mod Searches
+pub mod Rounds

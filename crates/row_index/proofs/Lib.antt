@@ -1,0 +1,8 @@
+-- For the proofs of the crates above:
+pub mod Empty
+pub mod Growth
+pub mod Values
+-- What they and the proofs of the functions rest on:
+pub mod Compare
+pub mod Written
+pub mod Chains

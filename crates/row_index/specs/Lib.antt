@@ -1,0 +1,3 @@
+pub mod Found
+-- For the contracts of the internal functions:
+pub mod Index
