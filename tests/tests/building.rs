@@ -7,7 +7,7 @@ use builds::{check, Tally};
 use fir_tests::answer::Answer;
 use fir_tests::building::call::Call;
 use fir_tests::building::search::{by_value, over_all_rows};
-use fir_tests::building::{hard, mixture};
+use fir_tests::building::{hard, literal, mixture};
 use fir_tests::network::{MOST_TAPS, ROW_TABLE, TAP_TABLE};
 use fir_tests::random::Random;
 
@@ -121,8 +121,10 @@ fn small_sets() {
     for _ in 0..SMALL_SETS {
         let count = 1 + random.below(6);
         let call = mixture::call_of(&mut random, count);
-        let built = check(&call, over_all_rows, &mut tally);
-        assert_eq!(check(&call, by_value, &mut Tally::default()), built);
+        let built = check(&call, over_all_rows, &mut tally).unwrap();
+        let listings = literal::listings(&call);
+        let (again, _) = literal::built(&call, &listings, by_value).unwrap();
+        assert_eq!(again, built);
     }
     println!("{tally:?}");
     assert_eq!(tally.accepted, SMALL_SETS);
@@ -174,18 +176,18 @@ fn heaviest_sets() {
     assert!(tally.most_rows > 2000);
 }
 
-/// A set with many rows, every right row tried.
+/// Random coefficients of 31 bits: half of them with every right row tried, then all.
 #[test]
-fn large_set_over_all_rows() {
+fn random_coefficients_of_31_bits() {
     let mut random = Random::new(2);
-    let coefficients: Vec<i32> = (0..128).map(|_| (random.bits() >> 33) as i32).collect();
-    let call = Call::first_forms(&coefficients);
-    let built = check(&call, over_all_rows, &mut Tally::default()).unwrap();
-    println!("{} rows", built.rows.len());
-    let full: Vec<i32> = (128..256).map(|_| (random.bits() >> 33) as i32).collect();
-    let call = Call::first_forms(&[coefficients, full].concat());
-    let built = check(&call, by_value, &mut Tally::default()).unwrap();
-    assert_eq!(built.rows.len(), 1929);
+    let mut next = |_| (random.bits() >> 33) as i32;
+    let coefficients: Vec<i32> = (0..MOST_TAPS).map(&mut next).collect();
+    let rows = |count: usize, search| {
+        let call = Call::first_forms(&coefficients[..count]);
+        check(&call, search, &mut Tally::default()).unwrap().rows
+    };
+    assert_eq!(rows(MOST_TAPS / 2, over_all_rows).len(), 1009);
+    assert_eq!(rows(MOST_TAPS, by_value).len(), 1929);
 }
 
 fn assert_each_kind(tally: &Tally, often: usize) {

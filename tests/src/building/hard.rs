@@ -51,6 +51,11 @@ pub fn searches() -> Vec<Figure> {
                 [1, 3, 30, MINUS, (1 << 31) - 5],
             ],
         ),
+        // 2^31 - 3, with the largest shift.
+        figure(
+            &[i32::MAX - 2, 3],
+            &[[0, 0, 1, PLUS, 3], [0, 1, 31, MINUS, (1 << 31) - 3]],
+        ),
         // 4 + 7 and 15 - 4.
         figure(
             &[15, 11, 7],

@@ -4,31 +4,17 @@
 use super::call::{Built, Call, Row, TapRow};
 use super::search::{row_with, Search};
 use crate::answer::Answer;
+use crate::coefficients::literal::reduce;
+use crate::coefficients::Reduced;
 use crate::forms::literal::{minimal_strings, weight, Digits};
 use crate::network::{MINUS, NONE, PLUS, ROW_TABLE, TAP_TABLE};
 use std::collections::HashMap;
 
 const FIRST: Row = [0, 0, 0, PLUS, 1];
 
-/// Sign × odd part × 2^shift.
-struct Reduced {
-    negative: bool,
-    odd_part: u32,
-    shift: u32,
-}
-
+/// Zero has no odd part.
 fn reduced(coefficient: i32) -> Option<Reduced> {
-    let mut rest = (coefficient as i64).abs();
-    let mut shift = 0;
-    while rest != 0 && rest % 2 == 0 {
-        rest /= 2;
-        shift += 1;
-    }
-    (rest != 0).then_some(Reduced {
-        negative: coefficient < 0,
-        odd_part: rest as u32,
-        shift,
-    })
+    (coefficient != 0).then(|| reduce(coefficient))
 }
 
 /// The listing of each odd part.
@@ -132,7 +118,7 @@ fn tap_row(rows: &[Row], coefficient: i32) -> TapRow {
         return [NONE, 0, 0];
     };
     let row = row_with(rows, part.odd_part).unwrap() as u32;
-    let sign = if part.negative { MINUS } else { PLUS };
+    let sign = [PLUS, MINUS][part.negative as usize];
     [sign, row, part.shift]
 }
 
