@@ -2,12 +2,15 @@
 
 use fir_tests::sheet::input::{packed, Input};
 use fir_tests::sheet::literal;
-use fir_tests::sheet::program::{root, run, Delivery, Ended};
+use fir_tests::sheet::program::{self, root, run, Delivery, Ended};
 use std::env::temp_dir;
 use std::ffi::OsStr;
-use std::fs::{create_dir_all, remove_dir_all, write};
+use std::fs::{
+    copy, create_dir_all, remove_dir_all, remove_file, set_permissions, write, Permissions,
+};
 use std::os::unix::ffi::OsStrExt;
-use std::path::PathBuf;
+use std::os::unix::fs::PermissionsExt;
+use std::path::{Path, PathBuf};
 use std::process::{id, Command};
 
 const EXAMPLE: [f64; 4] = [3.0 / 32768.0, -6.0 / 32768.0, 45.0 / 32768.0, 0.0];
@@ -122,4 +125,69 @@ fn closed_and_full() {
     let ended = through("exec \"$0\" >/dev/full");
     assert_eq!(ended.status, Some(2));
     assert!(!ended.errors.is_empty());
+}
+
+/// In place of `rt`: puts the program where `rt check sheet` does, or fails.
+fn write_rt(folder: &Path, fails: bool) {
+    let program = program::sheet();
+    let copied = format!(
+        "mkdir -p target/bin && cp '{}' target/bin/sheet",
+        program.display()
+    );
+    let line = if fails {
+        "echo not proved; exit 1"
+    } else {
+        &copied
+    };
+    let rt = folder.join("bin/rt");
+    let script = format!("#!/bin/sh\n[ \"$*\" = 'check sheet' ] || exit 9\n{line}\n");
+    write(&rt, script).unwrap();
+    set_permissions(&rt, Permissions::from_mode(0o755)).unwrap();
+}
+
+/// A copy of the command in a folder with a crate of one file.
+fn fresh_clone(folder: &Path) {
+    create_dir_all(folder.join("bin")).unwrap();
+    create_dir_all(folder.join("crates/sheet/src")).unwrap();
+    write(folder.join("crates.txt"), "sheet:\n").unwrap();
+    write(folder.join("crates/sheet/src/main.rt"), "").unwrap();
+    copy(root().join("sheet"), folder.join("sheet")).unwrap();
+}
+
+/// The program is built where it is missing or old, and only then; standard input is left to it.
+#[test]
+fn building_on_a_fresh_clone() {
+    let folder = folder("clone");
+    fresh_clone(&folder);
+    let path = format!("{}:{}", folder.join("bin").display(), env!("PATH"));
+    let call = || {
+        let mut command = Command::new(folder.join("sheet"));
+        run(
+            command.env("PATH", &path),
+            &packed(&EXAMPLE),
+            Delivery::AtOnce,
+        )
+    };
+    write_rt(&folder, true);
+    let ended = call();
+    assert_eq!((ended.status, ended.out.len()), (Some(2), 0));
+    assert!(ended.errors.contains("not proved\nsheet: rt check sheet\n"));
+    write_rt(&folder, false);
+    let sheet = literal::sheet(&Input::without_argument(&EXAMPLE));
+    let source = folder.join("crates/sheet/src/main.rt");
+    for _ in 0..3 {
+        let ended = call();
+        assert_eq!((ended.status, &ended.out), (Some(0), &sheet));
+        assert!(
+            ended.errors.contains("sheet: proved and built in "),
+            "{}",
+            ended.errors
+        );
+        let again = call();
+        assert_eq!((again.out, again.errors.as_str()), (sheet.clone(), ""));
+        write(&source, "// changed").unwrap();
+    }
+    remove_file(folder.join("target/bin/sheet")).unwrap();
+    assert!(call().errors.contains("sheet: proved and built in "));
+    remove_dir_all(folder).unwrap();
 }
