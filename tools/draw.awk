@@ -21,7 +21,7 @@ function sum(left, shift, sign, right) {
     return shifted(left, shift) " " sign " " source(right)
 }
 
-function text_line(name, how, value) { printf "%-8s = %-36s = %s\n", name, how, value == 0 ? 0 : value "x" }
+function text_line(name, how, value) { printf "%-9s = %-36s = %s\n", name, how, value == 0 ? 0 : value "x" }
 
 function vertex(name, kind, number, value, shape) {
     printf "    %s%s [label=\"%s %s\\n%s\", shape=%s];\n", name, number, kind, number, value, shape

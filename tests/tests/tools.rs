@@ -134,7 +134,7 @@ fn drawing_as_text() {
     assert_eq!(lines, wanted);
     let sheet = read(root().join("examples/raised_cosine.csv")).unwrap();
     let text = String::from_utf8(written("draw", &["--text"], &sheet)).unwrap();
-    assert!(text.contains("\nnode 4   = node 3 - (x << 2)  "), "{text}");
+    assert!(text.contains("\nnode 4    = node 3 - (x << 2)  "), "{text}");
 }
 
 #[test]
