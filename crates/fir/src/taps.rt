@@ -11,18 +11,8 @@ ghost use Rattle.tap_set.specs.declared.Report.{Report};
 ghost use Rattle.fir.specs.Words.{tapWord, refusalWord, isSet};
 use crate::answers::refusal_word;
 use tap::RoundedTap;
+use tap::pattern::of_bits;
 use tap_set::RoundedTaps;
-
-// The float of a bit pattern. There is one not-a-number, which every pattern of one stands for.
-fn of_bits(bits: u64) -> f64
-    ensures { λ r. ⌜ r ≡ Ieee.ofBits binary64 bits ⌝ }
-{
-    if (bits & 0x7fff_ffff_ffff_ffff) > 0x7ff0_0000_0000_0000 {
-        0.0 / 0.0
-    } else {
-        f64::from_bits(bits)
-    }
-}
 
 fn tap_word(tap: RoundedTap) -> u64
     ensures { λ r. ⌜ r ≡ tapWord (Tap.answerOf tap) ⌝ }

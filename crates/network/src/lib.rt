@@ -40,7 +40,8 @@ pub struct TapRow {
     pub shift: u32,
 }
 
-fn read_row(rows: &[u32], i: usize) -> Row
+// Row i. Internal: the crates above ask for the table's length.
+pub fn read_row(rows: &[u32], i: usize) -> Row
     requires { ⌜ rowWords * i + rowWords ≤ length (now rows) ⌝ }
     ensures { λ r. ⌜ r ≡ rowAt (now (rows .entry)) i ⌝ }
 {
@@ -62,7 +63,8 @@ pub fn read_value(rows: &[u32], i: usize) -> u32
     rows[ROW_WORDS * i + 4]
 }
 
-fn read_tap_row(taps: &[u32], j: usize) -> TapRow
+// Tap row j. Internal: the crates above ask for the table's length.
+pub fn read_tap_row(taps: &[u32], j: usize) -> TapRow
     requires { ⌜ tapWords * j + tapWords ≤ length (now taps) ⌝ }
     ensures { λ r. ⌜ r ≡ tapRowAt (now (taps .entry)) j ⌝ }
 {

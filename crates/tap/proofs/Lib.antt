@@ -11,3 +11,4 @@ pub mod Exact
 pub mod Distance
 pub mod Theorems
 pub mod Figures
+pub mod Nan

@@ -1,5 +1,6 @@
 // One binary64 tap rounded to a whole coefficient.
 pub mod finite;
+pub mod pattern;
 
 ghost use mathlib.Core.Path.{_≡_};
 ghost use mathlib.Core.Bool.{Bool, true, false};

@@ -1,8 +1,8 @@
--- `fir::taps::of_bits` meets its contract. Assumes nothing.
+-- `tap::pattern::of_bits` meets its contract. Assumes nothing.
 use borrow.Author.Needs.{needs}
-use Rattle.fir.proofs.Nan.{nan-read, not-nan}
-use Rattle.fir.proofs.taps.of_bits.Statement.{statement}
-use Rattle.fir.proofs.taps.of_bits.Tie as tie
+use Rattle.tap.proofs.Nan.{nan-read, not-nan}
+use Rattle.tap.proofs.pattern.of_bits.Statement.{statement}
+use Rattle.tap.proofs.pattern.of_bits.Tie as tie
 
 float-from-bits-result : tie.Need-float-from-bits-result
 float-from-bits-result c = not-nan (c .before .args .bits) (c .if1 .left)

@@ -1,0 +1,12 @@
+-- What the internal writers give. Definitions only.
+use mathlib.Core.Path.{_≡_}
+use mathlib.Core.List.{List}
+use Prim.Native.Nat.{ℕ, _+_, _≤_}
+use lib.ListN.{length}
+use lib.Seq.{sets}
+
+-- the area l got these bytes from index `at` on, no more than `most` of them, and is otherwise as it was: it is now e, and r is the index past them
+pub record Put (l : List ℕ) (at : ℕ) (bytes : List ℕ) (most : ℕ) (e : List ℕ) (r : ℕ) : Type 0 where
+  pub next : r ≡ at + length bytes
+  pub text : e ≡ sets l at bytes
+  pub within : r ≤ at + most

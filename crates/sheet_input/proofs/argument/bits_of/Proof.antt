@@ -1,0 +1,111 @@
+-- `sheet_input::argument::bits_of` meets its contract. Assumes nothing.
+use borrow.Author.Needs.{needs}
+use mathlib.Core.Path.{_≡_, refl, sym, ap, _∙_}
+use Prim.Native.Nat.{_≤_, _-_, _+_, _*_, _<_}
+use native.Mathlib.Omega.{arith}
+use lib.ListN.{length, drop, getD}
+use Rattle.refusal.specs.Answer.{given}
+use Rattle.sheet_input.specs.Argument.{areDigits, numberFrom}
+use Rattle.sheet_input.proofs.Digits.{digit-low, digit-high, digit-in, digits-next, digits-stop, digits-end, number-next, number-end, number-grows, refused-empty, refused-digits, refused-large, given-bits}
+use Rattle.sheet_input.proofs.argument.bits_of.Statement.{statement}
+use Rattle.sheet_input.proofs.argument.bits_of.Tie as tie
+
+abbrev Inv-loop : tie.InvT-loop
+Inv-loop text f₀ i₀ f i =
+    (i ≤ length text) × ((f ≤ 31) × ((areDigits text ≡ areDigits (drop i text)) × (numberFrom 0 text ≡ numberFrom f (drop i text))))
+
+abbrev μ-loop : tie.MeasureT-loop
+μ-loop text f₀ i₀ f i = length text - i
+
+returns : tie.Need-returns Inv-loop μ-loop
+returns c =
+    sym (refused-empty (c .before .before .args .text .now) (c .if1 .taken))
+
+loop-holds : tie.Need-loop-holds Inv-loop μ-loop
+loop-holds c =
+    (search needs, (search needs, (refl, refl)))
+
+shared-slice-read-b : tie.Need-shared-slice-read-b Inv-loop μ-loop
+shared-slice-read-b c = search needs
+
+returns-2 : tie.Need-returns-2 Inv-loop μ-loop
+returns-2 c =
+    let l = c .before .before .before .loop in
+    let t = c .before .before .before .before .before .before .args .text .now in
+    sym (refused-digits t (l .inv .1 .1 .0 ∙ digits-stop t (l .i) (c .before .before .loop-test .taken) (digit-low _ (c .if2 .taken))))
+
+returns-3 : tie.Need-returns-3 Inv-loop μ-loop
+returns-3 c =
+    let l = c .before .before .before .before .loop in
+    let t = c .before .before .before .before .before .before .before .args .text .now in
+    sym (refused-digits t (l .inv .1 .1 .0 ∙ digits-stop t (l .i) (c .before .before .before .loop-test .taken) (digit-high _ (c .if3 .taken))))
+
+mul-f : tie.Need-mul-f Inv-loop μ-loop
+mul-f c = search needs
+
+digit-requires : tie.Need-digit-requires Inv-loop μ-loop
+digit-requires c κs = search needs
+
+add-f : tie.Need-add-f Inv-loop μ-loop
+add-f c = search needs
+
+returns-4 : tie.Need-returns-4 Inv-loop μ-loop
+returns-4 c =
+    let l = c .before .before .before .before .before .before .loop in
+    let t = c .before .before .before .before .before .before .before .before .before .args .text .now in
+    let i = l .i in
+    let f = l .f in
+    let n = l .inv .1 .1 .1 ∙ number-next t i f (c .before .before .before .before .before .loop-test .taken) in
+    sym (refused-large t (omega (arith, n, c .before .digit .ensures, c .if4 .taken, number-grows (10 * f + (getD t i 0 - 48)) (drop (i + 1) t))))
+
+add-i : tie.Need-add-i Inv-loop μ-loop
+add-i c = search needs
+
+loop-less : tie.Need-loop-less Inv-loop μ-loop
+loop-less c = search needs
+
+loop-again : tie.Need-loop-again Inv-loop μ-loop
+loop-again c =
+    let l = c .before .before .before .before .before .before .loop in
+    let t = c .before .before .before .before .before .before .before .before .before .args .text .now in
+    let i = l .i in
+    let f = l .f in
+    let h = c .before .before .before .before .before .loop-test .taken in (
+      search needs,
+      (
+        search needs,
+        (
+          l .inv .1 .1 .0 ∙ digits-next t i h (digit-in _ (c .before .before .before .if2 .left) (c .before .before .if3 .left)),
+          l .inv .1 .1 .1 ∙ number-next t i f h ∙ ap (λ k. numberFrom (10 * f + k) (drop (i + 1) t)) (sym (c .before .digit .ensures)),
+        ),
+      ),
+    )
+
+returns-5 : tie.Need-returns-5 Inv-loop μ-loop
+returns-5 c =
+    let l = c .before .loop in
+    let t = c .before .before .before .before .args .text .now in
+    let h = c .loop-test .left in
+    let n = l .inv .1 .1 .1 ∙ number-end t (l .i) (l .f) h in
+    let p : 0 < length t = omega (arith, c .before .before .if1 .left) in
+    sym (given-bits t p (l .inv .1 .1 .0 ∙ digits-end t (l .i) h) (omega (arith, n, l .inv .1 .0)) ∙ ap given n)
+
+pub bits-of-spec : {M : Type 1} → statement M
+bits-of-spec =
+    tie.close
+    (tie.spec
+    Inv-loop
+    μ-loop
+    returns
+    loop-holds
+    shared-slice-read-b
+    returns-2
+    returns-3
+    mul-f
+    digit-requires
+    add-f
+    returns-4
+    add-i
+    loop-less
+    loop-again
+    returns-5)

@@ -1,0 +1,68 @@
+-- The lines, as the writers make them. Assumes nothing.
+use borrow.Author.Tests.{eq-eqb, ne-eqb}
+use mathlib.Core.Path.{_≡_, refl, sym, ap, _∙_}
+use mathlib.Core.List.{List, [], _∷_, _++_, append-assoc, append-nil}
+use Prim.Native.Nat.{ℕ, zero, suc, _+_}
+use native.Mathlib.Omega.{arith}
+use native.Mathlib.Numerals.{add-one}
+use lib.IntN.{ℤ}
+use lib.ListN.{length}
+use Rattle.sequence.specs.UpTo.{upTo}
+use Rattle.sequence.proofs.UpTo.{length-upTo}
+use Rattle.network.specs.declared.Row.{Row}
+use Rattle.network.specs.declared.TapRow.{TapRow}
+use Rattle.sheet_fields.specs.Ascii.{ascii}
+use Rattle.sheet_fields.specs.Numbers.{decimalBy, decimal}
+use Rattle.sheet_fields.specs.Put.{Put}
+use Rattle.sheet_fields.proofs.Puts.{then}
+use Rattle.sheet_lines.specs.Lines.{line, columns, nodeLine, laterLine, tapLine, emptyTapLine, productLine}
+use Rattle.sheet_lines.specs.Text.{linesFrom}
+use Rattle.sheet_lines.specs.Tables.{shared}
+
+-- the shared fields, and what comes after them
+shared-append : (i left shift sign : ℕ) (b : List ℕ) → shared i left shift sign [] ++ b ≡ shared i left shift sign b
+shared-append i left shift sign b = simp append-assoc
+
+pub after-shared : {l e f : List ℕ} {at r s m n : ℕ} {b : List ℕ} (i left shift sign : ℕ) → Put l at (shared i left shift sign []) m e r → Put e r b n f s
+    → Put l at (shared i left shift sign b) (m + n) f s
+after-shared {b = b} i left shift sign p q = rw (shared-append i left shift sign b) at (then p q)
+
+pub node-first : (i : ℕ) (r : Row) → i ≡ 0 → nodeLine i r ≡ ascii "node,0,,,,," ++ (decimal (r .value) ++ (13 ∷ 10 ∷ []))
+unfolding nodeLine columns line decimal decimalBy
+node-first zero r h = refl
+node-first (suc k) r h = absurd (omega arith)
+
+pub node-later : (i : ℕ) (r : Row) → (i ≡ 0 → ⊥) → nodeLine i r ≡ laterLine i r
+unfolding nodeLine
+node-later zero r h = absurd (h refl)
+node-later (suc k) r h = refl
+
+pub tap-none : (i : ℕ) (t : TapRow) (v : ℤ) → t .sign ≡ 0 → tapLine i t v ≡ emptyTapLine i
+unfolding tapLine
+tap-none i t v h = rw (eq-eqb (t .sign) 0 h)
+
+pub tap-some : (i : ℕ) (t : TapRow) (v : ℤ) → (t .sign ≡ 0 → ⊥) → tapLine i t v ≡ productLine i t v
+unfolding tapLine
+tap-some i t v h = rw (ne-eqb (t .sign) 0 h)
+
+-- ---- lines by number
+module _ {A : Type 0} (lineOf : ℕ → A → List ℕ) where
+  lines-more : (i : ℕ) (xs : List A) (x : A) → linesFrom lineOf i (xs ++ (x ∷ [])) ≡ linesFrom lineOf i xs ++ lineOf (i + length xs) x
+  unfolding linesFrom
+  lines-more i [] x = let e : i + 0 ≡ i = omega arith in rw e (append-nil (lineOf i x))
+  lines-more i (y ∷ xs) x =
+      let e : suc i + length xs ≡ i + suc (length xs) = omega arith in
+      ap (λ (l : List ℕ). lineOf i y ++ l) (lines-more (suc i) xs x ∙ ap (λ (k : ℕ). linesFrom lineOf (suc i) xs ++ lineOf k x) e)
+      ∙ sym (append-assoc (lineOf i y) (linesFrom lineOf (suc i) xs) (lineOf (i + suc (length xs)) x))
+
+  -- one line more
+  pub lines-next : (f : ℕ → A) (n : ℕ) → linesFrom lineOf 0 (upTo (n + 1) f) ≡ linesFrom lineOf 0 (upTo n f) ++ lineOf n (f n)
+  unfolding upTo
+  lines-next f n =
+      let e : 0 + length (upTo n f) ≡ n = omega (arith, length-upTo n f) in
+      ap (λ (k : ℕ). linesFrom lineOf 0 (upTo k f)) (add-one n) ∙ lines-more 0 (upTo n f) (f n) ∙ ap (λ (k : ℕ). linesFrom lineOf 0 (upTo n f) ++ lineOf k (f n)) e
+
+-- before the first line
+pub nothing-put : {A : Type 0} (lineOf : ℕ → A → List ℕ) (f : ℕ → A) (l : List ℕ) (at : ℕ) → Put l at (linesFrom lineOf 0 (upTo 0 f)) 0 l at
+unfolding upTo linesFrom
+nothing-put lineOf f l at = record { next = omega arith; text = refl; within = omega arith }

@@ -1,0 +1,48 @@
+-- `sheet_lines::fields::put_shared` meets its contract. Assumes nothing.
+use borrow.Author.Needs.{needs}
+use Rattle.sheet_fields.proofs.Puts.{then, comma}
+use Rattle.sheet_fields.specs.Numbers.{decimal}
+use Rattle.sheet_lines.proofs.fields.put_shared.Statement.{statement}
+use Rattle.sheet_lines.proofs.fields.put_shared.Tie as tie
+
+put-field-requires : tie.Need-put-field-requires
+put-field-requires c κs = search needs
+
+put-field-requires-2 : tie.Need-put-field-requires-2
+put-field-requires-2 c κs = search needs
+
+put-field-requires-3 : tie.Need-put-field-requires-3
+put-field-requires-3 c κs = search needs
+
+cast-put-byte : tie.Need-cast-put-byte
+cast-put-byte c = search needs
+
+put-byte-requires : tie.Need-put-byte-requires
+put-byte-requires c κs = search needs
+
+put-byte-requires-2 : tie.Need-put-byte-requires-2
+put-byte-requires-2 c κs = search needs
+
+same-length : tie.Need-same-length
+same-length c = search needs
+
+returns : tie.Need-returns
+returns c =
+    let x = c .before .before .before .before .before .before .before .before .before .before .before .before .before .before .before .before .before .before .before .before .before .args in
+    comma (decimal (x .number)) (c .before .before .before .before .before .before .before .before .before .before .before .before .before .before .before .before .before .before .put-field .ensures)
+    (comma (decimal (x .left)) (c .before .before .before .before .before .before .before .before .before .before .before .before .before .before .put-field2 .ensures)
+    (comma (decimal (x .shift)) (c .before .before .before .before .before .before .before .before .before .before .put-field3 .ensures)
+    (then (c .before .before .before .before .before .before .put-byte .ensures) (c .before .before .put-byte2 .ensures))))
+
+pub put-shared-spec : {M : Type 1} → statement M
+put-shared-spec =
+    tie.close
+    (tie.spec
+    put-field-requires
+    put-field-requires-2
+    put-field-requires-3
+    cast-put-byte
+    put-byte-requires
+    put-byte-requires-2
+    same-length
+    returns)

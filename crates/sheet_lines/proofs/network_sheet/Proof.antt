@@ -1,0 +1,57 @@
+-- `sheet_lines::network_sheet` meets its contract. Assumes nothing.
+use borrow.Author.Needs.{needs}
+use mathlib.Core.List.{List}
+use mathlib.Core.Path.{subst}
+use Prim.Native.Nat.{ℕ}
+use native.Mathlib.Omega.{arith}
+use Rattle.sheet_fields.proofs.Puts.{then, widen}
+use Rattle.sheet_fields.specs.Put.{Put}
+use Rattle.sheet_lines.proofs.Values.{network-written}
+use Rattle.sheet_lines.proofs.network_sheet.Statement.{statement}
+use Rattle.sheet_lines.proofs.network_sheet.Tie as tie
+
+put-header-requires : tie.Need-put-header-requires
+put-header-requires c κs = search needs
+
+node-lines-requires : tie.Need-node-lines-requires
+node-lines-requires c κs = search needs
+
+tap-lines-requires : tie.Need-tap-lines-requires
+tap-lines-requires c κs = search needs
+
+sub-total-line : tie.Need-sub-total-line
+sub-total-line c = search needs
+
+cast-total-line : tie.Need-cast-total-line
+cast-total-line c = search needs
+
+total-line-requires : tie.Need-total-line-requires
+total-line-requires c κs = search needs
+
+same-length : tie.Need-same-length
+same-length c = search needs
+
+returns : tie.Need-returns
+returns c =
+    let s = c .before .before .before .before .before .before .before .before .before .before .before .before .before .before .before .before .before .before .before in
+    let a = s .args in
+    let q = s .pre .0 in
+    let p = c .before .before .total-line in
+    subst (λ (t : List ℕ). Put (a .out .now) 0 t 262144 (p .last .0) (p .result)) (network-written (a .rows .now) (a .n) (a .tap-rows .now) (a .coefficients .now) q)
+    (widen (omega (arith, q .rows-in .few, q .taps-in .few))
+    (then (c .before .before .before .before .before .before .before .before .before .before .before .before .before .before .put-header .ensures)
+    (then (c .before .before .before .before .before .before .before .before .before .before .node-lines .ensures)
+    (then (c .before .before .before .before .before .before .tap-lines .ensures) (p .ensures)))))
+
+pub network-sheet-spec : {M : Type 1} → statement M
+network-sheet-spec =
+    tie.close
+    (tie.spec
+    put-header-requires
+    node-lines-requires
+    tap-lines-requires
+    sub-total-line
+    cast-total-line
+    total-line-requires
+    same-length
+    returns)

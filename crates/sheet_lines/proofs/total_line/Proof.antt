@@ -1,0 +1,41 @@
+-- `sheet_lines::total_line` meets its contract. Assumes nothing.
+use borrow.Author.Needs.{needs}
+use Rattle.sheet_fields.proofs.Puts.{then}
+use Rattle.sheet_lines.specs.Lines.{line, columns, totalLine}
+use Rattle.sheet_lines.proofs.total_line.Statement.{statement}
+use Rattle.sheet_lines.proofs.total_line.Tie as tie
+
+slice-aggregate-put : tie.Need-slice-aggregate-put
+slice-aggregate-put c = search needs
+
+put-requires : tie.Need-put-requires
+put-requires c κs = search needs
+
+put-number-requires : tie.Need-put-number-requires
+put-number-requires c κs = search needs
+
+slice-aggregate-put-2 : tie.Need-slice-aggregate-put-2
+slice-aggregate-put-2 c = search needs
+
+put-requires-2 : tie.Need-put-requires-2
+put-requires-2 c κs = search needs
+
+same-length : tie.Need-same-length
+same-length c = search needs
+
+returns : tie.Need-returns
+unfolding line columns totalLine
+returns c =
+    then (c .before .before .before .before .before .before .before .before .before .before .before .put .ensures) (then (c .before .before .before .before .before .before .before .put-number .ensures) (c .before .before .put2 .ensures))
+
+pub total-line-spec : {M : Type 1} → statement M
+total-line-spec =
+    tie.close
+    (tie.spec
+    slice-aggregate-put
+    put-requires
+    put-number-requires
+    slice-aggregate-put-2
+    put-requires-2
+    same-length
+    returns)

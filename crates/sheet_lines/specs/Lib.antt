@@ -1,0 +1,4 @@
+pub mod Lines
+pub mod Text
+-- What the internal writers ask and give:
+pub mod Tables

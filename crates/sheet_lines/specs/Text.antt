@@ -1,0 +1,26 @@
+-- The sheet of a network, and of a refusal. Document 01, "The sheet". Definitions only.
+use mathlib.Core.List.{List, [], _∷_, _++_}
+use Prim.Native.Nat.{ℕ, suc, _-_}
+use lib.ListN.{length}
+use Rattle.network.specs.declared.Row.{Row}
+use Rattle.network.specs.declared.TapRow.{TapRow}
+use Rattle.network.specs.Rows.{Network}
+use Rattle.network.specs.Coefficients.{coefficientOf}
+use Rattle.sheet_lines.specs.Lines.{header, nodeLine, tapLine, totalLine, refusedLine}
+
+-- the lines of a list, "each by number", the first number being i
+unfoldable pub linesFrom : {A : Type 0} → (ℕ → A → List ℕ) → ℕ → List A → List ℕ
+linesFrom lineOf i [] = []
+linesFrom lineOf i (x ∷ xs) = lineOf i x ++ linesFrom lineOf (suc i) xs
+
+-- a tap's line: its value is the coefficient that its row, shift and sign give
+abbrev pub tapLineIn : List Row → ℕ → TapRow → List ℕ
+tapLineIn rows i t = tapLine i t (coefficientOf rows t)
+
+-- "Node lines come first, then tap lines, each by number, then the total line"; "Total is adders: rows less one"
+unfoldable pub networkText : Network → List ℕ
+networkText net = header ++ (linesFrom nodeLine 0 (net .rows) ++ (linesFrom (tapLineIn (net .rows)) 0 (net .taps) ++ totalLine (length (net .rows) - 1)))
+
+-- "When turned down it prints the header and `refused,N,,,,,P` only"
+unfoldable pub refusedText : ℕ → ℕ → List ℕ
+refusedText number place = header ++ refusedLine number place

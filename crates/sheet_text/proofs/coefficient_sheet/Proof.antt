@@ -1,0 +1,97 @@
+-- `sheet_text::coefficient_sheet` meets its contract. Assumes nothing.
+use borrow.Author.Needs.{needs}
+use mathlib.Core.Path.{sym, ap, subst, _∙_}
+use Rattle.builder.specs.Answer.{answerOf}
+use Rattle.sheet_lines.specs.Text.{networkText}
+use Rattle.sheet_fields.specs.Put.{Put}
+use Rattle.network.specs.Rows.{Network}
+use Rattle.sheet_text.specs.Sheet.{choices}
+use Rattle.sheet_text.proofs.Building.{zeros, room, Printable, printable, never-refused}
+use Rattle.sheet_text.proofs.coefficient_sheet.Statement.{statement}
+use Rattle.sheet_text.proofs.coefficient_sheet.Tie as tie
+
+-- the tables hold the network of the coefficients
+printed : (c : tie.After-answer) → let s = c .before .before .before .before .before .before .before .before .before in let b = c .before .before .before .before .build in
+    Printable (s .args .coefficients .now) (s .pre .0) (zeros 20480) (zeros 768) (room 20480) (room 768) (c .answer .given .0 .0) (b .last .1 .1 .0) (b .last .1 .1 .1 .0)
+unfolding choices
+printed c =
+    let s = c .before .before .before .before .before .before .before .before .before in
+    let b = c .before .before .before .before .build in
+    let k = c .answer .given in
+    printable (s .args .coefficients .now) (s .pre .0) (zeros 20480) (zeros 768) (room 20480) (room 768) (k .0 .0) _ _ (ap answerOf (sym (k .1)) ∙ b .ensures .0) (b .ensures .1 .0) (b .ensures .1 .1)
+
+slice-aggregate-build : tie.Need-slice-aggregate-build
+slice-aggregate-build c = search needs
+
+slice-aggregate-build-2 : tie.Need-slice-aggregate-build-2
+slice-aggregate-build-2 c = search needs
+
+slice-aggregate-build-3 : tie.Need-slice-aggregate-build-3
+slice-aggregate-build-3 c = search needs
+
+build-requires : tie.Need-build-requires
+build-requires c κs = search needs
+
+enum-known-answer : tie.Need-enum-known-answer
+enum-known-answer c = search needs
+
+slice-aggregate-network-sheet : tie.Need-slice-aggregate-network-sheet
+slice-aggregate-network-sheet c = search needs
+
+cast-network-sheet : tie.Need-cast-network-sheet
+cast-network-sheet c = search needs
+
+slice-aggregate-network-sheet-2 : tie.Need-slice-aggregate-network-sheet-2
+slice-aggregate-network-sheet-2 c = search needs
+
+network-sheet-requires : tie.Need-network-sheet-requires
+network-sheet-requires c κs =
+    let s = c .before .before .before .before .before .before .before .before .before .before .before .before .before in
+    (printed (c .before .before .before .before) .ready, s .pre .1)
+
+enum-known-answer-2 : tie.Need-enum-known-answer-2
+enum-known-answer-2 c = search needs
+
+refused-sheet-requires : tie.Need-refused-sheet-requires
+refused-sheet-requires c κs = search needs
+
+same-length : tie.Need-same-length
+same-length c = search needs
+
+returns : tie.Need-returns
+returns c =
+    let s = c .before .before .before .before .before .before .before .before .before .before .before .before .before .before .before .before in
+    let a = s .args in
+    let p = c .before .before .network-sheet in
+    subst (λ (q : Network). Put (a .out .now) 0 (networkText q) 262144 (p .last .0) (p .result)) (printed (c .before .before .before .before .before .before .before) .network) (p .ensures)
+
+same-length-2 : tie.Need-same-length-2
+same-length-2 c = search needs
+
+returns-2 : tie.Need-returns-2
+unfolding choices
+returns-2 c =
+    let s = c .before .before .before .before .before .before .before .before .before .before .before .before .before .before in
+    let a = s .args in
+    let k = c .before .before .before .before .before .answer2 .given in
+    absurd (never-refused (a .coefficients .now) (s .pre .0) (zeros 20480) (zeros 768) (room 20480) (room 768) _ _ (ap answerOf (sym (k .1)) ∙ c .before .before .before .before .before .before .before .before .before .build .ensures .0))
+
+pub coefficient-sheet-spec : {M : Type 1} → statement M
+coefficient-sheet-spec =
+    tie.close
+    (tie.spec
+    slice-aggregate-build
+    slice-aggregate-build-2
+    slice-aggregate-build-3
+    build-requires
+    enum-known-answer
+    slice-aggregate-network-sheet
+    cast-network-sheet
+    slice-aggregate-network-sheet-2
+    network-sheet-requires
+    enum-known-answer-2
+    refused-sheet-requires
+    same-length
+    returns
+    same-length-2
+    returns-2)

@@ -1,0 +1,55 @@
+-- `sheet_text::sheet` meets its contract. Assumes nothing.
+use borrow.Author.Needs.{needs}
+use mathlib.Core.Path.{sym, ap, _∙_}
+use Prim.Native.Nat.{_≤_}
+use lib.ListN.{length}
+use Rattle.sheet_input.proofs.Answers.{at-most-256}
+use Rattle.sheet_input.specs.Input.{answerOf}
+use Rattle.sheet_input.specs.Argument.{argumentOf}
+use Rattle.sheet_text.proofs.Sheets.{sheet-given, sheet-refused, put-whole}
+use Rattle.sheet_text.proofs.sheet.Statement.{statement}
+use Rattle.sheet_text.proofs.sheet.Tie as tie
+
+fraction-bits-requires : tie.Need-fraction-bits-requires
+fraction-bits-requires c κs = search needs
+
+enum-known-fraction : tie.Need-enum-known-fraction
+enum-known-fraction c = search needs
+
+tap-sheet-requires : tie.Need-tap-sheet-requires
+tap-sheet-requires c κs =
+    let a = c .before .before .before .before .before .before .before .args in
+    let e = sym (c .before .before .before .before .fraction-bits .ensures) ∙ ap answerOf (c .before .before .fraction .given .1) in
+    (at-most-256 (a .input .now) (argumentOf (a .given) (a .argument .now)) _ e, search needs)
+
+enum-known-fraction-2 : tie.Need-enum-known-fraction-2
+enum-known-fraction-2 c = search needs
+
+refused-sheet-requires : tie.Need-refused-sheet-requires
+refused-sheet-requires c κs = search needs
+
+returns : tie.Need-returns
+returns c =
+    let a = c .before .before .before .before .before .before .before .before .args in
+    let e = sym (c .before .before .before .before .before .fraction-bits .ensures) ∙ ap answerOf (c .before .before .before .fraction .given .1) in
+    let k : 262144 ≤ length (a .out .now) = search needs in
+    rw (sheet-given (a .input .now) (argumentOf (a .given) (a .argument .now)) _ e) (put-whole (c .tap-sheet .ensures) k)
+
+returns-2 : tie.Need-returns-2
+returns-2 c =
+    let a = c .before .before .before .before .before .before .before .before .args in
+    let e = sym (c .before .before .before .before .before .fraction-bits .ensures) ∙ ap answerOf (c .before .before .before .fraction2 .given .1) in
+    let k : 262144 ≤ length (a .out .now) = search needs in
+    rw (sheet-refused (a .input .now) (argumentOf (a .given) (a .argument .now)) _ _ e) (put-whole (c .refused-sheet .ensures) k)
+
+pub sheet-spec : {M : Type 1} → statement M
+sheet-spec =
+    tie.close
+    (tie.spec
+    fraction-bits-requires
+    enum-known-fraction
+    tap-sheet-requires
+    enum-known-fraction-2
+    refused-sheet-requires
+    returns
+    returns-2)

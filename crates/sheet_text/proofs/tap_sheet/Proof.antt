@@ -1,0 +1,128 @@
+-- `sheet_text::tap_sheet` meets its contract. Assumes nothing.
+use borrow.Author.Needs.{needs}
+use mathlib.Core.List.{List}
+use mathlib.Core.Bool.{false}
+use mathlib.Core.Path.{_≡_, sym, ap, subst, _∙_}
+use Prim.Native.Nat.{_/_, ℕ}
+use lib.ListN.{length-replicate, length, take}
+use lib.IntN.{ℤ, pos}
+use lib.Ieee.{Float}
+use Rattle.refusal.proofs.Tables.{length-map}
+use Rattle.tap.specs.Rounding.{coefficientOf, wholeOf}
+use Rattle.sheet_input.specs.Taps.{tapAt, tapsOf}
+use Rattle.sheet_lines.specs.Text.{networkText}
+use Rattle.sheet_fields.specs.Put.{Put}
+use Rattle.sequence.proofs.UpTo.{length-upTo}
+use Rattle.tap_set.specs.Set.{roundedTaps, coefficientsOf, answerOf}
+use Rattle.building.specs.TapRows.{built}
+use Rattle.refusal.specs.Answer.{given}
+use Rattle.sheet_text.specs.Coefficients.{Coefficients}
+use Rattle.sheet_text.specs.Sheet.{choices}
+use Rattle.sheet_text.proofs.Sheets.{taps-held, length-held, answer-held, coefficients-held, taps-given, taps-refused}
+use Rattle.sheet_text.proofs.Bounds.{accepted-coefficients}
+use Rattle.sheet_text.proofs.tap_sheet.Statement.{statement}
+use Rattle.sheet_text.proofs.tap_sheet.Tie as tie
+
+abbrev start : tie.After-round-taps → tie.Start
+start c = c .before .before .before .before .before .before .before .before
+
+-- the taps that are rounded are the input's
+held : (c : tie.After-round-taps) → let input = start c .args .input .now in take (length input / 8) (c .before .before .before .before .read-taps .last .1 .0) ≡ tapsOf input
+held c = taps-held (tapAt (start c .args .input .now)) _ _ (length (start c .args .input .now) / 8) (c .before .before .before .before .read-taps .ensures)
+
+rounded : (c : tie.After-round-taps) → answerOf (c .round-taps .result) ≡ roundedTaps (start c .args .fraction-bits) false (tapsOf (start c .args .input .now)) 256
+rounded c = answer-held (start c .args .fraction-bits) _ _ (tapsOf (start c .args .input .now)) _ (c .round-taps .ensures .0) (held c) (length-replicate {A = ℤ} 256 (pos 0))
+
+-- where they are accepted
+accepted : (c : tie.After-enum-told) → let s = start (c .before .before .before) in roundedTaps (s .args .fraction-bits) false (tapsOf (s .args .input .now)) 256 ≡ given (c .enum-told .given .0 .0)
+accepted c = sym (rounded (c .before .before .before)) ∙ ap answerOf (c .enum-told .given .1)
+
+coefficients : (c : tie.After-enum-told) → let s = start (c .before .before .before) in take (length (s .args .input .now) / 8) (c .before .before .before .round-taps .last .1 .1 .1 .0) ≡ coefficientsOf (s .args .fraction-bits) (tapsOf (s .args .input .now))
+coefficients c =
+    let d = c .before .before .before in
+    let s = start d in
+    let input = s .args .input .now in
+    coefficients-held (s .args .fraction-bits) (length input / 8) _ (tapsOf input) _ _ _ _ (d .round-taps .ensures .1) (sym (d .round-taps .ensures .0) ∙ ap answerOf (c .enum-told .given .1)) (held d) (length-upTo (length input / 8) (tapAt input))
+
+slice-aggregate-read-taps : tie.Need-slice-aggregate-read-taps
+slice-aggregate-read-taps c = search needs
+
+read-taps-requires : tie.Need-read-taps-requires
+read-taps-requires c κs = search needs
+
+array-share-prefix-taps : tie.Need-array-share-prefix-taps
+array-share-prefix-taps c = search needs
+
+slice-aggregate-round-taps : tie.Need-slice-aggregate-round-taps
+slice-aggregate-round-taps c =
+    length-held (tapAt (c .before .before .before .before .before .before .args .input .now)) _ _ (length (c .before .before .before .before .before .before .args .input .now) / 8) (c .before .before .read-taps .ensures)
+
+slice-aggregate-round-taps-2 : tie.Need-slice-aggregate-round-taps-2
+slice-aggregate-round-taps-2 c = search needs
+
+round-taps-requires : tie.Need-round-taps-requires
+round-taps-requires c κs = search needs
+
+enum-told : tie.Need-enum-told
+enum-told c = search needs
+
+array-share-prefix-coefficients : tie.Need-array-share-prefix-coefficients
+array-share-prefix-coefficients c = search needs
+
+slice-aggregate-coefficient-sheet : tie.Need-slice-aggregate-coefficient-sheet
+slice-aggregate-coefficient-sheet c =
+    let input = c .before .before .before .before .before .before .before .before .before .before .before .before .before .args .input .now in
+    sym (ap length (coefficients (c .before .before)) ∙ length-map (λ (x : Float). wholeOf (coefficientOf (c .before .before .before .before .before .before .before .before .before .before .before .before .before .args .fraction-bits) x)) (tapsOf input) ∙ length-upTo (length input / 8) (tapAt input))
+
+coefficient-sheet-requires : tie.Need-coefficient-sheet-requires
+coefficient-sheet-requires c κs =
+    let s = c .before .before .before .before .before .before .before .before .before .before .before .before .before in
+    (subst Coefficients (sym (coefficients (c .before .before))) (accepted-coefficients (s .args .fraction-bits) (tapsOf (s .args .input .now)) 256 _ (accepted (c .before .before))), s .pre .1)
+
+enum-known-answer : tie.Need-enum-known-answer
+enum-known-answer c = search needs
+
+refused-sheet-requires : tie.Need-refused-sheet-requires
+refused-sheet-requires c κs = search needs
+
+same-length : tie.Need-same-length
+same-length c = search needs
+
+returns : tie.Need-returns
+returns c =
+    let a = c .before .before .before .before .before .before .before .before .before .before .before .before .before .before .before .before .args in
+    let p = c .before .before .coefficient-sheet in
+    subst (λ (t : List ℕ). Put (a .out .now) 0 t 262144 (p .last .0) (p .result))
+    (ap (λ (h : List ℤ). networkText (built h choices)) (coefficients (c .before .before .before .before .before)) ∙ sym (taps-given (a .fraction-bits) (tapsOf (a .input .now)) _ (accepted (c .before .before .before .before .before))))
+    (p .ensures)
+
+same-length-2 : tie.Need-same-length-2
+same-length-2 c = search needs
+
+returns-2 : tie.Need-returns-2
+returns-2 c =
+    let a = c .before .before .before .before .before .before .before .before .before .before .before .before .before .before .before .before .args in
+    let p = c .before .before .refused-sheet in
+    let e = sym (rounded (c .before .before .before .before .before .before .before .before)) ∙ ap answerOf (c .before .before .before .before .before .answer .given .1) in
+    subst (λ (t : List ℕ). Put (a .out .now) 0 t 262144 (p .last .0) (p .result)) (sym (taps-refused (a .fraction-bits) (tapsOf (a .input .now)) _ _ e)) (p .ensures)
+
+pub tap-sheet-spec : {M : Type 1} → statement M
+tap-sheet-spec =
+    tie.close
+    (tie.spec
+    slice-aggregate-read-taps
+    read-taps-requires
+    array-share-prefix-taps
+    slice-aggregate-round-taps
+    slice-aggregate-round-taps-2
+    round-taps-requires
+    enum-told
+    array-share-prefix-coefficients
+    slice-aggregate-coefficient-sheet
+    coefficient-sheet-requires
+    enum-known-answer
+    refused-sheet-requires
+    same-length
+    returns
+    same-length-2
+    returns-2)

@@ -1,0 +1,42 @@
+-- The sheet of an input and an argument. Document 01, "The sheet". Definitions only.
+use mathlib.Core.Bool.{false}
+use mathlib.Core.List.{List}
+use Prim.Native.Nat.{ℕ}
+use lib.Ieee.{Float}
+use lib.ListN.{replicate}
+use Rattle.refusal.specs.Answer.{Answer, given, refused}
+use Rattle.tap_set.specs.declared.Report.{Report}
+use Rattle.tap_set.specs.Set.{roundedTaps, coefficientsOf}
+use Rattle.network.specs.Rows.{Network}
+use Rattle.building.specs.TapRows.{built}
+use Rattle.sheet_lines.specs.Text.{networkText, refusedText}
+use Rattle.sheet_input.specs.Argument.{Argument}
+use Rattle.sheet_input.specs.Taps.{tapsOf}
+use Rattle.sheet_input.specs.Input.{inputAnswer}
+
+-- what comes after an answer that is given; a refusal stays
+abbrev pub andThen : {A B : Type 0} → Answer A → (A → Answer B) → Answer B
+andThen (given a) next = next a
+andThen (refused number place) next = refused number place
+
+-- "all choices 0": one for each of 256 taps, the most that there are
+unfoldable pub choices : List ℕ
+choices = replicate 256 0
+
+-- the network of some taps, "not normalised, all choices 0". Rounding makes the checks 5 and 6; building turns down no coefficients that come of it
+-- (proofs/Building.antt)
+unfoldable pub tapsAnswer : ℕ → List Float → Answer Network
+tapsAnswer F taps = andThen (roundedTaps F false taps 256) (λ (report : Report). given (built (coefficientsOf F taps) choices))
+
+-- the network of the taps on standard input, after the checks 1, 2, 12 and 4
+unfoldable pub sheetAnswer : List ℕ → Argument → Answer Network
+sheetAnswer input argument = andThen (inputAnswer input argument) (λ (F : ℕ). tapsAnswer F (tapsOf input))
+
+-- what is printed of an answer
+abbrev pub textOf : Answer Network → List ℕ
+textOf (given net) = networkText net
+textOf (refused number place) = refusedText number place
+
+-- "a program that prints the sheet": its bytes, for an input and a first argument
+unfoldable pub sheetOf : List ℕ → Argument → List ℕ
+sheetOf input argument = textOf (sheetAnswer input argument)

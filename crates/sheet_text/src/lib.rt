@@ -1,0 +1,69 @@
+// The sheet of the taps in some bytes.
+ghost use mathlib.Core.Path.{_≡_};
+ghost use mathlib.Core.List.{_++_};
+ghost use Prim.Native.Nat.{_≤_};
+ghost use lib.ListN.{length, take, drop};
+ghost use Rattle.refusal.specs.Table.{numberOf, placeOf};
+ghost use Rattle.building.specs.TapRows.{built};
+ghost use Rattle.sheet_fields.specs.Put.{Put};
+ghost use Rattle.sheet_lines.specs.Text.{networkText, refusedText};
+ghost use Rattle.sheet_input.specs.Argument.{argumentOf};
+ghost use Rattle.sheet_input.specs.Taps.{wholeTaps, tapsOf};
+ghost use Rattle.sheet_text.specs.Sheet.{choices, tapsAnswer, textOf, sheetOf};
+ghost use Rattle.sheet_text.specs.Coefficients.{Coefficients};
+use builder::Built;
+use refusal::Refusal;
+use sheet_input::Fraction;
+use tap_set::RoundedTaps;
+
+fn refused_sheet(out: &mut [u8], refusal: Refusal) -> usize
+    requires { ⌜ 262144 ≤ length (now out) ⌝ }
+    ensures { λ r. ⌜ Put (now (out .entry)) 0 (refusedText (numberOf refusal) (placeOf refusal)) 262144 (now (out .exit)) r ⌝ }
+{
+    sheet_lines::refused_sheet(out, refusal::number(refusal), refusal::place(refusal))
+}
+
+// The sheet of coefficients, all choices 0. Nothing is turned down here.
+fn coefficient_sheet(out: &mut [u8], coefficients: &[i32]) -> usize
+    requires { ⌜ Coefficients (now coefficients) × (262144 ≤ length (now out)) ⌝ }
+    ensures { λ r. ⌜ Put (now (out .entry)) 0 (networkText (built (now (coefficients .entry)) choices)) 262144 (now (out .exit)) r ⌝ }
+{
+    let choices = [0u32; 256];
+    let mut rows = [0u32; 20480];
+    let mut taps = [0u32; 768];
+    let answer = builder::build(coefficients, &choices, &mut rows, &mut taps);
+    match answer {
+        Built::Rows(n) => sheet_lines::network_sheet(out, &rows, n as usize, &taps, coefficients),
+        Built::Refused(refusal) => refused_sheet(out, refusal),
+    }
+}
+
+// The sheet of the whole taps of the input.
+fn tap_sheet(out: &mut [u8], input: &[u8], fraction_bits: u32) -> usize
+    requires { ⌜ (wholeTaps (now input) ≤ 256) × (262144 ≤ length (now out)) ⌝ }
+    ensures { λ r. ⌜ Put (now (out .entry)) 0 (textOf (tapsAnswer «fraction_bits» (tapsOf (now (input .entry))))) 262144 (now (out .exit)) r ⌝ }
+{
+    let n = input.len() / 8;
+    let mut taps = [0.0f64; 256];
+    sheet_input::read_taps(input, &mut taps);
+    let mut coefficients = [0i32; 256];
+    let answer = tap_set::round_taps(&taps[..n], fraction_bits, false, &mut coefficients);
+    match answer {
+        RoundedTaps::Given(_) => coefficient_sheet(out, &coefficients[..n]),
+        RoundedTaps::Refused(refusal) => refused_sheet(out, refusal),
+    }
+}
+
+// The sheet of an input and the program's first argument, at the start of the area, and its length.
+// Whether there is an argument is said by `given`.
+pub fn sheet(out: &mut [u8; 262144], input: &[u8], given: bool, argument: &[u8]) -> usize
+    ensures length { λ r. ⌜ r ≡ length (sheetOf (now (input .entry)) (argumentOf given (now (argument .entry)))) ⌝ }
+    ensures text { λ r. ⌜ now (out .exit) ≡ sheetOf (now (input .entry)) (argumentOf given (now (argument .entry))) ++ drop r (now (out .entry)) ⌝ }
+    ensures within { λ r. ⌜ (r ≤ length (now (out .exit))) × (r ≡ length (take r (now (out .exit)))) ⌝ }
+{
+    let fraction = sheet_input::fraction_bits(input, given, argument);
+    match fraction {
+        Fraction::Bits(f) => tap_sheet(out, input, f),
+        Fraction::Refused(refusal) => refused_sheet(out, refusal),
+    }
+}
