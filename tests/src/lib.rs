@@ -16,3 +16,4 @@ pub mod network;
 pub mod random;
 pub mod running;
 pub mod set;
+pub mod sheet;
