@@ -1,3 +1,4 @@
 pub mod Bounds
 pub mod Building
 pub mod Sheets
+pub mod Example
