@@ -185,6 +185,16 @@ fn input_that_cannot_be_read() {
     assert_eq!(command.stdin(Stdio::null()).output().unwrap().stdout, none);
 }
 
+/// Said on standard error.
+#[test]
+fn output_that_cannot_be_written() {
+    let full = File::options().write(true).open("/dev/full").unwrap();
+    let mut command = Command::new(program::sheet());
+    let output = command.stdin(Stdio::null()).stdout(full).output().unwrap();
+    let words = String::from_utf8(output.stderr).unwrap();
+    assert!(words.starts_with("sheet: "), "{words}");
+}
+
 #[test]
 fn sets_of_zeros() {
     let mut tally = Tally::default();
