@@ -5,7 +5,7 @@ use mathlib.Core.List.{[], _∷_, _++_, reverse, reverse-cons}
 use Prim.Native.Nat.{ℕ, zero, suc, _+_, _*_, _-_, _%_, _^_, _≤_, _<_}
 use native.Mathlib.Nat.{pow-suc, pow-succ', mul-assoc, le-refl}
 use native.Mathlib.Omega.{arith}
-use lib.ListN.{length, length-append}
+use lib.ListN.{length, length-append, replicate}
 use Rattle.signed_digit.specs.Digit.{Digit, one, nought, minus-one, nonzero}
 use Rattle.signed_digit.specs.String.{DigitString}
 use Rattle.signed_digit.specs.Weight.{weight}
@@ -114,6 +114,22 @@ end-reads t (minus-one ∷ s) o h = absurd (omega (arith, high-small s))
 -- a string of the odd value t, its digits from low to high, by its masks
 pub chain-ends : (t : ℕ) (s : DigitString) → t % 2 ≡ 1 → mask plusBit s ≡ mask minusBit s + t → chainEnd (reverse s) ≡ t
 chain-ends t s o h = end-reads t (reverse s) o (omega (arith, high-reverse plusBit s, high-reverse minusBit s))
+
+-- ---- the highest nonzero digit, where a chain has an end, is a 1
+pub record LeadingOne (s : DigitString) : Type 0 where
+  pub zeros : ℕ
+  pub rest : DigitString
+  pub is : s ≡ replicate zeros nought ++ (one ∷ rest)
+  pub ends : chainEnd s ≡ chainValue 1 1 rest
+
+pub leading-one : (s : DigitString) → 1 ≤ chainEnd s → LeadingOne s
+unfolding chainEnd
+leading-one [] l = absurd (omega arith)
+leading-one (nought ∷ s) l =
+    let r = leading-one s l in
+    record { zeros = suc (r .zeros); rest = r .rest; is = ap (λ (x : DigitString). nought ∷ x) (r .is); ends = r .ends }
+leading-one (one ∷ s) l = record { zeros = 0; rest = s; is = refl; ends = refl }
+leading-one (minus-one ∷ s) l = absurd (omega arith)
 
 -- ---- the weight does not depend on the direction
 weight-last : (s : DigitString) (d : Digit) → weight (s ++ (d ∷ [])) ≡ nonzero d + weight s

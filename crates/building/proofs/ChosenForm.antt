@@ -17,7 +17,7 @@ use Rattle.signed_digit.proofs.Listing.{listing-is}
 use Rattle.signed_digit.proofs.Coefficients.{canonical-32, weight-32}
 use Rattle.building.specs.Parts.{leastWeight}
 use Rattle.building.specs.Chain.{chosenForm}
-use Rattle.building.proofs.ChainValue.{chainEnd, chain-ends, weight-reverse}
+use Rattle.building.proofs.ChainValue.{chainEnd, chain-ends, LeadingOne, leading-one, weight-reverse}
 
 -- a member of a list, by its number
 pub member : {A : Type 0} (a : A) (l : List A) (k : ℕ) → k < length l → List·Memᴰ (getD l k a) l
@@ -39,8 +39,9 @@ pub record Chosen (v : ℕ) (form : DigitString) : Type 0 where
   pub minimal : Minimal (pos v) form
   pub places : length form ≡ 32
   pub light : weight form ≤ 16
-  -- "read the chosen form from its highest nonzero digit down"
+  -- "read the chosen form from its highest nonzero digit down": this digit is a 1, and the chain ends at v
   pub ends : v % 2 ≡ 1 → chainEnd (reverse form) ≡ v
+  pub leads : v % 2 ≡ 1 → LeadingOne (reverse form)
   pub light-down : weight (reverse form) ≤ 16
 
 pub chosen-form : (v choice : ℕ) → v < 2 ^ 31 → choice < length (listing 32 (pos v)) → Chosen v (chosenForm v choice)
@@ -50,11 +51,13 @@ chosen-form v choice h l =
     let m = member [] (listing 32 (pos v)) choice l in
     let o = listing-is 32 (pos v) .only form m in
     let w : weight form ≤ 16 = omega (arith, weight-32 (pos v) (omega arith), o .1 .least (canonical 32 (pos v)) (canonical-32 (pos v) (omega arith) .minimal .has-value)) in
+    let end : v % 2 ≡ 1 → chainEnd (reverse form) ≡ v = λ odd. chain-ends v form odd (omega (arith, value-eq form (pos v) .0 (o .1 .has-value))) in
     record {
       listed = m;
       minimal = o .1;
       places = o .0;
       light = w;
-      ends = λ odd. chain-ends v form odd (omega (arith, value-eq form (pos v) .0 (o .1 .has-value)));
+      ends = end;
+      leads = λ odd. leading-one (reverse form) (omega (arith, end odd));
       light-down = omega (arith, weight-reverse form);
     }

@@ -57,6 +57,10 @@ place-of s t = go (eqb s plus) (eqb s minus) (eqb s reversed) refl refl refl t
     go false false true p m r t = rw (eqb-true s reversed r) (omega arith, refl)
     go false false false p m r t = absurd (rw (p, m, r) at t)
 
+-- a sign by its place
+pub same-sign : (r s : ℕ) → T (isRowSign r) → T (isRowSign s) → signPlace r ≡ signPlace s → r ≡ s
+same-sign r s a b e = sym (place-of r a .1) ∙ ap (λ (k : ℕ). getD signs k 0) e ∙ place-of s b .1
+
 -- ---- shifts
 shift-at : (k : ℕ) → k < 31 → getD shifts k 0 ≡ suc k
 shift-at k l = getD-upTo 31 suc 0 k l

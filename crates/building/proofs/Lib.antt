@@ -2,8 +2,11 @@
 pub mod Passes
 pub mod BuiltTables
 pub mod TheRows
+pub mod TheStep
 pub mod PartsInOrder
+pub mod OnlyParts
 pub mod FirstFit
+pub mod OnlyFit
 pub mod ChosenForm
 pub mod Example
 -- What they rest on, and the proofs of the crates above may cite:

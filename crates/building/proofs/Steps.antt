@@ -22,6 +22,21 @@ use Rattle.building.proofs.ChosenForm.{chosen-form}
 use Rattle.building.proofs.Growth.{HasRow, Growth, unchanged, one-row, still, grown-length}
 use Rattle.building.proofs.Chain.{down-grows}
 
+-- ---- the three cases of a step
+module _ (rows : List Row) (p : Part) where
+  pub step-used : (i : ℕ) → rowWith rows (p .value) ≡ at-place i → step rows p ≡ rows
+  unfolding step lookedUp
+  step-used i e = ap (λ (q : Place). lookedUp q rows p) e
+
+  pub step-found : (r : Row) → rowWith rows (p .value) ≡ nowhere → firstFit rows (p .value) ≡ fit r → step rows p ≡ rows ++ (r ∷ [])
+  unfolding step lookedUp searched
+  step-found r e f = ap (λ (q : Place). lookedUp q rows p) e ∙ ap (λ (x : Fit). searched x rows p) f
+
+  pub step-chained : rowWith rows (p .value) ≡ nowhere → firstFit rows (p .value) ≡ none-fits → step rows p ≡ chained rows (chosenForm (p .value) (p .choice))
+  unfolding step lookedUp searched
+  step-chained e f = ap (λ (q : Place). lookedUp q rows p) e ∙ ap (λ (x : Fit). searched x rows p) f
+
+-- ---- one part
 -- an odd part that can be built: odd, below 2^31, its choice below the number of forms
 pub record Buildable (p : Part) : Type 0 where
   pub odd : p .value % 2 ≡ 1
@@ -54,20 +69,6 @@ module _ (rows : List Row) (p : Part) (w : Lawful rows) (b : Buildable p) where
   pub step-grows : Growth rows (step rows p) (p .value) 15
   unfolding step
   step-grows = looked-up-grows (rowWith rows (p .value)) refl
-
--- ---- the three cases of a step
-module _ (rows : List Row) (p : Part) where
-  pub step-used : (i : ℕ) → rowWith rows (p .value) ≡ at-place i → step rows p ≡ rows
-  unfolding step lookedUp
-  step-used i e = ap (λ (q : Place). lookedUp q rows p) e
-
-  pub step-found : (r : Row) → rowWith rows (p .value) ≡ nowhere → firstFit rows (p .value) ≡ fit r → step rows p ≡ rows ++ (r ∷ [])
-  unfolding step lookedUp searched
-  step-found r e f = ap (λ (q : Place). lookedUp q rows p) e ∙ ap (λ (x : Fit). searched x rows p) f
-
-  pub step-chained : rowWith rows (p .value) ≡ nowhere → firstFit rows (p .value) ≡ none-fits → step rows p ≡ chained rows (chosenForm (p .value) (p .choice))
-  unfolding step lookedUp searched
-  step-chained e f = ap (λ (q : Place). lookedUp q rows p) e ∙ ap (λ (x : Fit). searched x rows p) f
 
 -- ---- some parts, one after the other
 pub record AllGrown (rows grown : List Row) (ps : List Part) : Type 0 where
