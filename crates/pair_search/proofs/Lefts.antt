@@ -1,9 +1,9 @@
 -- The left rows that no right row goes with. Assumes nothing.
-use mathlib.Core.Path.{_≡_, refl, sym, ap, _∙_}
+use mathlib.Core.Path.{_≡_, refl, sym}
 use mathlib.Core.List.{List}
 use Prim.Native.Nat.{ℕ, suc, _+_, _-_, _%_, _≤_, _<_}
 use native.Mathlib.Omega.{arith}
-use Rattle.network.specs.Rows.{plus, minus, reversed, rowsOf}
+use Rattle.network.specs.Rows.{rowsOf}
 use Rattle.network.specs.RowRule.{lifted}
 use Rattle.building.specs.Search.{none-fits, orElse}
 use Rattle.row_index.specs.Index.{valueAt}

@@ -2,7 +2,7 @@
 use mathlib.Core.Path.{_≡_, refl, sym, ap, _∙_}
 use mathlib.Core.List.{List}
 use mathlib.Core.Logic.{⊎-elim}
-use Prim.Native.Nat.{ℕ, suc, _+_, _-_, _*_, _%_, _^_, _≤_, _<_}
+use Prim.Native.Nat.{ℕ, suc, _+_, _-_, _*_, _^_, _≤_, _<_}
 use native.Mathlib.Nat.{eq-or-lt-of-le, mul-assoc, pow-succ', le-mul-of-pos-right, mul-le-mul-right}
 use native.Mathlib.Numerals.{add-one}
 use native.Mathlib.Omega.{arith}
@@ -27,16 +27,11 @@ lifted-next : (s l : ℕ) → lifted (suc s) l ≡ 2 * lifted s l
 lifted-next s l = rw (pow-succ' 2 s) (mul-assoc 2 (2 ^ s) l)
 
 -- one more shift
-pub lifted-more : (s l a : ℕ) → a ≡ lifted s l → a * 2 ≡ lifted (s + 1) l
+lifted-more : (s l a : ℕ) → a ≡ lifted s l → a * 2 ≡ lifted (s + 1) l
 lifted-more s l a e = ap (λ (x : ℕ). x * 2) e ∙ omega (arith, lifted-next s l, ap (λ (k : ℕ). lifted k l) (add-one s))
 
 lifted-up : (s k l : ℕ) → s ≤ k → lifted s l ≤ lifted k l
 lifted-up s k l h = mul-le-mul-right l (pow-mono h)
-
--- below 2^32 the shift is at most 31
-pub few-shifts : (s l : ℕ) → 0 < l → lifted s l < 2 ^ 32 → s < 32
-few-shifts s l p h =
-    ⊎-elim (λ (a : 32 ≤ s). let q : 2 ^ 32 ≤ 2 ^ s = pow-mono {i = 32} a in absurd (omega (arith, le-mul-of-pos-right (2 ^ s) p))) (λ b. b) (le-or-lt 32 s)
 
 -- ---- the signs in their order
 
@@ -44,6 +39,17 @@ pub three-signs : (rows : List Row) (v left shift : ℕ) (f g h : Fit) → tried
     → tried rows v left shift reversed ≡ h → fitAtShift rows v left shift ≡ orElse f (orElse g h)
 unfolding fitAtShift firstOver
 three-signs rows v left shift f g h e p q = rw (e, p, q) (ap (λ (x : Fit). orElse f (orElse g x)) (else-none h))
+
+-- the shifts of a left row below z have been tried, and a is 2^z·left
+pub record Trying (t : List ℕ) (n v left z a : ℕ) : Type 0 where
+  pub from : 1 ≤ z
+  pub to : z ≤ 32
+  pub is-lifted : a ≡ lifted z (valueAt t left)
+  pub tried-below : (k : ℕ) → suc k < z → fitAtShift (rowsOf t n) v left (suc k) ≡ none-fits
+
+-- none has been tried yet
+pub try-first : (t : List ℕ) (n v left a : ℕ) → a ≡ 2 * valueAt t left → Trying t n v left 1 a
+try-first t n v left a e = record { from = omega arith; to = omega arith; is-lifted = e; tried-below = λ k l. absurd (omega arith) }
 
 module _ (t heads links : List ℕ) (n most v : ℕ) (s : Searchable t heads links n most v) where
   pub positive : (k : ℕ) → k < n → 0 < valueAt t k
@@ -88,29 +94,45 @@ module _ (t heads links : List ℕ) (n most v : ℕ) (s : Searchable t heads lin
       (minus-none t n v left shift a w refl (λ k l e. omega (arith, s .bounded k l)))
       (reversed-none t n v left shift a w refl (λ k l e. omega (arith, s .bounded k l)))
 
-  -- ---- one left row: the shifts below z have been tried
+  -- ---- one left row, while its shifts are tried
 
-  module _ (i : ℕ) (w : i < n) (z : ℕ) (tried-below : (k : ℕ) → suc k < z → fitAtShift (rowsOf t n) v i (suc k) ≡ none-fits) where
-    pub left-none : v + most < lifted z (valueAt t i) → fitAtLeft (rowsOf t n) v i ≡ none-fits
+  module _ (left : ℕ) (w : left < n) (z a : ℕ) (g : Trying t n v left z a) where
+    -- below 2^32 there is a shift to try
+    pub few-shifts : a < 2 ^ 32 → z < 32
+    few-shifts h =
+        ⊎-elim
+        (λ (b : 32 ≤ z).
+        absurd (omega (arith, g .is-lifted, le-mul-of-pos-right (2 ^ z) (positive left w), pow-mono {i = 32} b)))
+        (λ b. b)
+        (le-or-lt 32 z)
+
+    pub try-next : a < 2 ^ 32 → fitAtShift (rowsOf t n) v left z ≡ none-fits → Trying t n v left (z + 1) (a * 2)
+    try-next h e =
+        record {
+          from = omega arith;
+          to = omega (arith, few-shifts h);
+          is-lifted = lifted-more z (valueAt t left) a (g .is-lifted);
+          tried-below = λ k l.
+              ⊎-elim (λ (q : suc k ≡ z). ap (fitAtShift (rowsOf t n) v left) q ∙ e) (λ (b : suc k < z). g .tried-below k b)
+              (eq-or-lt-of-le (let q : suc k ≤ z = omega arith in q));
+        }
+
+    pub left-none : v + most < a → fitAtLeft (rowsOf t n) v left ≡ none-fits
     unfolding fitAtLeft
     left-none h =
-        over-none (λ (shift : ℕ). fitAtShift (rowsOf t n) v i shift) suc 31
+        over-none (λ (shift : ℕ). fitAtShift (rowsOf t n) v left shift) suc 31
         (λ k l.
-        ⊎-elim (λ (past : z ≤ suc k). shift-past i (suc k) w (omega (arith, lifted-up z (suc k) (valueAt t i) past))) (λ (b : suc k < z). tried-below k b)
+        ⊎-elim (λ (past : z ≤ suc k). shift-past left (suc k) w (omega (arith, g .is-lifted, lifted-up z (suc k) (valueAt t left) past)))
+        (λ (b : suc k < z). g .tried-below k b)
         (le-or-lt z (suc k)))
 
-    pub left-first : (r : Row) → 1 ≤ z → z < 32 → fitAtShift (rowsOf t n) v i z ≡ fit r → fitAtLeft (rowsOf t n) v i ≡ fit r
+    pub left-first : a < 2 ^ 32 → (r : Row) → fitAtShift (rowsOf t n) v left z ≡ fit r → fitAtLeft (rowsOf t n) v left ≡ fit r
     unfolding fitAtLeft
-    left-first r low high e =
-        let q : suc (z - 1) ≡ z = omega arith in
-        over-first (λ (shift : ℕ). fitAtShift (rowsOf t n) v i shift) suc 31 (z - 1) r (omega arith) (λ k l. tried-below k (omega arith))
-        (ap (fitAtShift (rowsOf t n) v i) q ∙ e)
-
--- one more shift has been tried
-pub shifts-more : (rows : List Row) (v left z : ℕ) → ((k : ℕ) → suc k < z → fitAtShift rows v left (suc k) ≡ none-fits) → fitAtShift rows v left z ≡ none-fits
-    → (k : ℕ) → suc k < z + 1 → fitAtShift rows v left (suc k) ≡ none-fits
-shifts-more rows v left z h e k l =
-    ⊎-elim (λ (q : suc k ≡ z). ap (fitAtShift rows v left) q ∙ e) (λ (b : suc k < z). h k b) (eq-or-lt-of-le (let q : suc k ≤ z = omega arith in q))
+    left-first h r e =
+        let q : suc (z - 1) ≡ z = omega (arith, g .from) in
+        over-first (λ (shift : ℕ). fitAtShift (rowsOf t n) v left shift) suc 31 (z - 1) r (omega (arith, few-shifts h, g .from))
+        (λ k l. g .tried-below k (omega (arith, g .from)))
+        (ap (fitAtShift (rowsOf t n) v left) q ∙ e)
 
 -- ---- the left rows below i have been tried
 

@@ -1,21 +1,22 @@
 -- One left row, shift and sign: the right row by its value, and where no row can be it. Assumes nothing.
 use mathlib.Core.Path.{_≡_, refl, sym, ap, _∙_, subst}
 use mathlib.Core.Bool.{Bool, true, false, cond, or-false, _||_}
-use mathlib.Core.List.{List}
-use Prim.Native.Nat.{ℕ, _+_, _-_, _*_, _^_, _≤_, _<_}
+use mathlib.Core.List.{List, [], _∷_}
+use Prim.Native.Nat.{ℕ, suc, _+_, _-_, _^_, _≤_, _<_, zero-le, suc-le-suc}
 use native.Mathlib.Omega.{arith}
 use borrow.Author.Tests.{eqb-true, eq-eqb, ne-eqb, le-leb}
 use lib.Dec.{T, eqb, leb}
-use lib.ListN.{length}
-use Rattle.refusal.specs.Answer.{Place, nowhere, lowest}
+use lib.ListN.{length, getD}
+use Rattle.refusal.specs.Answer.{Place, lowest, lowestFrom}
+use Rattle.refusal.proofs.Checks.{lowest-alike}
 use Rattle.network.specs.declared.Row.{Row}
 use Rattle.network.specs.Rows.{plus, minus, reversed, rowsOf, rowIn, noRow}
 use Rattle.network.specs.RowRule.{lifted, isRowSign, isWorked}
 use Rattle.network.proofs.Booleans.{same-truth}
 use Rattle.network.proofs.RowTests.{worked-tests}
 use Rattle.building.specs.Search.{none-fits, rowWith, rowOver, tried}
+use Rattle.building.proofs.Lookup.{is-nowhere}
 use Rattle.row_index.specs.Index.{valueAt}
-use Rattle.row_index.proofs.Lowest.{none-at, lowest-same}
 use Rattle.row_index.proofs.Values.{length-rows, value-in}
 use Rattle.pair_search.specs.Pairs.{rightValue}
 
@@ -52,6 +53,12 @@ asks sign a b v h s = by-sign (eqb sign plus) (eqb sign minus) (eqb sign reverse
     by-sign false false true e f g t = subst (λ (k : ℕ). isWorked k a b v ≡ eqb b (rightValue k a v)) (sym (eqb-true sign reversed g)) by-reversed
     by-sign false false false e f g t = absurd t
 
+-- tests that agree on every element of a list hold at the same lowest place
+lowest-same : {A : Type 0} (d : A) (p q : A → Bool) (k : ℕ) (xs : List A) → ((i : ℕ) → i < length xs → p (getD xs i d) ≡ q (getD xs i d)) → lowestFrom k p xs ≡ lowestFrom k q xs
+unfolding lowestFrom
+lowest-same d p q k [] e = refl
+lowest-same d p q k (x ∷ xs) e = lowest-alike p q k x xs (e 0 (suc-le-suc zero-le)) (lowest-same d p q (suc k) xs (λ i l. e (suc i) (suc-le-suc l)))
+
 same-none : (b : Bool) → cond b none-fits none-fits ≡ none-fits
 same-none true = refl
 same-none false = refl
@@ -75,7 +82,7 @@ module _ (t : List ℕ) (n v left shift a : ℕ) (within : left < n) (is : a ≡
   tried-none sign h =
       opened sign
       ∙ ap (λ (p : Place). cond (leb a (2 ^ 32)) (rowOver v left shift sign p) none-fits)
-      (none-at noRow (λ (r : Row). isWorked sign a (r .value) v) 0 (rowsOf t n)
+      (is-nowhere noRow (λ (r : Row). isWorked sign a (r .value) v) (rowsOf t n) 0
       (λ k l. let b : k < n = omega (arith, length-rows t n) in ap (λ (x : ℕ). isWorked sign a x v) (value-in t n k b) ∙ h k b))
       ∙ same-none (leb a (2 ^ 32))
 

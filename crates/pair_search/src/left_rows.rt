@@ -79,11 +79,14 @@ pub fn lowest_left(
     let mut j: usize = 0;
     while j < n {
         let r = network::read_value(table, j);
-        low = lower_left(table, heads, links, n, low, v, r);
-        j += 1;
-        if low < (n - j) / 4 {
-            return 0;
+        let next = lower_left(table, heads, links, n, low, v, r);
+        if next < low {
+            if next < (n - j) / 4 {
+                return 0;
+            }
         }
+        low = next;
+        j += 1;
     }
     low
 }

@@ -4,6 +4,5 @@ pub mod Growth
 pub mod Values
 -- What they and the proofs of the functions rest on:
 pub mod Compare
-pub mod Lowest
 pub mod Written
 pub mod Chains

@@ -1,5 +1,5 @@
 -- A table with a row written. Assumes nothing.
-use mathlib.Core.Path.{_≡_, refl, ap, _∙_}
+use mathlib.Core.Path.{_≡_, refl, _∙_}
 use mathlib.Core.List.{List, [], _∷_, _++_}
 use Prim.Native.Nat.{ℕ, zero, suc, _+_, _*_, _<_, _≤_}
 use native.Mathlib.Numerals.{add-one}
@@ -9,7 +9,7 @@ use lib.Seq.{getD-set-same, getD-set-other, drop-set-lt}
 use Rattle.sequence.specs.UpTo.{upTo}
 use Rattle.network.specs.declared.Row.{Row}
 use Rattle.network.specs.Rows.{rowWords, rowAt, rowsOf}
-use Rattle.row_index.specs.Index.{valueAt, withRow}
+use Rattle.row_index.specs.Index.{withRow}
 
 before : (l : List ℕ) (k j a : ℕ) → j < k → getD (set l k a) j 0 ≡ getD l j 0
 before l k j a h = getD-set-other l k j a 0 (λ (e : j ≡ k). omega arith)

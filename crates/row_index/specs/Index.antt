@@ -1,7 +1,7 @@
 -- Rows in a lent table with an index by value: each value belongs to a bucket, `heads` has the last row of each bucket, and `links` has for each row
 -- the one before it in its bucket. A row i is stored there as i + 1, and 0 stands for none. For the contracts of internal functions. Definitions only.
 use mathlib.Core.Path.{_≡_}
-use mathlib.Core.List.{List, _++_}
+use mathlib.Core.List.{List}
 use Prim.Native.Nat.{ℕ, _+_, _-_, _*_, _/_, _≤_, _<_}
 use lib.Bits.{bitAnd}
 use lib.ListN.{length, getD, set, drop}

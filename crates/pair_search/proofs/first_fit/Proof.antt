@@ -1,26 +1,21 @@
 -- `pair_search::first_fit` meets its contract. The invariants: nothing fits with the left rows passed, and with this one at the shifts passed.
 -- Assumes nothing.
-use mathlib.Core.Path.{_≡_, refl, sym, ap, subst, _∙_}
-use Prim.Native.Nat.{ℕ, suc, _+_, _-_, _*_, _≤_, _<_}
+use mathlib.Core.Path.{_≡_, sym, ap, _∙_}
+use Prim.Native.Nat.{ℕ, _-_, _*_, _^_, _≤_, _<_}
 use native.Mathlib.Omega.{arith}
 use borrow.Author.Count.{below-more}
 use borrow.Author.Needs.{needs}
 use Rattle.network.specs.Rows.{rowsOf}
-use Rattle.network.specs.RowRule.{lifted}
-use Rattle.building.specs.Search.{fit, none-fits}
+use Rattle.building.specs.Search.{none-fits}
 use Rattle.row_index.specs.Index.{valueAt}
 use Rattle.pair_search.specs.NewRow.{fitOf}
-use Rattle.pair_search.specs.Pairs.{fitAtShift, fitAtLeft}
-use Rattle.pair_search.proofs.Shifts.{lifted-more, few-shifts, positive, left-none, left-first, shifts-more, fit-none, fit-first}
+use Rattle.pair_search.specs.Pairs.{fitAtLeft}
+use Rattle.pair_search.proofs.Shifts.{Trying, try-first, few-shifts, try-next, left-none, left-first, fit-none, fit-first}
 use Rattle.pair_search.proofs.first_fit.Statement.{statement}
 use Rattle.pair_search.proofs.first_fit.Tie as tie
 
 abbrev Inv-loop : tie.InvT-loop
-Inv-loop table heads links n most v limit i left value a₀ s₀ a s =
-    (1 ≤ s)
-    × (s ≤ 32)
-    × (a ≡ lifted s (valueAt table left))
-    × ((k : ℕ) → suc k < s → fitAtShift (rowsOf table n) v left (suc k) ≡ none-fits)
+Inv-loop table heads links n most v limit i left value a₀ s₀ a s = Trying table n v left s a
 
 abbrev μ-loop : tie.MeasureT-loop
 μ-loop table heads links n most v limit i left value a₀ s₀ a s = 33 - s
@@ -54,17 +49,14 @@ mul-a c = omega (arith, c .read-value .ok)
 
 loop-holds : tie.Need-loop-holds Inv-loop μ-loop Inv-search μ-search
 loop-holds c =
-    let s = c .before .before .before .before .before .before .before .before in
-    let e : valueAt (s .args .table .now) (c .before .narrow .result) ≡ c .read-value .result
-    = ap (valueAt (s .args .table .now)) (c .before .narrow .ensures) ∙ sym (c .read-value .ensures) in
-    (omega arith, omega arith, omega (arith, e), λ k l. absurd (omega arith))
+    let a = c .before .before .before .before .before .before .before .before .args in
+    try-first (a .table .now) (a .n) (a .v) (c .before .narrow .result) (2 * c .read-value .result)
+    (ap (λ k. 2 * k) (c .read-value .ensures ∙ ap (valueAt (a .table .now)) (sym (c .before .narrow .ensures))))
 
 at-shift-requires : tie.Need-at-shift-requires Inv-loop μ-loop Inv-search μ-search
 at-shift-requires c κs =
     let s = c .before .before .before .before .before .before .before .before .before .before in
-    let lp = c .before .loop in
-    let w : c .before .before .before .narrow .result < s .args .n = omega (arith, c .before .before .before .narrow .ensures) in
-    (s .pre, record { within = w; is-lifted = lp .inv .2; low = omega (arith, s .pre .small, s .pre .new-small) })
+    (s .pre, record { within = omega (arith, c .before .before .before .narrow .ensures); is-lifted = c .before .loop .inv .is-lifted; low = omega (arith, s .pre .small, s .pre .new-small) })
 
 enum-known-row : tie.Need-enum-known-row Inv-loop μ-loop Inv-search μ-search
 enum-known-row c = search needs
@@ -76,33 +68,27 @@ mul-a-2 : tie.Need-mul-a-2 Inv-loop μ-loop Inv-search μ-search
 mul-a-2 c = omega (arith, c .before .before .before .loop-test .taken, c .before .before .before .before .before .before .before .before .before .before .before .before .before .pre .small, c .before .before .before .before .before .before .before .before .before .before .before .before .before .pre .new-small)
 
 add-s : tie.Need-add-s Inv-loop μ-loop Inv-search μ-search
-add-s c = omega (arith, c .before .before .before .before .loop .inv .1)
+add-s c = omega (arith, c .before .before .before .before .loop .inv .to)
 
 loop-less : tie.Need-loop-less Inv-loop μ-loop Inv-search μ-search
 loop-less c =
     let s = c .before .before .before .before .before .before .before .before .before .before .before .before .before in
+    let a = s .args in
     let lp = c .before .before .before .before .loop in
-    let left = c .before .before .before .before .before .before .narrow .result in
-    let w : left < s .args .n = omega (arith, c .before .before .before .before .before .before .narrow .ensures) in
-    let few : lp .s < 32
-    = few-shifts (lp .s) (valueAt (s .args .table .now) left)
-    (positive (s .args .table .now) (s .args .heads .now) (s .args .links .now) (s .args .n) (s .args .most) (s .args .v) (s .pre) left w)
-    (omega (arith, lp .inv .2, c .before .before .before .loop-test .taken, s .pre .small, s .pre .new-small)) in
-    omega arith
+    let left = c .before .before .before .before .before .before .narrow in
+    let w : left .result < a .n = omega (arith, left .ensures) in
+    let h : lp .a < 2 ^ 32 = omega (arith, c .before .before .before .loop-test .taken, s .pre .small, s .pre .new-small) in
+    omega (arith, few-shifts (a .table .now) (a .heads .now) (a .links .now) (a .n) (a .most) (a .v) (s .pre) (left .result) w (lp .s) (lp .a) (lp .inv) h)
 
 loop-again : tie.Need-loop-again Inv-loop μ-loop Inv-search μ-search
 loop-again c =
     let s = c .before .before .before .before .before .before .before .before .before .before .before .before .before in
+    let a = s .args in
     let lp = c .before .before .before .before .loop in
-    let left = c .before .before .before .before .before .before .narrow .result in
-    let w : left < s .args .n = omega (arith, c .before .before .before .before .before .before .narrow .ensures) in
-    let few : lp .s < 32
-    = few-shifts (lp .s) (valueAt (s .args .table .now) left)
-    (positive (s .args .table .now) (s .args .heads .now) (s .args .links .now) (s .args .n) (s .args .most) (s .args .v) (s .pre) left w)
-    (omega (arith, lp .inv .2, c .before .before .before .loop-test .taken, s .pre .small, s .pre .new-small)) in
-    let e : fitAtShift (rowsOf (s .args .table .now) (s .args .n)) (s .args .v) left (lp .s) ≡ none-fits
-    = sym (c .before .before .at-shift .ensures) ∙ ap fitOf (c .enum-told .given .1) in
-    (omega arith, omega arith, lifted-more (lp .s) (valueAt (s .args .table .now) left) (lp .a) (lp .inv .2), shifts-more (rowsOf (s .args .table .now) (s .args .n)) (s .args .v) left (lp .s) (lp .inv .3) e)
+    let left = c .before .before .before .before .before .before .narrow in
+    let w : left .result < a .n = omega (arith, left .ensures) in
+    let h : lp .a < 2 ^ 32 = omega (arith, c .before .before .before .loop-test .taken, s .pre .small, s .pre .new-small) in
+    try-next (a .table .now) (a .heads .now) (a .links .now) (a .n) (a .most) (a .v) (s .pre) (left .result) w (lp .s) (lp .a) (lp .inv) h (sym (c .before .before .at-shift .ensures) ∙ ap fitOf (c .enum-told .given .1))
 
 add-i : tie.Need-add-i Inv-loop μ-loop Inv-search μ-search
 add-i c = search needs
@@ -115,11 +101,14 @@ search-again c =
     let s = c .before .before .before .before .before .before .before .before .before .before in
     let a = s .args in
     let lp = c .before .loop in
-    let left = c .before .before .before .narrow .result in
-    let w : left < a .n = omega (arith, c .before .before .before .narrow .ensures) in
-    let e : fitAtLeft (rowsOf (a .table .now) (a .n)) (a .v) left ≡ none-fits
-    = left-none (a .table .now) (a .heads .now) (a .links .now) (a .n) (a .most) (a .v) (s .pre) left w (lp .s) (lp .inv .3) (omega (arith, lp .inv .2, c .loop-test .left)) in
-    (omega arith, below-more (λ k. fitAtLeft (rowsOf (a .table .now) (a .n)) (a .v) k ≡ none-fits) (c .before .before .before .before .before .search .i) (c .before .before .before .before .before .search .inv .1) (ap (fitAtLeft (rowsOf (a .table .now) (a .n)) (a .v)) (sym (c .before .before .before .narrow .ensures)) ∙ e))
+    let left = c .before .before .before .narrow in
+    let w : left .result < a .n = omega (arith, left .ensures) in
+    let sc = c .before .before .before .before .before .search in (
+      omega arith,
+      below-more (λ k. fitAtLeft (rowsOf (a .table .now) (a .n)) (a .v) k ≡ none-fits) (sc .i) (sc .inv .1)
+          (ap (fitAtLeft (rowsOf (a .table .now) (a .n)) (a .v)) (sym (left .ensures))
+          ∙ left-none (a .table .now) (a .heads .now) (a .links .now) (a .n) (a .most) (a .v) (s .pre) (left .result) w (lp .s) (lp .a) (lp .inv) (omega (arith, c .loop-test .left))),
+    )
 
 returns : tie.Need-returns Inv-loop μ-loop Inv-search μ-search
 returns c =
@@ -129,22 +118,17 @@ returns c =
 returns-2 : tie.Need-returns-2 Inv-loop μ-loop Inv-search μ-search
 returns-2 c =
     let s = c .before .before .before .before .before .before .before .before .before .before .before .before .before .before in
-    let lp = c .before .before .before .before .before .loop in
-    let left = c .before .before .before .before .before .before .before .narrow .result in
-    let w : left < s .args .n = omega (arith, c .before .before .before .before .before .before .before .narrow .ensures) in
-    let few : lp .s < 32
-    = few-shifts (lp .s) (valueAt (s .args .table .now) left)
-    (positive (s .args .table .now) (s .args .heads .now) (s .args .links .now) (s .args .n) (s .args .most) (s .args .v) (s .pre) left w)
-    (omega (arith, lp .inv .2, c .before .before .before .before .loop-test .taken, s .pre .small, s .pre .new-small)) in
     let a = s .args in
-    let row = c .before .row .given .0 .0 in
+    let lp = c .before .before .before .before .before .loop in
+    let left = c .before .before .before .before .before .before .before .narrow in
+    let w : left .result < a .n = omega (arith, left .ensures) in
+    let h : lp .a < 2 ^ 32 = omega (arith, c .before .before .before .before .loop-test .taken, s .pre .small, s .pre .new-small) in
     let sc = c .before .before .before .before .before .before .before .before .before .search in
-    let e : fitAtLeft (rowsOf (a .table .now) (a .n)) (a .v) left ≡ fit row
-    = left-first (a .table .now) (a .heads .now) (a .links .now) (a .n) (a .most) (a .v) (s .pre) left w (lp .s) (lp .inv .3) row (lp .inv .0) few
-    (sym (c .before .before .before .at-shift .ensures) ∙ ap fitOf (c .before .row .given .1)) in
+    let row = c .before .row .given .0 .0 in
     sym
     (fit-first (a .table .now) (a .n) (a .v) (sc .i) (sc .inv .1) row (omega arith)
-    (ap (fitAtLeft (rowsOf (a .table .now) (a .n)) (a .v)) (sym (c .before .before .before .before .before .before .before .narrow .ensures)) ∙ e))
+    (ap (fitAtLeft (rowsOf (a .table .now) (a .n)) (a .v)) (sym (left .ensures))
+    ∙ left-first (a .table .now) (a .heads .now) (a .links .now) (a .n) (a .most) (a .v) (s .pre) (left .result) w (lp .s) (lp .a) (lp .inv) h row (sym (c .before .before .before .at-shift .ensures) ∙ ap fitOf (c .before .row .given .1))))
 
 pub first-fit-spec : {M : Type 1} → statement M
 first-fit-spec =

@@ -1,12 +1,12 @@
 -- `row_index::put` meets its contract. Assumes nothing.
-use mathlib.Core.Path.{_≡_, refl, sym, ap, _∙_}
+use mathlib.Core.Path.{ap}
 use Prim.Native.Nat.{_+_, _*_, _≤_}
 use native.Mathlib.Omega.{arith}
 use lib.ListN.{length}
 use borrow.Author.Needs.{needs}
 use Rattle.network.specs.declared.Row.{Row}
 use Rattle.network.specs.Rows.{rowWords}
-use Rattle.row_index.specs.Index.{withRow, Grown}
+use Rattle.row_index.specs.Index.{withRow}
 use Rattle.row_index.proofs.Written.{new-row, old-row, rest-kept, rows-written, length-written}
 use Rattle.row_index.proofs.Chains.{indexed-next}
 use Rattle.row_index.proofs.put.Statement.{statement}

@@ -1,11 +1,9 @@
 -- `pair_search::left_rows::lower_left` meets its contract. Assumes nothing.
-use mathlib.Core.Path.{_≡_, sym, ap, _∙_}
-use Prim.Native.Nat.{_+_, _-_}
+use mathlib.Core.Path.{sym, _∙_}
 use native.Mathlib.Omega.{arith}
 use borrow.Author.Needs.{needs}
 use borrow.Author.Tests.{eqb-true}
 use Rattle.network.proofs.Booleans.{both}
-use Rattle.network.specs.RowRule.{lifted}
 use Rattle.row_index.proofs.Chains.{empty-bucket}
 use Rattle.pair_search.proofs.Lefts.{no-left}
 use Rattle.pair_search.proofs.left_rows.lower_left.Statement.{statement}

@@ -1,6 +1,6 @@
 -- `pair_search::left_rows::lowest_left` meets its contract. The invariant: no left row below `low` goes with a right row passed. Assumes nothing.
-use mathlib.Core.Path.{_≡_, sym, subst, _∙_}
-use Prim.Native.Nat.{ℕ, _+_, _-_, _≤_, _<_}
+use mathlib.Core.Path.{sym, subst, _∙_}
+use Prim.Native.Nat.{ℕ, _-_, _≤_, _<_}
 use native.Mathlib.Omega.{arith}
 use borrow.Author.Count.{below-more}
 use borrow.Author.Needs.{needs}
@@ -8,7 +8,6 @@ use Rattle.row_index.specs.Index.{valueAt}
 use Rattle.row_index.proofs.Values.{row-missing}
 use Rattle.pair_search.specs.Pairs.{NoLeft}
 use Rattle.pair_search.proofs.Lefts.{fewer-lefts, left-fits-none}
-use Rattle.pair_search.proofs.Shifts.{positive}
 use Rattle.pair_search.proofs.left_rows.lowest_left.Statement.{statement}
 use Rattle.pair_search.proofs.left_rows.lowest_left.Tie as tie
 
@@ -28,18 +27,18 @@ lower-left-requires : tie.Need-lower-left-requires Inv-loop μ-loop
 lower-left-requires c κs =
     let s = c .before .before .before .before .before .before in
     let lp = c .before .before .loop in
-    let h = c .before .loop-test .taken in
+    let h : lp .j < s .args .n = omega arith in
     let e = c .read-value .ensures in
     ((s .pre .index, lp .inv .1, s .pre .odd), (s .pre .new-small, omega (arith, e, s .pre .bounded (lp .j) h, s .pre .small), omega (arith, s .pre .new-odd), λ q. row-missing (s .args .table .now) (s .args .n) (s .args .v) (s .pre .new) (lp .j) h (sym e ∙ q)))
 
-add-j : tie.Need-add-j Inv-loop μ-loop
-add-j c = search needs
-
-sub-if1 : tie.Need-sub-if1 Inv-loop μ-loop
-sub-if1 c = search needs
+sub-if2 : tie.Need-sub-if2 Inv-loop μ-loop
+sub-if2 c = search needs
 
 returns : tie.Need-returns Inv-loop μ-loop
 returns c = (omega arith, λ i l. absurd (omega arith))
+
+add-j : tie.Need-add-j Inv-loop μ-loop
+add-j c = search needs
 
 loop-less : tie.Need-loop-less Inv-loop μ-loop
 loop-less c = omega arith
@@ -71,9 +70,9 @@ lowest-left-spec =
     loop-holds
     read-value-requires
     lower-left-requires
-    add-j
-    sub-if1
+    sub-if2
     returns
+    add-j
     loop-less
     loop-again
     returns-2)

@@ -23,7 +23,7 @@ returns-2 c =
     let s = c .before .before .before .before .before .before in
     let a = s .args in
     let x = c .before .before .right-value in
-    sign-past (a .table .now) (a .heads .now) (a .links .now) (a .n) (a .most) (a .v) (s .pre .0) (a .left) (a .shift) (a .a) (s .pre .1) (a .sign) (s .pre .2) (x .result) (x .ensures) (c .if2 .taken)
+    sign-past (a .table .now) (a .heads .now) (a .links .now) (a .n) (a .most) (a .v) (s .pre .0) (a .left) (a .shift) (a .a) (s .pre .1) (a .sign) (s .pre .2) (x .result) (x .ensures) (omega arith)
 
 cast-find : tie.Need-cast-find
 cast-find c = search needs
