@@ -1,5 +1,5 @@
 -- `tap_rows::sign_code` meets its contract. Assumes nothing.
-use mathlib.Core.Path.{_≡_, sym, ap}
+use mathlib.Core.Path.{sym, ap}
 use mathlib.Core.Bool.{Bool}
 use Rattle.coefficient.specs.Parts.{signIf}
 use Rattle.building.specs.TapRows.{signCode}
