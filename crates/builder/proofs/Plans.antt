@@ -1,32 +1,31 @@
 -- From the checks that are passed to the tables that are left. Assumes nothing.
-use mathlib.Core.Path.{_≡_, refl, sym, ap, subst, _∙_}
+use mathlib.Core.Path.{_≡_, sym, ap, subst, _∙_}
 use mathlib.Core.List.{List, [], _∷_, map, List·Memᴰ}
 use Prim.Native.Nat.{ℕ, _+_, _*_, _≤_, _<_}
 use native.Mathlib.Omega.{arith}
 use lib.IntN.{ℤ, pos}
 use lib.ListN.{length, getD, take, length-map, List·getD-map}
 use lib.Seq.{getD-take, length-take-le}
-use mir.Syntax.{w32}
-use mir.Val.{SFits}
 use Rattle.signed_digit.proofs.Coefficients.{i32-coefficient}
 use Rattle.network.specs.declared.Row.{Row}
-use Rattle.network.specs.Rows.{rowWords, rowsOf}
+use Rattle.network.specs.Rows.{rowsOf}
 use Rattle.building.specs.Parts.{Part, partsToBuild}
 use Rattle.building.specs.Steps.{firstRow, steps, builtRows}
 use Rattle.building.specs.TapRows.{built}
-use Rattle.building.specs.Tables.{wordsOfRows, wordsOfTapRows}
+use Rattle.building.specs.Tables.{wordsOfTapRows}
 use Rattle.building.proofs.Answers.{forms-exist}
 use Rattle.building.proofs.ChosenForm.{member}
 use Rattle.building.proofs.Lawful.{row-0}
-use Rattle.building.proofs.Passes.{CanBuild, part-buildable, rows-built}
+use Rattle.building.proofs.Passes.{part-buildable, rows-built}
 use Rattle.building.proofs.Steps.{Buildable, steps-grow}
 use Rattle.building.proofs.Words.{table-with-rows}
-use Rattle.odd_parts.specs.Keys.{partIn, tapIn, Ordered}
+use Rattle.odd_parts.specs.Keys.{partIn, Ordered}
 use Rattle.row_index.specs.Index.{Grown}
 use Rattle.row_index.proofs.Values.{length-rows}
 use Rattle.chain.specs.Reading.{HasRoom}
 use Rattle.row_builder.specs.Ready.{CanStart}
-use Rattle.builder.specs.Plan.{over, tapRowsFor, Accepted, Planned, WithIndex, Written}
+use Rattle.tap_rows.specs.Table.{over, tapRowsFor}
+use Rattle.builder.specs.Plan.{Accepted, Planned, WithIndex, Written}
 
 -- ---- the plan
 pub planned : (cs : List ℤ) (ks keys : List ℕ) (m : ℕ) (rows taps : List ℕ) → Accepted cs ks rows taps → Ordered cs keys m → m ≤ length keys → Planned cs ks keys m rows taps

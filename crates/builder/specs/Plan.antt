@@ -1,30 +1,20 @@
 -- What is known before the network is written, and what is left in the tables. For the contracts of internal functions. Definitions only.
 use mathlib.Core.Path.{_≡_}
-use mathlib.Core.List.{List, _++_, map}
+use mathlib.Core.List.{List}
 use Prim.Native.Nat.{ℕ, _*_, _≤_}
 use lib.IntN.{ℤ}
-use lib.ListN.{length, drop}
+use lib.ListN.{length}
 use Rattle.refusal.specs.Answer.{nowhere}
-use Rattle.coefficient.specs.Parts.{partsOf}
-use Rattle.network.specs.declared.Row.{Row}
-use Rattle.network.specs.declared.TapRow.{TapRow}
 use Rattle.network.specs.Rows.{rowWords, tapWords}
 use Rattle.building.specs.Steps.{builtRows}
-use Rattle.building.specs.TapRows.{tapRowOf, built}
+use Rattle.building.specs.TapRows.{built}
 use Rattle.building.specs.Tables.{wordsOfRows, wordsOfTapRows}
 use Rattle.building.proofs.Answers.{missingForm}
 use Rattle.building.proofs.Passes.{CanBuild}
 use Rattle.odd_parts.specs.Keys.{Ordered}
+use Rattle.tap_rows.specs.Table.{over}
 use Rattle.row_index.specs.Index.{Indexed}
 use Rattle.chain.specs.Reading.{HasRoom}
-
--- a table whose first words are these
-abbrev pub over : List ℕ → List ℕ → List ℕ
-over words table = words ++ drop (length words) table
-
--- the tap rows of some coefficients, over some rows
-abbrev pub tapRowsFor : List Row → List ℤ → List TapRow
-tapRowsFor rows coefficients = map (λ (z : ℤ). tapRowOf rows (partsOf z)) coefficients
 
 -- every check is passed
 pub record Accepted (coefficients : List ℤ) (choices rows taps : List ℕ) : Type 0 where

@@ -1,6 +1,4 @@
 // A network built from coefficients and chosen forms.
-mod tap_rows;
-
 ghost use mathlib.Core.Path.{_≡_};
 ghost use Prim.Native.Nat.{_≤_};
 ghost use Rattle.refusal.specs.Answer.{filled};
@@ -75,7 +73,7 @@ fn write_many(
     requires { ⌜ Planned (now coefficients) (now choices) (now keys) m (now rows) (now taps) ⌝ }
     ensures { λ r. ⌜ Written (now (coefficients .entry)) (now (choices .entry)) (now (rows .entry)) (now (taps .entry)) (now (rows .exit)) (now (taps .exit)) r ⌝ }
 {
-    let mut heads = [0u16; 32768];
+    let mut heads = [0u16; 131072];
     let mut links = [0u16; 4096];
     write_network(
         coefficients,

@@ -1,19 +1,19 @@
 -- The highest nonzero digit of a string, by the mask of its nonzero digits. Assumes nothing.
-use mathlib.Core.Path.{_≡_, refl, sym, ap, subst, _∙_}
+use mathlib.Core.Path.{_≡_, refl, sym, ap, _∙_}
 use mathlib.Core.List.{List, [], _∷_, _++_, reverse, reverse-append, append-assoc, append-nil}
 use Prim.Native.Nat.{ℕ, zero, suc, _+_, _*_, _-_, _^_, _≤_, _<_}
 use native.Mathlib.Decide.{decLe}
 use native.Mathlib.Nat.{lt-of-not-le, pow-suc}
 use native.Mathlib.Omega.{arith}
-use lib.ListN.{length, take, getD, replicate}
+use lib.ListN.{length, take, replicate}
 use lib.Pow.{pow-mono}
 use lib.Seq.{getD-at, take-at, take-take, getD-take, length-take-le}
-use Rattle.signed_digit.specs.Digit.{Digit, one, nought, minus-one, nonzero}
+use Rattle.signed_digit.specs.Digit.{Digit, nought, nonzero}
 use Rattle.signed_digit.specs.String.{DigitString, digitAt}
 use Rattle.signed_digit.specs.Same.{stripped}
 use Rattle.signed_digit.specs.Masks.{mask}
 use Rattle.signed_digit.specs.Forms.{top}
-use Rattle.signed_digit.proofs.Strings.{bit, top-places, top-mask, Topped, topped, pad, pad-places, pad-mask}
+use Rattle.signed_digit.proofs.Strings.{bit, top-places, top-mask, topped, pad, pad-places, pad-mask}
 use Rattle.signed_digit.proofs.Same.{Zeros, stripped-zeros, stripped-high}
 use Rattle.network.specs.declared.Row.{Row}
 use Rattle.building.specs.Chain.{chainFrom, chainDown}

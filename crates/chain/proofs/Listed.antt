@@ -1,12 +1,11 @@
 -- The masks of a chosen form. Assumes nothing.
-use mathlib.Core.Path.{_≡_, refl, sym, ap, _∙_}
-use mathlib.Core.List.{List, [], _∷_, _++_, map}
+use mathlib.Core.Path.{_≡_, sym, ap, _∙_}
+use mathlib.Core.List.{List, [], _++_, map}
 use Prim.Native.Nat.{ℕ, _^_, _≤_, _<_}
 use native.Mathlib.Omega.{arith}
 use lib.IntN.{pos}
-use lib.ListN.{length, getD, drop, length-map, List·getD-append, List·getD-map}
+use lib.ListN.{length, getD, length-map, List·getD-append, List·getD-map}
 use Rattle.signed_digit.specs.String.{DigitString}
-use Rattle.signed_digit.specs.Forms.{listing}
 use Rattle.signed_digit.specs.CanonicalForm.{canonical}
 use Rattle.signed_digit.proofs.Coefficients.{canonical-32}
 use Rattle.building.specs.Chain.{chosenForm}

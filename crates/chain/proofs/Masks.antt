@@ -1,13 +1,13 @@
 -- A form's string by its two masks. Assumes nothing.
 use mathlib.Core.Path.{_≡_, refl, sym, ap, ap₂, _∙_}
-use Prim.Native.Nat.{ℕ, zero, suc, _+_, _*_, _/_, _%_, _^_, _<_, max}
+use Prim.Native.Nat.{ℕ, zero, suc, _/_, _%_, _^_, _<_, max}
 use native.Mathlib.Nat.{pow-suc}
 use native.Mathlib.Omega.{arith}
 use lib.Bits.{bitOr, or-step}
 use lib.ListN.{length}
 use Rattle.signed_digit.specs.Digit.{nonzero}
 use Rattle.signed_digit.specs.String.{digitAt}
-use Rattle.signed_digit.specs.Masks.{mask, plusBit, plusMask, digitOf, fromMasks}
+use Rattle.signed_digit.specs.Masks.{mask, plusBit, digitOf, fromMasks}
 use Rattle.signed_digit.proofs.Masks.{masks-bits, fromMasks-places, fromMasks-plus}
 use Rattle.form_masks.specs.declared.Form.{Form}
 use Rattle.form_masks.specs.Form.{stringOf}

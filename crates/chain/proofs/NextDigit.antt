@@ -1,12 +1,11 @@
 -- One step of a chain: the next nonzero digit, and what it gives. Assumes nothing.
-use mathlib.Core.Path.{_≡_, refl, sym, ap, subst, _∙_}
+use mathlib.Core.Path.{_≡_, refl, sym, subst, _∙_}
 use mathlib.Core.Bool.{Bool, true, false, cond}
-use mathlib.Core.List.{List, _∷_, reverse}
+use mathlib.Core.List.{List, _∷_}
 use Prim.Native.Nat.{ℕ, zero, suc, _+_, _*_, _-_, _/_, _%_, _^_, _≤_, _<_}
 use native.Mathlib.Omega.{arith}
 use borrow.Author.Tests.{eq-eqb, ne-eqb}
 use lib.Dec.{eqb}
-use lib.ListN.{length, take}
 use lib.Pow.{pow-mono}
 use Rattle.signed_digit.specs.Digit.{Digit, one, nought, minus-one, nonzero}
 use Rattle.signed_digit.specs.String.{DigitString, digitAt}
@@ -18,9 +17,8 @@ use Rattle.network.specs.Rows.{plus, minus}
 use Rattle.building.specs.Chain.{chainStep, chainFrom}
 use Rattle.building.proofs.ChainValue.{chainValue, doubled, no-less, never-falls}
 use Rattle.chain.specs.declared.Chain.{Chain}
-use Rattle.chain.specs.declared.Step.{Step}
 use Rattle.chain.specs.Reading.{below, Digits, IsNext}
-use Rattle.chain.proofs.HighDigits.{places, Next, next}
+use Rattle.chain.proofs.HighDigits.{Next, next}
 use Rattle.chain.proofs.Masks.{string-places, plus-bit}
 
 -- v = 2^gap·v ± 1

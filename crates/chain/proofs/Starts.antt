@@ -1,10 +1,10 @@
 -- The highest nonzero digit of a form, a 1, is row 0. Assumes nothing.
-use mathlib.Core.Path.{_≡_, refl, sym, ap, subst, _∙_}
+use mathlib.Core.Path.{_≡_, refl, sym, ap, _∙_}
 use mathlib.Core.List.{List, _∷_, reverse}
-use Prim.Native.Nat.{ℕ, zero, suc, _+_, _-_, _^_, _≤_, _<_}
+use Prim.Native.Nat.{ℕ, zero, suc, _-_, _^_, _≤_, _<_}
 use native.Mathlib.Omega.{arith}
 use lib.Bits.{bitOr}
-use lib.ListN.{length, take}
+use lib.ListN.{take}
 use lib.Seq.{take-all}
 use Rattle.signed_digit.specs.Digit.{Digit, one, nought, minus-one, nonzero}
 use Rattle.signed_digit.specs.String.{DigitString, digitAt}
@@ -14,7 +14,7 @@ use Rattle.network.specs.declared.Row.{Row}
 use Rattle.building.specs.Chain.{chainFrom, chainDown, chained}
 use Rattle.building.proofs.ChainValue.{chainValue, chainEnd}
 use Rattle.chain.specs.Reading.{Readable, Reading, below}
-use Rattle.chain.proofs.HighDigits.{places, places-small, Next, next, end-none}
+use Rattle.chain.proofs.HighDigits.{places, Next, next, end-none}
 use Rattle.chain.proofs.Masks.{string-places, string-mask}
 
 -- a digit from which a chain reaches a positive value

@@ -1,13 +1,13 @@
 -- Rows added digit by digit. Assumes nothing.
 use mathlib.Core.Path.{_≡_, refl, sym, ap, subst, _∙_}
 use mathlib.Core.List.{List, [], _∷_, _++_}
-use Prim.Native.Nat.{ℕ, _+_, _*_, _≤_, _<_}
+use Prim.Native.Nat.{ℕ, _+_, _≤_}
 use native.Mathlib.Omega.{arith}
 use lib.ListN.{length, length-append}
 use Rattle.refusal.specs.Answer.{nowhere, at-place, placeOr}
 use Rattle.form_masks.specs.declared.Form.{Form}
 use Rattle.network.specs.declared.Row.{Row}
-use Rattle.network.specs.Rows.{rowWords, rowsOf}
+use Rattle.network.specs.Rows.{rowsOf}
 use Rattle.building.specs.Search.{rowWith}
 use Rattle.building.specs.Chain.{addUnless, chainStep, chainFrom}
 use Rattle.building.proofs.Lookup.{row-joins}

@@ -14,7 +14,7 @@ use Rattle.network.specs.Rows.{rowWords, rowsOf}
 use Rattle.building.specs.Search.{rowWith}
 use Rattle.building.specs.Chain.{addUnless, chainStep, chainFrom}
 use Rattle.building.proofs.ChainValue.{chainValue, chainEnd}
-use Rattle.row_index.specs.Index.{Indexed, Grown}
+use Rattle.row_index.specs.Index.{Grown}
 use Rattle.chain.specs.declared.Chain.{Chain}
 use Rattle.chain.specs.declared.Step.{Step}
 use Rattle.chain.specs.declared.Place.{Place}

@@ -7,7 +7,6 @@ ghost use mathlib.Core.Path.{_≡_};
 ghost use mathlib.Core.Bool.{cond};
 ghost use Prim.Native.Nat.{suc, _+_, _*_, _-_, _^_, _≤_, _<_};
 ghost use lib.ListN.{length};
-ghost use Rattle.refusal.specs.Answer.{at-place};
 ghost use Rattle.form_masks.specs.Form.{stringOf};
 ghost use Rattle.network.specs.Rows.{rowsOf};
 ghost use Rattle.building.specs.Search.{rowWith};

@@ -7,13 +7,13 @@ use native.Mathlib.Omega.{arith}
 use lib.ListN.{length, getD, take, drop, drop-of-length-le}
 use lib.Seq.{drop-cons, getD-take, length-take-le}
 use Rattle.network.specs.declared.Row.{Row}
-use Rattle.network.specs.Rows.{rowIn, rowsOf}
+use Rattle.network.specs.Rows.{rowsOf}
 use Rattle.building.specs.Parts.{Part}
 use Rattle.building.specs.Steps.{firstRow, step, steps}
 use Rattle.building.proofs.Lawful.{Lawful, row-0}
 use Rattle.building.proofs.Steps.{Buildable, step-grows}
-use Rattle.odd_parts.specs.Keys.{partIn, valueIn}
-use Rattle.row_index.specs.Index.{valueAt, Grown}
+use Rattle.odd_parts.specs.Keys.{partIn}
+use Rattle.row_index.specs.Index.{Grown}
 use Rattle.row_index.proofs.Growth.{grown-none, grown-on}
 use Rattle.row_index.proofs.Values.{length-rows, value-in}
 use Rattle.row_builder.specs.Ready.{Ready}

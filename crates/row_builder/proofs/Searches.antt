@@ -1,29 +1,29 @@
 -- What the steps ask of the rows that are there, for an odd part without a row. Assumes nothing.
-use mathlib.Core.Path.{_≡_, refl, sym, ap, subst, _∙_}
+use mathlib.Core.Path.{_≡_, sym, ap, _∙_}
 use mathlib.Core.List.{List, [], _∷_, _++_, reverse}
-use Prim.Native.Nat.{ℕ, _+_, _*_, _%_, _^_, _≤_, _<_}
+use Prim.Native.Nat.{ℕ, _+_, _%_, _<_}
 use native.Mathlib.Omega.{arith}
 use lib.ListN.{length, length-append}
-use Rattle.refusal.specs.Answer.{nowhere, at-place}
+use Rattle.refusal.specs.Answer.{nowhere}
 use Rattle.signed_digit.specs.String.{DigitString}
 use Rattle.signed_digit.specs.Masks.{plusMask, minusMask, fromMasks}
 use Rattle.signed_digit.proofs.Masks.{masks-string}
 use Rattle.form_masks.specs.Form.{formOf, stringOf}
 use Rattle.network.specs.declared.Row.{Row}
-use Rattle.network.specs.Rows.{rowIn, rowsOf}
+use Rattle.network.specs.Rows.{rowsOf}
 use Rattle.building.specs.Parts.{Part}
-use Rattle.building.specs.Search.{rowWith, Fit, fit, none-fits, firstFit}
+use Rattle.building.specs.Search.{rowWith, fit, none-fits, firstFit}
 use Rattle.building.specs.Chain.{chosenForm, chained}
 use Rattle.building.specs.Steps.{searched}
 use Rattle.building.proofs.ChainValue.{chainEnd}
 use Rattle.building.proofs.ChosenForm.{chosen-form}
 use Rattle.building.proofs.Chain.{one-has-row}
 use Rattle.building.proofs.FirstFit.{fit-is-first}
-use Rattle.building.proofs.Lawful.{Lawful, lawful-value}
+use Rattle.building.proofs.Lawful.{lawful-value}
 use Rattle.row_index.specs.Index.{valueAt}
 use Rattle.row_index.proofs.Values.{length-rows, value-in}
 use Rattle.pair_search.specs.Pairs.{Searchable}
-use Rattle.chain.specs.Reading.{HasRoom, Readable}
+use Rattle.chain.specs.Reading.{Readable}
 use Rattle.row_builder.specs.Ready.{Ready}
 
 module _ (table heads links : List ℕ) (n most : ℕ) (p : Part) (r : Ready table heads links n most p) where

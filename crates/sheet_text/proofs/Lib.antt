@@ -1,3 +1,5 @@
 pub mod Bounds
 pub mod Building
 pub mod Sheets
+pub mod Example
+pub mod Enough

@@ -7,6 +7,7 @@
 use super::call::Row;
 use super::index::{cell, mark, Index, BLOCK};
 use crate::network::{MINUS, PLUS, REVERSED};
+use std::mem::MaybeUninit;
 
 /// Rows whose cells are worked out together.
 const STRETCH: usize = 32 * BLOCK;
@@ -62,10 +63,10 @@ impl Index<'_> {
     #[inline(never)]
     pub fn first_fit(&self, value: u32) -> Option<Row> {
         let (mut first, mut wanted_marks) = (u64::MAX, u8::MAX);
-        let mut cells = [0; STRETCH];
+        let mut cells = [MaybeUninit::uninit(); STRETCH];
         for (stretch, values) in self.values().chunks(STRETCH).enumerate() {
-            find_cells(value, values, self.filter_bits, &mut cells);
-            for (block, cells) in cells[..values.len()].as_chunks().0.iter().enumerate() {
+            let cells = find_cells(value, values, self.filter_bits, &mut cells);
+            for (block, cells) in cells.as_chunks().0.iter().enumerate() {
                 if self.marks(cells) & wanted_marks != 0 {
                     let at = STRETCH * stretch + BLOCK * block;
                     first = self.first_of(value, at, cells, first);
@@ -95,10 +96,18 @@ fn wanted(fit: u64) -> u8 {
 
 /// For each row the cell of its sum with the value in the lower half, of its difference in the upper.
 #[inline(never)]
-fn find_cells(value: u32, rows: &[u32], bits: u32, cells: &mut [u32; STRETCH]) {
-    for (other, to) in rows.iter().zip(cells) {
+fn find_cells<'a>(
+    value: u32,
+    rows: &[u32],
+    bits: u32,
+    cells: &'a mut [MaybeUninit<u32>; STRETCH],
+) -> &'a [u32] {
+    let cells = &mut cells[..rows.len()];
+    for (other, to) in rows.iter().zip(cells.iter_mut()) {
         let sum = (value + other) >> 1;
         let difference = (value as i32 - *other as i32) >> 1;
-        *to = cell(sum as i32, bits) | cell(difference, bits) << 16;
+        to.write(cell(sum as i32, bits) | cell(difference, bits) << 16);
     }
+    // SAFETY: each has been written.
+    unsafe { cells.assume_init_ref() }
 }

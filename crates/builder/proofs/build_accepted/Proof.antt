@@ -30,7 +30,7 @@ slice-aggregate-write-few : tie.Need-slice-aggregate-write-few
 slice-aggregate-write-few c = search needs
 
 write-few-requires : tie.Need-write-few-requires
-write-few-requires c κs = let t = c .before .before .before in (plan (t .before .before), t .if1 .taken)
+write-few-requires c κs = let t = c .before .before .before in (plan (t .before .before), omega (arith, t .if1 .taken))
 
 slice-aggregate-write-many : tie.Need-slice-aggregate-write-many
 slice-aggregate-write-many c = search needs

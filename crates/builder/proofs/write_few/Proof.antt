@@ -21,8 +21,8 @@ write-network-requires c κs =
     let a = s .args in (
       s .pre .0,
       record {
-        index = indexed-none (a .rows .now) (replicate {A = ℕ} 1024 0) (replicate {A = ℕ} 1024 0) 1024 refl (lit< tt);
-        room = room-few (a .coefficients .now) (a .choices .now) (a .keys .now) (a .m) (a .rows .now) (a .taps .now) (s .pre .0) (replicate {A = ℕ} 1024 0) (s .pre .1) (lit≤ tt);
+        index = indexed-none (a .rows .now) (replicate {A = ℕ} 1024 0) _ 1024 refl (lit< tt);
+        room = room-few (a .coefficients .now) (a .choices .now) (a .keys .now) (a .m) (a .rows .now) (a .taps .now) (s .pre .0) _ (s .pre .1) (lit≤ tt);
       },
     )
 

@@ -21,8 +21,8 @@ write-network-requires c κs =
     let a = s .args in (
       s .pre,
       record {
-        index = indexed-none (a .rows .now) (replicate {A = ℕ} 32768 0) (replicate {A = ℕ} 4096 0) 32768 refl (lit< tt);
-        room = room-many (a .coefficients .now) (a .choices .now) (a .keys .now) (a .m) (a .rows .now) (a .taps .now) (s .pre) (replicate {A = ℕ} 4096 0) (lit≤ tt);
+        index = indexed-none (a .rows .now) (replicate {A = ℕ} 131072 0) _ 131072 refl (lit< tt);
+        room = room-many (a .coefficients .now) (a .choices .now) (a .keys .now) (a .m) (a .rows .now) (a .taps .now) (s .pre) _ (lit≤ tt);
       },
     )
 

@@ -1,4 +1,4 @@
-// The tap rows of a built network.
+// The tap rows of a built network. Internal: the crate above brings the rows with their index.
 ghost use mathlib.Core.Path.{_≡_};
 ghost use Prim.Native.Nat.{_+_, _*_, _≤_};
 ghost use lib.ListN.{length};
@@ -10,7 +10,7 @@ ghost use Rattle.building.specs.TapRows.{signCode, tapRowOf};
 ghost use Rattle.building.specs.Tables.{wordsOfTapRows};
 ghost use Rattle.building.proofs.TapWritten.{withTapRow};
 ghost use Rattle.row_index.specs.Index.{Indexed};
-ghost use Rattle.builder.specs.Plan.{over, tapRowsFor};
+ghost use Rattle.tap_rows.specs.Table.{over, tapRowsFor};
 use coefficient::Reduced;
 use network::TapRow;
 use row_index::Found;

@@ -1,10 +1,10 @@
--- `builder::tap_rows::write_tap_row` meets its contract. Assumes nothing.
+-- `tap_rows::write_tap_row` meets its contract. Assumes nothing.
 use borrow.Author.Needs.{needs}
 use Prim.Native.Nat.{_-_}
 use native.Mathlib.Omega.{arith}
 use lib.ListN.{length-set}
-use Rattle.builder.proofs.tap_rows.write_tap_row.Statement.{statement}
-use Rattle.builder.proofs.tap_rows.write_tap_row.Tie as tie
+use Rattle.tap_rows.proofs.write_tap_row.Statement.{statement}
+use Rattle.tap_rows.proofs.write_tap_row.Tie as tie
 
 mul-at : tie.Need-mul-at
 mul-at c = search needs

@@ -1,4 +1,4 @@
--- `builder::tap_rows::write_tap_rows` meets its contract. Assumes nothing.
+-- `tap_rows::write_tap_rows` meets its contract. Assumes nothing.
 use borrow.Author.Needs.{needs}
 use mathlib.Core.Path.{sym, ap, subst, _∙_}
 use mathlib.Core.List.{List}
@@ -11,9 +11,9 @@ use mir.ValLaws.{toZ-ofZ}
 use Rattle.coefficient.specs.Parts.{partsOf}
 use Rattle.network.specs.Rows.{rowsOf}
 use Rattle.building.specs.TapRows.{tapRowOf}
-use Rattle.builder.proofs.Filling.{Filling, filling-none, filling-next, filling-all}
-use Rattle.builder.proofs.tap_rows.write_tap_rows.Statement.{statement}
-use Rattle.builder.proofs.tap_rows.write_tap_rows.Tie as tie
+use Rattle.tap_rows.proofs.Filling.{Filling, filling-none, filling-next, filling-all}
+use Rattle.tap_rows.proofs.write_tap_rows.Statement.{statement}
+use Rattle.tap_rows.proofs.write_tap_rows.Tie as tie
 
 abbrev Inv-loop : tie.InvT-loop
 Inv-loop coefficients table heads links n taps₀ j₀ taps j = (j ≤ length coefficients) × Filling (λ (z : ℤ). tapRowOf (rowsOf table n) (partsOf z)) coefficients taps₀ taps j

@@ -1,4 +1,4 @@
--- `builder::tap_rows::row_of` meets its contract. Assumes nothing.
+-- `tap_rows::row_of` meets its contract. Assumes nothing.
 use borrow.Author.Needs.{needs}
 use mathlib.Core.Path.{_≡_, sym, ap, _∙_}
 use Prim.Native.Nat.{_-_}
@@ -8,8 +8,8 @@ use Rattle.network.specs.Rows.{rowsOf}
 use Rattle.building.specs.Search.{rowWith}
 use Rattle.row_index.specs.Found.{foundAt}
 use Rattle.row_index.proofs.Values.{row-found}
-use Rattle.builder.proofs.tap_rows.row_of.Statement.{statement}
-use Rattle.builder.proofs.tap_rows.row_of.Tie as tie
+use Rattle.tap_rows.proofs.row_of.Statement.{statement}
+use Rattle.tap_rows.proofs.row_of.Tie as tie
 
 abbrev start : tie.After-find → tie.Start
 start c = c .before .before .before .before

@@ -1,7 +1,7 @@
 -- Tap rows written one after the other. Assumes nothing.
 use mathlib.Core.Path.{_≡_, refl, sym, ap, _∙_}
 use mathlib.Core.List.{List, [], _∷_, _++_, map, map-append}
-use Prim.Native.Nat.{ℕ, suc, _+_, _-_, _*_, _≤_, _<_}
+use Prim.Native.Nat.{ℕ, _+_, _-_, _*_, _≤_, _<_}
 use native.Mathlib.Numerals.{add-one}
 use native.Mathlib.Omega.{arith}
 use lib.IntN.{ℤ, pos}
@@ -13,7 +13,7 @@ use Rattle.network.specs.Rows.{tapWords, tapRowsOf}
 use Rattle.building.specs.Tables.{wordsOfTapRows}
 use Rattle.building.proofs.TapWritten.{withTapRow, rest-kept, length-written, taps-written}
 use Rattle.building.proofs.Words.{table-with-taps}
-use Rattle.builder.specs.Plan.{over}
+use Rattle.tap_rows.specs.Table.{over}
 
 module _ (f : ℤ → TapRow) (cs : List ℤ) (old : List ℕ) where
   -- the tap rows of the first j coefficients are written
@@ -32,7 +32,6 @@ module _ (f : ℤ → TapRow) (cs : List ℤ) (old : List ℕ) where
         let q : tapWords * (j + 1) ≡ tapWords * j + 3 = omega arith in
         let d : drop (tapWords * (j + 1)) taps ≡ drop (tapWords * (j + 1)) old
         = ap (λ (k : ℕ). drop k taps) q ∙ sym (drop-drop 3 (tapWords * j) taps) ∙ ap (drop 3) (w .rest) ∙ drop-drop 3 (tapWords * j) old ∙ ap (λ (k : ℕ). drop k old) (sym q) in
-        let c : List TapRow = map f (take j cs) in
         record {
           long = length-written taps j t ∙ w .long;
           front = taps-written taps j t (omega (arith, w .long)) ∙ ap (λ (x : List TapRow). x ++ (t ∷ [])) (w .front) ∙ ap (λ (x : TapRow). map f (take j cs) ++ (x ∷ [])) e

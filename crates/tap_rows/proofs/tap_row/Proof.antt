@@ -1,4 +1,4 @@
--- `builder::tap_rows::tap_row` meets its contract. Assumes nothing.
+-- `tap_rows::tap_row` meets its contract. Assumes nothing.
 use borrow.Author.Needs.{needs}
 use mathlib.Core.Path.{_≡_, sym, ap, ap₂, _∙_}
 use Prim.Native.Nat.{ℕ, _-_}
@@ -7,8 +7,8 @@ use mir.ValLaws.{toZ-ofZ}
 use Rattle.coefficient.specs.Parts.{partsOf, partsIn}
 use Rattle.network.specs.Rows.{rowsOf}
 use Rattle.building.specs.TapRows.{tapRowOf}
-use Rattle.builder.proofs.tap_rows.tap_row.Statement.{statement}
-use Rattle.builder.proofs.tap_rows.tap_row.Tie as tie
+use Rattle.tap_rows.proofs.tap_row.Statement.{statement}
+use Rattle.tap_rows.proofs.tap_row.Tie as tie
 
 abbrev start : tie.After-reduce → tie.Start
 start c = c .before .before .before .before
