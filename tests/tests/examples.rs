@@ -1,5 +1,6 @@
 //! The examples: each text, packed and handed to ./sheet, gives the sheet beside it.
 
+use fir_tests::sheet::command::Clone;
 use fir_tests::sheet::input::Input;
 use fir_tests::sheet::literal;
 use fir_tests::sheet::program::{root, run, Delivery};
@@ -14,6 +15,7 @@ fn examples_have_their_sheets() {
         .filter(|path| path.extension() == Some("txt".as_ref()))
         .collect();
     assert_eq!(texts.len(), 5);
+    let clone = Clone::built("examples");
     for text in texts {
         let name = text.display();
         let taps = run(
@@ -22,11 +24,7 @@ fn examples_have_their_sheets() {
             Delivery::AtOnce,
         );
         assert_eq!((taps.status, taps.errors.as_str()), (Some(0), ""), "{name}");
-        let sheet = run(
-            &mut Command::new(root().join("sheet")),
-            &taps.out,
-            Delivery::AtOnce,
-        );
+        let sheet = run(&mut clone.command(), &taps.out, Delivery::AtOnce);
         assert_eq!(
             (sheet.status, sheet.errors.as_str()),
             (Some(0), ""),
