@@ -1,12 +1,12 @@
 -- Document 01's example: the sheet of 3, -6, 45 and 0 over 32768. Assumes nothing.
-use Prim.Native.Nat.{ℕ}
 use mathlib.Core.Path.{_≡_, refl}
 use mathlib.Core.List.{List, [], _∷_, _++_}
-use Rattle.sequence.specs.UpTo.{upTo}
-use Rattle.sheet_fields.specs.Ascii.{ascii}
-use Rattle.sheet_input.specs.Argument.{missing}
+use Prim.Native.Nat.{ℕ}
 use lib.Count.{trailingZeros}
 use lib.Ieee.{ofBits, round}
+use Rattle.sequence.specs.UpTo.{upTo}
+use Rattle.sheet_fields.specs.Ascii.{ascii}
+use Rattle.sheet_input.specs.Argument.{missing, fractionBits}
 use Rattle.refusal.specs.Answer.{lowestFrom}
 use Rattle.signed_digit.specs.CanonicalForm.{canonicalNat}
 use Rattle.coefficient.specs.Parts.{partsOf, oddPartOf, shiftOf}
@@ -20,7 +20,6 @@ use Rattle.tap_set.specs.Set.{largerOf, reported, reportFrom, bounded, roundedT
 use Rattle.sheet_fields.specs.Numbers.{decimalBy, decimal, integer}
 use Rattle.sheet_lines.specs.Lines.{line, columns, header, nodeLine, tapLine, totalLine}
 use Rattle.sheet_lines.specs.Text.{linesFrom, networkText}
-use Rattle.sheet_input.specs.Argument.{fractionBits}
 use Rattle.sheet_input.specs.Taps.{lowFirst, tapAt}
 use Rattle.sheet_input.specs.Input.{inputAnswer}
 use Rattle.sheet_text.specs.Sheet.{choices, tapsAnswer, sheetAnswer, sheetOf}
