@@ -15,8 +15,7 @@ use Rattle.sheet_fields.specs.Ascii.{ascii}
 use Rattle.sheet_fields.specs.Numbers.{decimalBy, decimal}
 use Rattle.sheet_fields.specs.Put.{Put}
 use Rattle.sheet_fields.proofs.Puts.{then}
-use Rattle.sheet_lines.specs.Lines.{line, columns, nodeLine, laterLine, tapLine, emptyTapLine, productLine}
-use Rattle.sheet_lines.specs.Text.{linesFrom}
+use Rattle.sheet_lines.specs.Lines.{line, columns, nodeLine, laterLine, tapLine, emptyTapLine, productLine, linesFrom}
 use Rattle.sheet_lines.specs.Tables.{shared}
 
 -- the shared fields, and what comes after them

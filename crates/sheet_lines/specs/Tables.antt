@@ -1,12 +1,10 @@
 -- What the internal writers ask and give. Definitions only.
-use mathlib.Core.Path.{_≡_}
 use mathlib.Core.List.{List, _∷_, _++_}
 use Prim.Native.Nat.{ℕ, _*_, _≤_, _<_}
 use lib.IntN.{ℤ, pos}
 use lib.ListN.{length, getD}
 use Rattle.network.specs.declared.TapRow.{TapRow}
-use Rattle.network.specs.Rows.{rowWords, tapWords, rowAt, tapRowAt, networkOf}
-use Rattle.network.specs.Coefficients.{coefficients}
+use Rattle.network.specs.Rows.{rowWords, tapWords, rowAt, tapRowAt}
 use Rattle.sheet_fields.specs.Numbers.{decimal}
 use Rattle.sheet_lines.specs.Lines.{tapLine}
 
@@ -30,10 +28,3 @@ pub record TapsIn (taps : List ℕ) (m : ℕ) : Type 0 where
 -- a tap's line, the taps' coefficients being listed
 abbrev pub tapLineOf : List ℤ → ℕ → TapRow → List ℕ
 tapLineOf values j t = tapLine j t (getD values j (pos 0))
-
--- two tables hold n rows and as many tap rows as there are coefficients, and these are the network's
-pub record NetworkIn (rows : List ℕ) (n : ℕ) (taps : List ℕ) (values : List ℤ) : Type 0 where
-  pub some : 1 ≤ n
-  pub rows-in : RowsIn rows n
-  pub taps-in : TapsIn taps (length values)
-  pub products : values ≡ coefficients (networkOf rows n taps (length values))

@@ -18,8 +18,8 @@ use Rattle.building.specs.TapRows.{tapRowOf, built}
 use Rattle.tap.specs.Rounding.{halfOf, toNearest, nearestWhole, leftover, split, sizeOf, outside, coefficientOf}
 use Rattle.tap_set.specs.Set.{largerOf, reported, reportFrom, bounded, roundedTaps}
 use Rattle.sheet_fields.specs.Numbers.{decimalBy, decimal, integer}
-use Rattle.sheet_lines.specs.Lines.{line, columns, header, nodeLine, tapLine, totalLine}
-use Rattle.sheet_lines.specs.Text.{linesFrom, networkText}
+use Rattle.sheet_lines.specs.Lines.{line, columns, header, nodeLine, tapLine, totalLine, linesFrom}
+use Rattle.sheet_kinds.specs.Text.{networkText}
 use Rattle.sheet_input.specs.Taps.{lowFirst, tapAt}
 use Rattle.sheet_input.specs.Input.{inputAnswer}
 use Rattle.sheet_text.specs.Sheet.{choices, tapsAnswer, sheetAnswer, sheetOf}

@@ -18,7 +18,7 @@ use Rattle.building.specs.TapRows.{built}
 use Rattle.tap_set.specs.declared.Report.{Report}
 use Rattle.tap_set.specs.Set.{roundedTaps, coefficientsOf}
 use Rattle.sheet_fields.specs.Put.{Put}
-use Rattle.sheet_lines.specs.Text.{networkText, refusedText}
+use Rattle.sheet_kinds.specs.Text.{networkText, refusedText}
 use Rattle.sheet_input.specs.Argument.{Argument}
 use Rattle.sheet_input.specs.Taps.{tapsOf}
 use Rattle.sheet_input.specs.Input.{inputAnswer}

@@ -7,7 +7,7 @@ use native.Mathlib.Omega.{arith}
 use lib.ListN.{length, take}
 use lib.Seq.{take-all, length-take-le}
 use Rattle.sheet_fields.proofs.Decimals.{lt-or-le}
-use Rattle.sheet_lines.specs.Text.{refusedText}
+use Rattle.sheet_kinds.specs.Text.{refusedText}
 use Rattle.sheet_input.specs.Argument.{Argument}
 use Rattle.sheet_input.proofs.Answers.{too-many}
 use Rattle.sheet_text.specs.Sheet.{sheetOf}

@@ -6,7 +6,7 @@ ghost use lib.ListN.{length, take, drop};
 ghost use Rattle.refusal.specs.Table.{numberOf, placeOf};
 ghost use Rattle.building.specs.TapRows.{built};
 ghost use Rattle.sheet_fields.specs.Put.{Put};
-ghost use Rattle.sheet_lines.specs.Text.{networkText, refusedText};
+ghost use Rattle.sheet_kinds.specs.Text.{networkText, refusedText};
 ghost use Rattle.sheet_input.specs.Argument.{argumentOf};
 ghost use Rattle.sheet_input.specs.Taps.{wholeTaps, tapsOf};
 ghost use Rattle.sheet_text.specs.Sheet.{choices, tapsAnswer, textOf, sheetOf};
@@ -20,7 +20,7 @@ fn refused_sheet(out: &mut [u8], refusal: Refusal) -> usize
     requires { ⌜ 262144 ≤ length (now out) ⌝ }
     ensures { λ r. ⌜ Put (now (out .entry)) 0 (refusedText (numberOf refusal) (placeOf refusal)) 262144 (now (out .exit)) r ⌝ }
 {
-    sheet_lines::refused_sheet(out, refusal::number(refusal), refusal::place(refusal))
+    sheet_kinds::refused_sheet(out, refusal::number(refusal), refusal::place(refusal))
 }
 
 // The sheet of coefficients, all choices 0. Nothing is turned down here.
@@ -33,7 +33,7 @@ fn coefficient_sheet(out: &mut [u8], coefficients: &[i32]) -> usize
     let mut taps = [0u32; 768];
     let answer = builder::build(coefficients, &choices, &mut rows, &mut taps);
     match answer {
-        Built::Rows(n) => sheet_lines::network_sheet(out, &rows, n as usize, &taps, coefficients),
+        Built::Rows(n) => sheet_kinds::network_sheet(out, &rows, n as usize, &taps, coefficients),
         Built::Refused(refusal) => refused_sheet(out, refusal),
     }
 }

@@ -2,7 +2,7 @@
 use borrow.Author.Needs.{needs}
 use mathlib.Core.Path.{sym, ap, subst, _∙_}
 use Rattle.builder.specs.Answer.{answerOf}
-use Rattle.sheet_lines.specs.Text.{networkText}
+use Rattle.sheet_kinds.specs.Text.{networkText}
 use Rattle.sheet_fields.specs.Put.{Put}
 use Rattle.network.specs.Rows.{Network}
 use Rattle.sheet_text.specs.Sheet.{choices}

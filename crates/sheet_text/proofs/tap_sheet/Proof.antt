@@ -10,7 +10,7 @@ use lib.Ieee.{Float}
 use Rattle.refusal.proofs.Tables.{length-map}
 use Rattle.tap.specs.Rounding.{coefficientOf, wholeOf}
 use Rattle.sheet_input.specs.Taps.{tapAt, tapsOf}
-use Rattle.sheet_lines.specs.Text.{networkText}
+use Rattle.sheet_kinds.specs.Text.{networkText}
 use Rattle.sheet_fields.specs.Put.{Put}
 use Rattle.sequence.proofs.UpTo.{length-upTo}
 use Rattle.tap_set.specs.Set.{roundedTaps, coefficientsOf, answerOf}

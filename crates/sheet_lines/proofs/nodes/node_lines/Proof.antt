@@ -7,8 +7,7 @@ use lib.ListN.{length}
 use Rattle.network.specs.Rows.{rowAt, rowsOf}
 use Rattle.sheet_fields.proofs.Puts.{then, widen}
 use Rattle.sheet_fields.specs.Put.{Put}
-use Rattle.sheet_lines.specs.Text.{linesFrom}
-use Rattle.sheet_lines.specs.Lines.{nodeLine}
+use Rattle.sheet_lines.specs.Lines.{nodeLine, linesFrom}
 use Rattle.sheet_lines.proofs.Lines.{lines-next, nothing-put}
 use Rattle.sheet_lines.proofs.nodes.node_lines.Statement.{statement}
 use Rattle.sheet_lines.proofs.nodes.node_lines.Tie as tie

@@ -12,8 +12,7 @@ use Rattle.network.specs.declared.TapRow.{TapRow}
 use Rattle.sheet_fields.proofs.Puts.{then, widen}
 use Rattle.sheet_fields.specs.Put.{Put}
 use Rattle.sheet_lines.specs.Tables.{tapLineOf}
-use Rattle.sheet_lines.specs.Text.{linesFrom}
-use Rattle.sheet_lines.specs.Lines.{tapLine}
+use Rattle.sheet_lines.specs.Lines.{tapLine, linesFrom}
 use Rattle.sheet_lines.proofs.Lines.{lines-next, nothing-put}
 use Rattle.sheet_lines.proofs.taps.tap_lines.Statement.{statement}
 use Rattle.sheet_lines.proofs.taps.tap_lines.Tie as tie

@@ -1,17 +1,12 @@
 -- The sheet of a network, and of a refusal. Document 01, "The sheet". Definitions only.
-use mathlib.Core.List.{List, [], _∷_, _++_}
-use Prim.Native.Nat.{ℕ, suc, _-_}
+use mathlib.Core.List.{List, _++_}
+use Prim.Native.Nat.{ℕ, _-_}
 use lib.ListN.{length}
 use Rattle.network.specs.declared.Row.{Row}
 use Rattle.network.specs.declared.TapRow.{TapRow}
 use Rattle.network.specs.Rows.{Network}
 use Rattle.network.specs.Coefficients.{coefficientOf}
-use Rattle.sheet_lines.specs.Lines.{header, nodeLine, tapLine, totalLine, refusedLine}
-
--- the lines of a list, "each by number", the first number being i
-unfoldable pub linesFrom : {A : Type 0} → (ℕ → A → List ℕ) → ℕ → List A → List ℕ
-linesFrom lineOf i [] = []
-linesFrom lineOf i (x ∷ xs) = lineOf i x ++ linesFrom lineOf (suc i) xs
+use Rattle.sheet_lines.specs.Lines.{header, nodeLine, tapLine, totalLine, refusedLine, linesFrom}
 
 -- a tap's line: its value is the coefficient that its row, shift and sign give
 abbrev pub tapLineIn : List Row → ℕ → TapRow → List ℕ

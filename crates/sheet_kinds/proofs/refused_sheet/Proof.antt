@@ -1,11 +1,11 @@
--- `sheet_lines::refused_sheet` meets its contract. Assumes nothing.
+-- `sheet_kinds::refused_sheet` meets its contract. Assumes nothing.
 use borrow.Author.Needs.{needs}
 use lib.Dec.{lit≤}
 use Rattle.sheet_fields.proofs.Puts.{then, widen}
-use Rattle.sheet_lines.specs.Text.{refusedText}
+use Rattle.sheet_kinds.specs.Text.{refusedText}
 use Rattle.sheet_lines.specs.Lines.{line, columns, refusedLine}
-use Rattle.sheet_lines.proofs.refused_sheet.Statement.{statement}
-use Rattle.sheet_lines.proofs.refused_sheet.Tie as tie
+use Rattle.sheet_kinds.proofs.refused_sheet.Statement.{statement}
+use Rattle.sheet_kinds.proofs.refused_sheet.Tie as tie
 
 put-header-requires : tie.Need-put-header-requires
 put-header-requires c κs = search needs

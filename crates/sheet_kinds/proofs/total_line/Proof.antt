@@ -1,9 +1,9 @@
--- `sheet_lines::total_line` meets its contract. Assumes nothing.
+-- `sheet_kinds::total_line` meets its contract. Assumes nothing.
 use borrow.Author.Needs.{needs}
 use Rattle.sheet_fields.proofs.Puts.{then}
 use Rattle.sheet_lines.specs.Lines.{line, columns, totalLine}
-use Rattle.sheet_lines.proofs.total_line.Statement.{statement}
-use Rattle.sheet_lines.proofs.total_line.Tie as tie
+use Rattle.sheet_kinds.proofs.total_line.Statement.{statement}
+use Rattle.sheet_kinds.proofs.total_line.Tie as tie
 
 slice-aggregate-put : tie.Need-slice-aggregate-put
 slice-aggregate-put c = search needs

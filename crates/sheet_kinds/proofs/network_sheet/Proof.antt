@@ -1,4 +1,4 @@
--- `sheet_lines::network_sheet` meets its contract. Assumes nothing.
+-- `sheet_kinds::network_sheet` meets its contract. Assumes nothing.
 use borrow.Author.Needs.{needs}
 use mathlib.Core.List.{List}
 use mathlib.Core.Path.{subst}
@@ -6,9 +6,9 @@ use Prim.Native.Nat.{ℕ}
 use native.Mathlib.Omega.{arith}
 use Rattle.sheet_fields.proofs.Puts.{then, widen}
 use Rattle.sheet_fields.specs.Put.{Put}
-use Rattle.sheet_lines.proofs.Values.{network-written}
-use Rattle.sheet_lines.proofs.network_sheet.Statement.{statement}
-use Rattle.sheet_lines.proofs.network_sheet.Tie as tie
+use Rattle.sheet_kinds.proofs.Values.{network-written}
+use Rattle.sheet_kinds.proofs.network_sheet.Statement.{statement}
+use Rattle.sheet_kinds.proofs.network_sheet.Tie as tie
 
 put-header-requires : tie.Need-put-header-requires
 put-header-requires c κs = search needs

@@ -10,9 +10,10 @@ use Rattle.network.specs.declared.Row.{Row}
 use Rattle.network.specs.declared.TapRow.{TapRow}
 use Rattle.network.specs.Rows.{rowAt, rowsOf, tapRowsOf, networkOf, noTap}
 use Rattle.network.specs.Coefficients.{coefficientOf}
-use Rattle.sheet_lines.specs.Lines.{header, nodeLine, tapLine, totalLine}
-use Rattle.sheet_lines.specs.Text.{linesFrom, tapLineIn, networkText}
-use Rattle.sheet_lines.specs.Tables.{tapLineOf, NetworkIn}
+use Rattle.sheet_lines.specs.Lines.{header, nodeLine, tapLine, totalLine, linesFrom}
+use Rattle.sheet_lines.specs.Tables.{tapLineOf}
+use Rattle.sheet_kinds.specs.Text.{tapLineIn, networkText}
+use Rattle.sheet_kinds.specs.Tables.{NetworkIn}
 
 none-tap : (rows : List Row) → coefficientOf rows noTap ≡ pos 0
 unfolding coefficientOf

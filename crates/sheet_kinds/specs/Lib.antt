@@ -1,0 +1,3 @@
+pub mod Text
+-- What an internal writer asks:
+pub mod Tables
