@@ -11,7 +11,7 @@ use Rattle.network.specs.declared.TapRow.{TapRow}
 use Rattle.network.specs.Rows.{rowAt, rowsOf, tapRowsOf, networkOf, noTap}
 use Rattle.network.specs.Coefficients.{coefficientOf}
 use Rattle.sheet_lines.specs.Lines.{header, nodeLine, tapLine, totalLine, linesFrom}
-use Rattle.sheet_lines.specs.Tables.{tapLineOf}
+use Rattle.sheet_taps.specs.Tables.{tapLineOf}
 use Rattle.sheet_kinds.specs.Text.{tapLineIn, networkText}
 use Rattle.sheet_kinds.specs.Tables.{NetworkIn}
 

@@ -1,6 +1,5 @@
 // The two kinds of sheet, of a network and of a refusal, written into a lent area. Internal: the crate
 // above has room for them.
-ghost use mathlib.Core.Path.{_≡_};
 ghost use Prim.Native.Nat.{_+_, _≤_};
 ghost use lib.ListN.{length};
 ghost use Rattle.network.specs.Rows.{networkOf};
@@ -11,8 +10,8 @@ ghost use Rattle.sheet_kinds.specs.Tables.{NetworkIn};
 use sheet_fields::put;
 use sheet_fields::put_last;
 use sheet_fields::put_number;
-use sheet_lines::node_lines;
-use sheet_lines::tap_lines;
+use sheet_nodes::node_lines;
+use sheet_taps::tap_lines;
 
 fn put_header(out: &mut [u8], at: usize) -> usize
     requires { ⌜ at + 41 ≤ length (now out) ⌝ }

@@ -12,11 +12,11 @@ use Rattle.sequence.proofs.UpTo.{length-upTo}
 use Rattle.network.specs.declared.Row.{Row}
 use Rattle.network.specs.declared.TapRow.{TapRow}
 use Rattle.sheet_fields.specs.Ascii.{ascii}
-use Rattle.sheet_fields.specs.Numbers.{decimalBy, decimal}
+use Rattle.sheet_fields.specs.Numbers.{decimalBy, decimal, integer}
 use Rattle.sheet_fields.specs.Put.{Put}
 use Rattle.sheet_fields.proofs.Puts.{then}
 use Rattle.sheet_lines.specs.Lines.{line, columns, nodeLine, laterLine, tapLine, emptyTapLine, productLine, linesFrom}
-use Rattle.sheet_lines.specs.Tables.{shared}
+use Rattle.sheet_lines.specs.Shared.{shared}
 
 -- the shared fields, and what comes after them
 shared-append : (i left shift sign : ℕ) (b : List ℕ) → shared i left shift sign [] ++ b ≡ shared i left shift sign b
@@ -26,6 +26,15 @@ pub after-shared : {l e f : List ℕ} {at r s m n : ℕ} {b : List ℕ} (i left 
     → Put l at (shared i left shift sign b) (m + n) f s
 after-shared {b = b} i left shift sign p q = rw (shared-append i left shift sign b) at (then p q)
 
+pub later-shared : (i : ℕ) (r : Row) → laterLine i r ≡ ascii "node," ++ shared i (r .left) (r .shift) (r .sign) (decimal (r .right) ++ (44 ∷ (decimal (r .value) ++ (13 ∷ 10 ∷ []))))
+unfolding columns line
+later-shared i r = refl
+
+pub product-shared : (i : ℕ) (t : TapRow) (v : ℤ) → productLine i t v ≡ ascii "tap," ++ shared i (t .row) (t .shift) (t .sign) (44 ∷ (integer v ++ (13 ∷ 10 ∷ [])))
+unfolding columns line
+product-shared i t v = refl
+
+-- ---- the kinds of line
 pub node-first : (i : ℕ) (r : Row) → i ≡ 0 → nodeLine i r ≡ ascii "node,0,,,,," ++ (decimal (r .value) ++ (13 ∷ 10 ∷ []))
 unfolding nodeLine columns line decimal decimalBy
 node-first zero r h = refl

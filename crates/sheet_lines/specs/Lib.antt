@@ -1,3 +1,3 @@
 pub mod Lines
--- What the internal writers ask and give:
-pub mod Tables
+-- For the contract of an internal writer:
+pub mod Shared

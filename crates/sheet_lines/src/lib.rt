@@ -1,8 +1,21 @@
-// The node lines and the tap lines of a sheet, written one by one into a lent area. Internal: the crate
-// above has room for them.
-mod fields;
-mod nodes;
-mod taps;
+// The fields that the lines of a later row and of a tap share. Internal: the crates above have room for
+// them.
+ghost use mathlib.Core.List.{[]};
+ghost use Prim.Native.Nat.{_+_, _≤_, _<_};
+ghost use lib.ListN.{length};
+ghost use Rattle.sheet_fields.specs.Put.{Put};
+ghost use Rattle.sheet_lines.specs.Shared.{shared};
+use sheet_fields::put_byte;
+use sheet_fields::put_field;
 
-pub use nodes::node_lines;
-pub use taps::tap_lines;
+// Number, left row, shift and sign.
+pub fn put_shared(out: &mut [u8], at: usize, number: u32, left: u32, shift: u32, sign: u32) -> usize
+    requires { ⌜ (sign < 256) × (at + 35 ≤ length (now out)) ⌝ }
+    ensures { λ r. ⌜ Put (now (out .entry)) at (shared number left shift sign []) 35 (now (out .exit)) r ⌝ }
+{
+    let a = put_field(out, at, number);
+    let b = put_field(out, a, left);
+    let c = put_field(out, b, shift);
+    let d = put_byte(out, c, sign as u8);
+    put_byte(out, d, b',')
+}

@@ -1,4 +1,4 @@
--- `sheet_lines::nodes::node_line` meets its contract. Assumes nothing.
+-- `sheet_nodes::node_line` meets its contract. Assumes nothing.
 use borrow.Author.Needs.{needs}
 use mathlib.Core.Path.{ap, subst}
 use native.Mathlib.Omega.{arith}
@@ -6,10 +6,10 @@ use lib.Dec.{lit≤}
 use Rattle.network.specs.declared.Row.{Row}
 use Rattle.sheet_fields.specs.Put.{Put}
 use Rattle.sheet_fields.proofs.Puts.{then, widen}
 use Rattle.sheet_lines.specs.Lines.{nodeLine}
 use Rattle.sheet_lines.proofs.Lines.{node-first, node-later}
-use Rattle.sheet_lines.proofs.nodes.node_line.Statement.{statement}
-use Rattle.sheet_lines.proofs.nodes.node_line.Tie as tie
+use Rattle.sheet_nodes.proofs.node_line.Statement.{statement}
+use Rattle.sheet_nodes.proofs.node_line.Tie as tie
 
 read-row-requires : tie.Need-read-row-requires
 read-row-requires c κs = search needs

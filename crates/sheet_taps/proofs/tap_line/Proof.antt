@@ -1,14 +1,14 @@
--- `sheet_lines::taps::tap_line` meets its contract. Assumes nothing.
+-- `sheet_taps::tap_line` meets its contract. Assumes nothing.
 use borrow.Author.Needs.{needs}
 use mathlib.Core.Path.{subst}
 use lib.IntN.{ℤ}
 use mir.Syntax.{w32}
 use mir.ValLaws.{toZ-ofZ}
 use Rattle.sheet_fields.specs.Put.{Put}
 use Rattle.sheet_lines.specs.Lines.{productLine}
 use Rattle.sheet_lines.proofs.Lines.{tap-none, tap-some}
-use Rattle.sheet_lines.proofs.taps.tap_line.Statement.{statement}
-use Rattle.sheet_lines.proofs.taps.tap_line.Tie as tie
+use Rattle.sheet_taps.proofs.tap_line.Statement.{statement}
+use Rattle.sheet_taps.proofs.tap_line.Tie as tie
 
 empty-tap-line-requires : tie.Need-empty-tap-line-requires
 empty-tap-line-requires c κs = search needs

@@ -1,4 +1,4 @@
--- `sheet_lines::taps::tap_lines` meets its contract. Assumes nothing.
+-- `sheet_taps::tap_lines` meets its contract. Assumes nothing.
 use borrow.Author.Needs.{needs}
 use mathlib.Core.Path.{_≡_, refl, ap, subst, _∙_}
 use Prim.Native.Nat.{_≤_, _-_, _*_}
@@ -11,11 +11,11 @@ use Rattle.network.specs.Rows.{tapRowAt, tapRowsOf}
 use Rattle.network.specs.declared.TapRow.{TapRow}
 use Rattle.sheet_fields.proofs.Puts.{then, widen}
 use Rattle.sheet_fields.specs.Put.{Put}
-use Rattle.sheet_lines.specs.Tables.{tapLineOf}
+use Rattle.sheet_taps.specs.Tables.{tapLineOf}
 use Rattle.sheet_lines.specs.Lines.{tapLine, linesFrom}
 use Rattle.sheet_lines.proofs.Lines.{lines-next, nothing-put}
-use Rattle.sheet_lines.proofs.taps.tap_lines.Statement.{statement}
-use Rattle.sheet_lines.proofs.taps.tap_lines.Tie as tie
+use Rattle.sheet_taps.proofs.tap_lines.Statement.{statement}
+use Rattle.sheet_taps.proofs.tap_lines.Tie as tie
 
 abbrev Inv-loop : tie.InvT-loop
 Inv-loop out₀ at tap-rows coefficients to₀ j₀ out to j =

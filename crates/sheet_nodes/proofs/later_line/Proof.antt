@@ -1,11 +1,10 @@
--- `sheet_lines::nodes::later_line` meets its contract. Assumes nothing.
+-- `sheet_nodes::later_line` meets its contract. Assumes nothing.
 use borrow.Author.Needs.{needs}
 use Rattle.sheet_fields.proofs.Puts.{then, comma}
 use Rattle.sheet_fields.specs.Numbers.{decimal}
-use Rattle.sheet_lines.specs.Lines.{line, columns}
-use Rattle.sheet_lines.proofs.Lines.{after-shared}
-use Rattle.sheet_lines.proofs.nodes.later_line.Statement.{statement}
-use Rattle.sheet_lines.proofs.nodes.later_line.Tie as tie
+use Rattle.sheet_lines.proofs.Lines.{after-shared, later-shared}
+use Rattle.sheet_nodes.proofs.later_line.Statement.{statement}
+use Rattle.sheet_nodes.proofs.later_line.Tie as tie
 
 slice-aggregate-put : tie.Need-slice-aggregate-put
 slice-aggregate-put c = search needs
@@ -26,13 +25,13 @@ same-length : tie.Need-same-length
 same-length c = search needs
 
 returns : tie.Need-returns
-unfolding line columns
 returns c =
     let x = c .before .before .before .before .before .before .before .before .before .before .before .before .before .before .before .before .before .before .args in
     let r = x .row in
-    then (c .before .before .before .before .before .before .before .before .before .before .before .before .before .before .put .ensures)
+    rw (later-shared (x .i) r)
+    (then (c .before .before .before .before .before .before .before .before .before .before .before .before .before .before .put .ensures)
     (after-shared (x .i) (r .left) (r .shift) (r .sign) (c .before .before .before .before .before .before .before .before .before .before .put-shared .ensures)
-    (comma (decimal (r .right)) (c .before .before .before .before .before .before .put-field .ensures) (c .before .before .put-last .ensures)))
+    (comma (decimal (r .right)) (c .before .before .before .before .before .before .put-field .ensures) (c .before .before .put-last .ensures))))
 
 pub later-line-spec : {M : Type 1} → statement M
 later-line-spec =

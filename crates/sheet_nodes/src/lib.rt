@@ -3,13 +3,13 @@ ghost use Prim.Native.Nat.{_+_, _*_, _≤_, _<_};
 ghost use lib.ListN.{length};
 ghost use Rattle.network.specs.Rows.{rowWords, rowAt, rowsOf};
 ghost use Rattle.sheet_fields.specs.Put.{Put};
 ghost use Rattle.sheet_lines.specs.Lines.{laterLine, nodeLine, linesFrom};
-ghost use Rattle.sheet_lines.specs.Tables.{RowsIn};
-use crate::fields::put_shared;
+ghost use Rattle.sheet_nodes.specs.Tables.{RowsIn};
 use network::Row;
 use sheet_fields::put;
 use sheet_fields::put_field;
 use sheet_fields::put_last;
+use sheet_lines::put_shared;
 
 fn later_line(out: &mut [u8], at: usize, i: u32, row: Row) -> usize
     requires { ⌜ row .sign < 256 ⌝ }

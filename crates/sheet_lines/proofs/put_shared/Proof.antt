@@ -1,9 +1,9 @@
--- `sheet_lines::fields::put_shared` meets its contract. Assumes nothing.
+-- `sheet_lines::put_shared` meets its contract. Assumes nothing.
 use borrow.Author.Needs.{needs}
 use Rattle.sheet_fields.proofs.Puts.{then, comma}
 use Rattle.sheet_fields.specs.Numbers.{decimal}
-use Rattle.sheet_lines.proofs.fields.put_shared.Statement.{statement}
-use Rattle.sheet_lines.proofs.fields.put_shared.Tie as tie
+use Rattle.sheet_lines.proofs.put_shared.Statement.{statement}
+use Rattle.sheet_lines.proofs.put_shared.Tie as tie
 
 put-field-requires : tie.Need-put-field-requires
 put-field-requires c κs = search needs

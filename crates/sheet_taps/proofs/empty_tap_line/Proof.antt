@@ -1,11 +1,11 @@
--- `sheet_lines::taps::empty_tap_line` meets its contract. Assumes nothing.
+-- `sheet_taps::empty_tap_line` meets its contract. Assumes nothing.
 use borrow.Author.Needs.{needs}
 use lib.Dec.{lit≤}
 use Rattle.sheet_fields.proofs.Puts.{then, widen}
 use Rattle.sheet_fields.specs.Numbers.{decimal, decimalBy}
 use Rattle.sheet_lines.specs.Lines.{line, columns}
-use Rattle.sheet_lines.proofs.taps.empty_tap_line.Statement.{statement}
-use Rattle.sheet_lines.proofs.taps.empty_tap_line.Tie as tie
+use Rattle.sheet_taps.proofs.empty_tap_line.Statement.{statement}
+use Rattle.sheet_taps.proofs.empty_tap_line.Tie as tie
 
 slice-aggregate-put : tie.Need-slice-aggregate-put
 slice-aggregate-put c = search needs

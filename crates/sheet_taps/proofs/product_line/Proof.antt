@@ -1,4 +1,4 @@
--- `sheet_lines::taps::product_line` meets its contract. Assumes nothing.
+-- `sheet_taps::product_line` meets its contract. Assumes nothing.
 use borrow.Author.Needs.{needs}
 use mathlib.Core.Path.{subst}
 use lib.IntN.{ℤ}
@@ -6,10 +6,10 @@ use mir.Syntax.{w32}
 use mir.ValLaws.{toZ-ofZ}
 use Rattle.sheet_fields.proofs.Puts.{then}
 use Rattle.sheet_fields.specs.Put.{Put}
-use Rattle.sheet_lines.specs.Lines.{line, columns, productLine}
-use Rattle.sheet_lines.proofs.Lines.{after-shared}
-use Rattle.sheet_lines.proofs.taps.product_line.Statement.{statement}
-use Rattle.sheet_lines.proofs.taps.product_line.Tie as tie
+use Rattle.sheet_lines.specs.Lines.{productLine}
+use Rattle.sheet_lines.proofs.Lines.{after-shared, product-shared}
+use Rattle.sheet_taps.proofs.product_line.Statement.{statement}
+use Rattle.sheet_taps.proofs.product_line.Tie as tie
 
 slice-aggregate-put : tie.Need-slice-aggregate-put
 slice-aggregate-put c = search needs
@@ -36,17 +36,17 @@ same-length : tie.Need-same-length
 same-length c = search needs
 
 returns : tie.Need-returns
-unfolding line columns
 returns c =
     let s = c .before .before .before .before .before .before .before .before .before .before .before .before .before .before .before .before .before .before .before .before .before .before .before in
     let x = s .args in
     let t = x .tap in
     let p = c .before .before .put2 in
     subst (λ (z : ℤ). Put (x .out .now) (x .at) (productLine (x .i) t z) 53 (p .last .0) (p .result)) (toZ-ofZ w32 (x .value) (s .fits .value))
+    (rw (product-shared (x .i) t _)
     (then (c .before .before .before .before .before .before .before .before .before .before .before .before .before .before .before .before .before .before .before .put .ensures)
     (after-shared (x .i) (t .row) (t .shift) (t .sign) (c .before .before .before .before .before .before .before .before .before .before .before .before .before .before .before .put-shared .ensures)
     (then (c .before .before .before .before .before .before .before .before .before .before .before .put-byte .ensures)
-    (then (c .before .before .before .before .before .before .before .put-integer .ensures) (p .ensures)))))
+    (then (c .before .before .before .before .before .before .before .put-integer .ensures) (p .ensures))))))
 
 pub product-line-spec : {M : Type 1} → statement M
 product-line-spec =

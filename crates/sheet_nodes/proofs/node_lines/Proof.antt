@@ -1,4 +1,4 @@
--- `sheet_lines::nodes::node_lines` meets its contract. Assumes nothing.
+-- `sheet_nodes::node_lines` meets its contract. Assumes nothing.
 use borrow.Author.Needs.{needs}
 use mathlib.Core.Path.{_≡_, refl, subst, _∙_}
 use Prim.Native.Nat.{_≤_, _-_, _*_}
@@ -7,10 +7,10 @@ use lib.ListN.{length}
 use Rattle.network.specs.Rows.{rowAt, rowsOf}
 use Rattle.sheet_fields.proofs.Puts.{then, widen}
 use Rattle.sheet_fields.specs.Put.{Put}
 use Rattle.sheet_lines.specs.Lines.{nodeLine, linesFrom}
 use Rattle.sheet_lines.proofs.Lines.{lines-next, nothing-put}
-use Rattle.sheet_lines.proofs.nodes.node_lines.Statement.{statement}
-use Rattle.sheet_lines.proofs.nodes.node_lines.Tie as tie
+use Rattle.sheet_nodes.proofs.node_lines.Statement.{statement}
+use Rattle.sheet_nodes.proofs.node_lines.Tie as tie
 
 abbrev Inv-loop : tie.InvT-loop
 Inv-loop out₀ at rows n to₀ i₀ out to i = (i ≤ n) × (Put out₀ at (linesFrom nodeLine 0 (rowsOf rows i)) (63 * i) out to × (length out ≡ length out₀))
