@@ -2,13 +2,14 @@
 // coefficients past the last that is not 0 are left out of the work. All functions here are
 // internal: `feed` is called by `filter::run`, which has checked the lengths.
 ghost use mathlib.Core.Path.{_≡_};
-ghost use mathlib.Core.List.{_++_};
-ghost use Prim.Native.Nat.{_≤_, _<_};
+ghost use mathlib.Core.List.{List, _++_};
+ghost use Prim.Native.Nat.{ℕ, _≤_};
 ghost use lib.ListN.{length, drop};
 ghost use lib.Seq.{sets};
 ghost use Rattle.convolution.specs.Running.{next, outputsOf, registersOf};
-ghost use Rattle.kernel_tables.specs.Tables.{coefficientsIn, Padded, Corrected};
+ghost use Rattle.kernel_tables.specs.Tables.{coefficientsIn, Padded, Levelled, Raised};
 ghost use Rattle.kernel_tables.specs.Quiet.{Quiet};
+ghost use Rattle.kernel.specs.Passed.{fourfold, Passed};
 use kernel_products::signed;
 use kernel_products::sum;
 
@@ -26,26 +27,44 @@ fn move_one(h: &[i32; 256], x: i16, w: usize, registers: &mut [u64])
     registers[255] = 0;
 }
 
-// The samples four by four, as far as that goes; returns how many they are.
+// The samples four by four, as far as that goes; returns the gain after them.
 fn fours(
     c: &[u64; 264],
-    t: &[u64; 260],
+    v: &[u64; 265],
     w: usize,
     samples: &[i16],
-    registers: &mut [u64],
+    words: &mut [u64; 260],
     outputs: &mut [i64],
-) -> usize
-    requires { ⌜ ((256 ≤ length (now registers)) × (length (now samples) ≤ length (now outputs))) × ((Padded (now c)) × ((Corrected (now c) (now t)) × (Quiet w (coefficientsIn (now c)) (now registers)))) ⌝ }
-    ensures { λ r. ⌜ (r ≤ length (now (samples .entry))) × ((Quiet w (coefficientsIn (now (c .entry))) (now (registers .exit)))
-        × ((registersOf (coefficientsIn (now (c .entry))) (now (registers .exit)) (drop r (now (samples .entry))) ≡ registersOf (coefficientsIn (now (c .entry))) (now (registers .entry)) (now (samples .entry)))
-        × (sets (now (outputs .exit)) r (outputsOf (coefficientsIn (now (c .entry))) (now (registers .exit)) (drop r (now (samples .entry)))) ≡ sets (now (outputs .entry)) 0 (outputsOf (coefficientsIn (now (c .entry))) (now (registers .entry)) (now (samples .entry)))))) ⌝ }
+) -> u64
+    requires { ⌜ ((w ≤ 256) × (length (now words) ≡ 260)) × ((length (now samples) ≤ length (now outputs)) × ((Padded (now c)) × (Levelled (now c) (now v)))) ⌝ }
+    ensures { λ gain. ⌜ ((r : List ℕ) → 256 ≤ length r → Quiet w (coefficientsIn (now (c .entry))) r → Raised w (now (v .entry)) 0 r (now (words .entry))
+        → Passed (coefficientsIn (now (c .entry))) w (now (v .entry)) r (now (samples .entry)) (now (outputs .entry)) (fourfold (length (now (samples .entry)))) gain (now (words .exit)) (now (outputs .exit))) ⌝ }
 {
+    let mut gain: u64 = 0;
     let mut i: usize = 0;
     while samples.len() - i >= 4 {
-        kernel_passes::of_four(c, t, w, samples, i, registers, outputs);
+        gain = kernel_passes::of_four(c, v, w, gain, samples, i, words, outputs);
         i += 4;
     }
-    i
+    gain
+}
+
+// The samples four by four, as far as that goes, with tables of the coefficients and raised
+// registers.
+fn by_fours(h: &[i32; 256], w: usize, samples: &[i16], registers: &mut [u64], outputs: &mut [i64])
+    requires { ⌜ ((length (now h) ≡ 256) × ((256 ≤ length (now registers)) × (length (now samples) ≤ length (now outputs)))) × ((4 ≤ length (now samples)) × ((w ≤ 256) × (Quiet w (now h) (now registers)))) ⌝ }
+    ensures { λ _. ⌜ Quiet w (now (h .entry)) (now (registers .exit)) ⌝ }
+    ensures { λ _. ⌜ registersOf (now (h .entry)) (now (registers .exit)) (drop (fourfold (length (now (samples .entry)))) (now (samples .entry))) ≡ registersOf (now (h .entry)) (now (registers .entry)) (now (samples .entry)) ⌝ }
+    ensures { λ _. ⌜ sets (now (outputs .exit)) (fourfold (length (now (samples .entry)))) (outputsOf (now (h .entry)) (now (registers .exit)) (drop (fourfold (length (now (samples .entry)))) (now (samples .entry)))) ≡ sets (now (outputs .entry)) 0 (outputsOf (now (h .entry)) (now (registers .entry)) (now (samples .entry))) ⌝ }
+{
+    let mut c = [2147483648u64; 264];
+    kernel_tables::offset_all(h, &mut c);
+    let mut v = [0u64; 265];
+    kernel_tables::levels(&c, &mut v);
+    let mut words = [0u64; 260];
+    kernel_moves::raise(&v, w, registers, &mut words);
+    let gain = fours(&c, &v, w, samples, &mut words, outputs);
+    kernel_moves::lower(&v, w, gain, &words, registers);
 }
 
 // The samples from the one at start, one by one.
@@ -70,26 +89,6 @@ fn singly(
     }
 }
 
-// The samples by fours with tables of the coefficients, and the rest of them singly.
-fn with_tables(
-    h: &[i32; 256],
-    w: usize,
-    samples: &[i16],
-    registers: &mut [u64],
-    outputs: &mut [i64],
-)
-    requires { ⌜ ((length (now h) ≡ 256) × ((256 ≤ length (now registers)) × (length (now samples) ≤ length (now outputs)))) × (Quiet w (now h) (now registers)) ⌝ }
-    ensures { λ _. ⌜ now (registers .exit) ≡ registersOf (now (h .entry)) (now (registers .entry)) (now (samples .entry)) ⌝ }
-    ensures { λ _. ⌜ now (outputs .exit) ≡ sets (now (outputs .entry)) 0 (outputsOf (now (h .entry)) (now (registers .entry)) (now (samples .entry))) ⌝ }
-{
-    let mut c = [2147483648u64; 264];
-    kernel_tables::offset_all(h, &mut c);
-    let mut t = [0u64; 260];
-    kernel_tables::corrections(&c, &mut t);
-    let i = fours(&c, &t, w, samples, registers, outputs);
-    singly(h, w, samples, i, registers, outputs);
-}
-
 // The outputs for the samples, and the registers after them. Tables are not made for fewer than
 // four samples.
 pub fn feed(h: &[i32; 256], samples: &[i16], registers: &mut [u64], outputs: &mut [i64])
@@ -102,5 +101,13 @@ pub fn feed(h: &[i32; 256], samples: &[i16], registers: &mut [u64], outputs: &mu
         singly(h, w, samples, 0, registers, outputs);
         return;
     }
-    with_tables(h, w, samples, registers, outputs);
+    by_fours(h, w, samples, registers, outputs);
+    singly(
+        h,
+        w,
+        samples,
+        samples.len() - samples.len() % 4,
+        registers,
+        outputs,
+    );
 }

@@ -3,7 +3,7 @@ use mathlib.Core.Path.{_≡_, sym, ap, ap₂, _∙_}
 use mathlib.Core.List.{List, _++_}
 use Prim.Native.Nat.{ℕ, zero, suc, _+_, _-_, _<_, _≤_}
 use native.Mathlib.Omega.{arith}
-use lib.ListN.{length, getD, take, drop, set, take-append-drop}
+use lib.ListN.{length, getD, take, drop, set, take-append-drop, length-append, length-drop}
 use lib.Seq.{set-getD, ext-getD, getD-take, length-take-le}
 use Rattle.sequence.specs.UpTo.{upTo, front}
 use Rattle.sequence.proofs.UpTo.{length-upTo, getD-upTo}
@@ -28,6 +28,10 @@ pub front-rest : (f : ℕ → ℕ) (r : List ℕ) (n m : ℕ) → n ≤ m → m 
 front-rest f r n m l b e =
     let q : n + (m - n) ≡ m = omega arith in
     front-more f r (m - n) n (omega arith) (λ k a c. e k a (omega arith)) ∙ ap (front f r) q
+
+pub front-length : (f : ℕ → ℕ) (r : List ℕ) (n : ℕ) → n ≤ length r → length (front f r n) ≡ length r
+unfolding front
+front-length f r n l = length-append (upTo n f) (drop n r) ∙ omega (arith, length-upTo n f, length-drop n r)
 
 -- all 256 registers filled
 pub front-all : (r s : List ℕ) → 256 ≤ length r → length s ≡ length r → drop 256 s ≡ drop 256 r → front (held s) r 256 ≡ s

@@ -1,3 +1,4 @@
 pub mod Fronts
 pub mod Places
 pub mod Moves
+pub mod Raising

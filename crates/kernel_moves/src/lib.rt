@@ -1,89 +1,60 @@
-// The registers in a pass of four samples. Place j holds output j for j below 4, and then register
-// j - 4. All functions here are internal: they serve the crates `kernel_passes` and `kernel`.
+// The registers in passes of four samples, raised, as words. Place j holds output j for j below 4,
+// and then register j - 4. All functions here are internal: they serve the crates `kernel_passes`
+// and `kernel`.
 ghost use mathlib.Core.Path.{_≡_};
-ghost use Prim.Native.Nat.{_≤_, _<_, _+_};
+ghost use mathlib.Core.List.{List};
+ghost use Prim.Native.Nat.{ℕ, _≤_, _<_, _+_};
 ghost use lib.ListN.{length, getD};
 ghost use Rattle.sequence.specs.UpTo.{front};
 ghost use Rattle.convolution.specs.Sums.{held};
-ghost use Rattle.kernel_products.specs.Offset.{coefficientIn, sampleIn, sampleCorrection, fourSums};
-ghost use Rattle.kernel_tables.specs.Tables.{coefficientsIn, Padded, Corrected, after4};
-ghost use Rattle.kernel_tables.specs.Quiet.{Quiet};
+ghost use Rattle.convolution.specs.Bounds.{Words};
+ghost use Rattle.kernel_tables.specs.Tables.{Raised};
+ghost use Rattle.kernel_moves.specs.Places.{placed};
 use kernel_products::four;
-use kernel_tables::least;
+use kernel_products::lowered;
+use kernel_products::raised;
 
-// What place j comes to, from the register that it starts from.
-pub fn place(
-    c: &[u64; 264],
-    t: &[u64; 260],
-    j: usize,
-    register: u64,
-    y0: u16,
-    y1: u16,
-    y2: u16,
-    y3: u16,
-    z: u64,
-) -> u64
-    requires { ⌜ (j < 260) × ((Corrected (now c) (now t)) × (z ≡ sampleCorrection y0 y1 y2 y3)) ⌝ }
-    ensures { λ r. ⌜ r ≡ fourSums register (coefficientIn (getD (now (c .entry)) (j + 4) 0)) (coefficientIn (getD (now (c .entry)) (j + 3) 0)) (coefficientIn (getD (now (c .entry)) (j + 2) 0)) (coefficientIn (getD (now (c .entry)) (j + 1) 0)) (sampleIn y0) (sampleIn y1) (sampleIn y2) (sampleIn y3) ⌝ }
+// What place j comes to, from the word that it starts from.
+pub fn place(c: &[u64; 264], j: usize, word: u64, y0: u16, y1: u16, y2: u16, y3: u16) -> u64
+    requires { ⌜ j < 260 ⌝ }
+    ensures { λ r. ⌜ r ≡ placed (now (c .entry)) y0 y1 y2 y3 j word ⌝ }
 {
-    four(
-        register,
-        c[j + 4],
-        c[j + 3],
-        c[j + 2],
-        c[j + 1],
-        y0,
-        y1,
-        y2,
-        y3,
-        t[j],
-        z,
-    )
+    four(word, c[j + 4], c[j + 3], c[j + 2], c[j + 1], y0, y1, y2, y3)
 }
 
-// The first n registers, four places on.
-fn slide(
-    c: &[u64; 264],
-    t: &[u64; 260],
-    y0: u16,
-    y1: u16,
-    y2: u16,
-    y3: u16,
-    z: u64,
-    n: usize,
-    registers: &mut [u64],
-)
-    requires { ⌜ ((n ≤ 252) × (256 ≤ length (now registers))) × ((Padded (now c)) × ((Corrected (now c) (now t)) × (z ≡ sampleCorrection y0 y1 y2 y3))) ⌝ }
-    ensures { λ _. ⌜ now (registers .exit) ≡ front (held (after4 (coefficientsIn (now (c .entry))) (sampleIn y0) (sampleIn y1) (sampleIn y2) (sampleIn y3) (now (registers .entry)))) (now (registers .entry)) n ⌝ }
+// The first n words, from those four places on.
+pub fn slide(c: &[u64; 264], y0: u16, y1: u16, y2: u16, y3: u16, n: usize, words: &mut [u64; 260])
+    requires { ⌜ (n ≤ 256) × (length (now words) ≡ 260) ⌝ }
+    ensures { λ _. ⌜ now (words .exit) ≡ front (λ k. placed (now (c .entry)) y0 y1 y2 y3 (k + 4) (getD (now (words .entry)) (k + 4) 0)) (now (words .entry)) n ⌝ }
 {
     let mut k: usize = 0;
     while k < n {
-        registers[k] = place(c, t, k + 4, registers[k + 4], y0, y1, y2, y3, z);
+        words[k] = place(c, k + 4, words[k + 4], y0, y1, y2, y3);
         k += 1;
     }
 }
 
-// The registers after four samples; those from w on are 0 and stay so.
-pub fn move_four(
-    c: &[u64; 264],
-    t: &[u64; 260],
-    y0: u16,
-    y1: u16,
-    y2: u16,
-    y3: u16,
-    z: u64,
-    w: usize,
-    registers: &mut [u64],
-)
-    requires { ⌜ (256 ≤ length (now registers)) × ((Padded (now c)) × ((Corrected (now c) (now t)) × ((z ≡ sampleCorrection y0 y1 y2 y3) × (Quiet w (coefficientsIn (now c)) (now registers))))) ⌝ }
-    ensures { λ _. ⌜ now (registers .exit) ≡ after4 (coefficientsIn (now (c .entry))) (sampleIn y0) (sampleIn y1) (sampleIn y2) (sampleIn y3) (now (registers .entry)) ⌝ }
+// The first w registers, raised.
+pub fn raise(v: &[u64; 265], w: usize, registers: &[u64], words: &mut [u64; 260])
+    requires { ⌜ (w ≤ 256) × ((256 ≤ length (now registers)) × (length (now words) ≡ 260)) ⌝ }
+    ensures { λ _. ⌜ length (now (words .exit)) ≡ 260 ⌝ }
+    ensures { λ _. ⌜ Raised w (now (v .entry)) 0 (now (registers .entry)) (now (words .exit)) ⌝ }
 {
-    slide(c, t, y0, y1, y2, y3, z, least(w, 252), registers);
-    if w <= 252 {
-        return;
+    let mut k: usize = 0;
+    while k < w {
+        words[k] = raised(registers[k], v[k + 5], 0);
+        k += 1;
     }
-    registers[252] = place(c, t, 256, 0, y0, y1, y2, y3, z);
-    registers[253] = place(c, t, 257, 0, y0, y1, y2, y3, z);
-    registers[254] = place(c, t, 258, 0, y0, y1, y2, y3, z);
-    registers[255] = 0;
+}
+
+// The first w registers from words that were raised.
+pub fn lower(v: &[u64; 265], w: usize, gain: u64, words: &[u64; 260], registers: &mut [u64])
+    requires { ⌜ (w ≤ 256) × (256 ≤ length (now registers)) ⌝ }
+    ensures { λ _. ⌜ ((r : List ℕ) → Words r → Raised w (now (v .entry)) gain r (now (words .entry)) → now (registers .exit) ≡ front (held r) (now (registers .entry)) w) ⌝ }
+{
+    let mut k: usize = 0;
+    while k < w {
+        registers[k] = lowered(words[k], v[k + 5], gain);
+        k += 1;
+    }
 }

@@ -1,5 +1,5 @@
 -- Offset binary and four sums at a time, for the contracts of functions that serve the crate `kernel`; document 01 does not speak of them. Definitions only.
-use Prim.Native.Nat.{ℕ, _+_, _-_, _*_, _%_}
+use Prim.Native.Nat.{ℕ, _+_, _*_, _%_}
 use lib.IntN.{ℤ, pos, _+ℤ_, _-ℤ_, _*ℤ_}
 use Rattle.convolution.specs.Words.{wrapped}
 
@@ -11,14 +11,6 @@ coefficientIn c = pos (c % 4294967296) -ℤ pos 2147483648
 abbrev pub sampleIn : ℕ → ℤ
 sampleIn y = pos y -ℤ pos 32768
 
--- 2^50 less 2^15 times four stored coefficients
-abbrev pub coefficientCorrection : ℕ → ℕ → ℕ → ℕ → ℕ
-coefficientCorrection a b c d = 1125899906842624 - 32768 * (a % 4294967296 + b % 4294967296 + c % 4294967296 + d % 4294967296)
-
--- 2^64 - 2^50 + 2^48 less 2^31 times four stored samples
-abbrev pub sampleCorrection : ℕ → ℕ → ℕ → ℕ → ℕ
-sampleCorrection a b c d = 18445899648779419648 - 2147483648 * (a + b + c + d)
-
 -- a register and a product, modulo 2^64
 abbrev pub plus : ℕ → ℤ → ℤ → ℕ
 plus n a x = wrapped (pos n +ℤ a *ℤ x)
@@ -26,3 +18,20 @@ plus n a x = wrapped (pos n +ℤ a *ℤ x)
 -- a register and four products, one after the other
 unfoldable pub fourSums : ℕ → ℤ → ℤ → ℤ → ℤ → ℤ → ℤ → ℤ → ℤ → ℕ
 fourSums n a b c d x0 x1 x2 x3 = plus (plus (plus (plus n a x0) b x1) c x2) d x3
+
+-- a register and four products of stored numbers, modulo 2^64
+unfoldable pub fourProducts : (n c0 c1 c2 c3 y0 y1 y2 y3 : ℕ) → ℕ
+fourProducts n c0 c1 c2 c3 y0 y1 y2 y3 =
+    (n + ((c0 % 4294967296) * y0 + (c1 % 4294967296) * y1 + (c2 % 4294967296) * y2 + (c3 % 4294967296) * y3)) % 18446744073709551616
+
+-- 2^15 times the coefficient stored in c above the level v: what the offset of a sample adds to its product
+abbrev pub levelBelow : ℕ → ℕ → ℕ
+levelBelow v c = (v + (18446673704965373952 + 32768 * (c % 4294967296))) % 18446744073709551616
+
+-- 2^31 times four stored samples above the gain g: what the offsets of coefficients add to their products
+abbrev pub gainAfter : ℕ → ℕ → ℕ → ℕ → ℕ → ℕ
+gainAfter g y0 y1 y2 y3 = (g + 2147483648 * (y0 + y1 + y2 + y3)) % 18446744073709551616
+
+-- a sum with a level and a gain added, modulo 2^64
+abbrev pub raisedBy : ℕ → ℕ → ℕ → ℕ
+raisedBy level gain n = (n + (level + gain)) % 18446744073709551616

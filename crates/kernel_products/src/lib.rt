@@ -1,13 +1,15 @@
 // Registers and products as 64-bit words: one product with its sign, and four at a time in offset
 // binary, where a number is stored with half its range added, so that a product of two is one
-// multiplication without a sign. Every function here serves the crate `kernel`.
+// multiplication without a sign. What the offsets add is not taken off product by product: a sum
+// stays raised by a level and a gain for as long as samples pass. Every function here serves the
+// crate `kernel`.
 ghost use mathlib.Core.Path.{_≡_};
 ghost use Prim.Native.Nat.{_≤_, _+_, _*_, _%_};
 ghost use lib.IntN.{pos, _+ℤ_, _*ℤ_};
 ghost use mir.Syntax.{w64};
 ghost use mir.Val.{ofZ, toZ};
 ghost use Rattle.convolution.specs.Words.{wrapped};
-ghost use Rattle.kernel_products.specs.Offset.{coefficientIn, sampleIn, coefficientCorrection, sampleCorrection, fourSums};
+ghost use Rattle.kernel_products.specs.Offset.{coefficientIn, sampleIn, fourProducts, levelBelow, gainAfter, raisedBy};
 
 // The 64-bit pattern of n in two's complement.
 fn pattern(n: i64) -> u64
@@ -73,28 +75,7 @@ fn part(c: u64, y: u16) -> u64
     (c % 4294967296) * (y as u64)
 }
 
-// What the offsets of four coefficients add to the four products, to be taken off.
-pub fn coefficient_correction(a: u64, b: u64, c: u64, d: u64) -> u64
-    ensures { λ r. ⌜ r ≡ coefficientCorrection a b c d ⌝ }
-{
-    1125899906842624 - 32768 * (a % 4294967296 + b % 4294967296 + c % 4294967296 + d % 4294967296)
-}
-
-fn word(y: u16) -> u64
-    ensures { λ r. ⌜ r ≡ y ⌝ }
-{
-    y as u64
-}
-
-// The same of four samples.
-pub fn sample_correction(a: u16, b: u16, c: u16, d: u16) -> u64
-    ensures { λ r. ⌜ r ≡ sampleCorrection a b c d ⌝ }
-{
-    18445899648779419648 - 2147483648 * (word(a) + word(b) + word(c) + word(d))
-}
-
-// A register and four products; t and z are the corrections of the coefficients and the samples.
-// Internal: its caller has worked them out.
+// A register and four products of stored numbers.
 pub fn four(
     register: u64,
     c0: u64,
@@ -105,18 +86,49 @@ pub fn four(
     y1: u16,
     y2: u16,
     y3: u16,
-    t: u64,
-    z: u64,
 ) -> u64
-    requires { ⌜ (t ≡ coefficientCorrection c0 c1 c2 c3) × (z ≡ sampleCorrection y0 y1 y2 y3) ⌝ }
-    ensures { λ r. ⌜ r ≡ fourSums register (coefficientIn c0) (coefficientIn c1) (coefficientIn c2) (coefficientIn c3) (sampleIn y0) (sampleIn y1) (sampleIn y2) (sampleIn y3) ⌝ }
+    ensures { λ r. ⌜ r ≡ fourProducts register c0 c1 c2 c3 y0 y1 y2 y3 ⌝ }
 {
     let p0 = part(c0, y0);
     let p1 = part(c1, y1);
     let p2 = part(c2, y2);
     let p3 = part(c3, y3);
-    let p = p0 + p1 + p2 + p3;
-    let s = std::num::wrapping_add_u64(register, p);
-    let e = std::num::wrapping_add_u64(t, z);
-    std::num::wrapping_add_u64(s, e)
+    std::num::wrapping_add_u64(register, p0 + p1 + p2 + p3)
+}
+
+// The level of a place, from that of the place after it and the coefficient between them.
+pub fn level_below(level: u64, c: u64) -> u64
+    ensures { λ r. ⌜ r ≡ levelBelow level c ⌝ }
+{
+    let by = std::num::wrapping_add_u64(18446673704965373952, 32768 * (c % 4294967296));
+    std::num::wrapping_add_u64(level, by)
+}
+
+fn word(y: u16) -> u64
+    ensures { λ r. ⌜ r ≡ y ⌝ }
+{
+    y as u64
+}
+
+// The gain four samples on.
+pub fn gain_after(gain: u64, y0: u16, y1: u16, y2: u16, y3: u16) -> u64
+    ensures { λ r. ⌜ r ≡ gainAfter gain y0 y1 y2 y3 ⌝ }
+{
+    std::num::wrapping_add_u64(
+        gain,
+        2147483648 * (word(y0) + word(y1) + word(y2) + word(y3)),
+    )
+}
+
+pub fn raised(n: u64, level: u64, gain: u64) -> u64
+    ensures { λ r. ⌜ r ≡ raisedBy level gain n ⌝ }
+{
+    std::num::wrapping_add_u64(n, std::num::wrapping_add_u64(level, gain))
+}
+
+// The word that was raised.
+pub fn lowered(n: u64, level: u64, gain: u64) -> u64
+    ensures { λ r. ⌜ raisedBy level gain r ≡ n ⌝ }
+{
+    std::num::wrapping_sub_u64(n, std::num::wrapping_add_u64(level, gain))
 }

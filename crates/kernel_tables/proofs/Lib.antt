@@ -1,2 +1,3 @@
 pub mod Quiets
 pub mod Filling
+pub mod Backward

@@ -6,7 +6,8 @@ use lib.IntN.{ℤ, pos}
 use lib.ListN.{getD}
 use Rattle.sequence.specs.UpTo.{upTo}
 use Rattle.convolution.specs.Running.{next}
-use Rattle.kernel_products.specs.Offset.{coefficientIn, coefficientCorrection}
+use Rattle.convolution.specs.Sums.{held}
+use Rattle.kernel_products.specs.Offset.{coefficientIn, levelBelow, raisedBy}
 
 -- the 256 coefficients that the table c holds in offset binary, from its fourth word on
 unfoldable pub coefficientsIn : List ℕ → List ℤ
@@ -17,9 +18,13 @@ pub record Padded (c : List ℕ) : Type 0 where
   pub low : (k : ℕ) → k < 4 → coefficientIn (getD c k 0) ≡ pos 0
   pub high : (k : ℕ) → 256 ≤ k → k < 260 → coefficientIn (getD c (k + 4) 0) ≡ pos 0
 
--- t holds the corrections for four coefficients each
-pub record Corrected (c t : List ℕ) : Type 0 where
-  pub is : (j : ℕ) → j < 260 → getD t j 0 ≡ coefficientCorrection (getD c (j + 4) 0) (getD c (j + 3) 0) (getD c (j + 2) 0) (getD c (j + 1) 0)
+-- v holds the levels of the coefficients in c; whatever stands at its end
+pub record Levelled (c v : List ℕ) : Type 0 where
+  pub is : (j : ℕ) → j < 264 → getD v j 0 ≡ levelBelow (getD v (j + 1) 0) (getD c j 0)
+
+-- the first n registers of r, raised by their levels and a gain
+pub record Raised (n : ℕ) (v : List ℕ) (gain : ℕ) (r words : List ℕ) : Type 0 where
+  pub at : (k : ℕ) → k < n → getD words k 0 ≡ raisedBy (getD v (k + 5) 0) gain (held r k)
 
 -- the registers after four samples
 abbrev pub after4 : List ℤ → ℤ → ℤ → ℤ → ℤ → List ℕ → List ℕ

@@ -1,13 +1,13 @@
 // The tables of a running call: its coefficients in offset binary, with four zeros before and after
-// them, and the corrections. All functions here are internal: they serve the crates `kernel_passes` and
+// them, and the levels. All functions here are internal: they serve the crates `kernel_passes` and
 // `kernel`.
 ghost use mathlib.Core.Path.{_≡_};
 ghost use lib.ListN.{length, replicate};
-ghost use Rattle.kernel_tables.specs.Tables.{coefficientsIn, Padded, Corrected};
+ghost use Rattle.kernel_tables.specs.Tables.{coefficientsIn, Padded, Levelled};
 
 mod width;
 
-use kernel_products::coefficient_correction;
+use kernel_products::level_below;
 use kernel_products::offset_coefficient;
 pub use width::least;
 pub use width::used;
@@ -24,13 +24,14 @@ pub fn offset_all(h: &[i32; 256], c: &mut [u64; 264])
     }
 }
 
-pub fn corrections(c: &[u64; 264], t: &mut [u64; 260])
-    requires { ⌜ length (now t) ≡ 260 ⌝ }
-    ensures { λ _. ⌜ Corrected (now (c .entry)) (now (t .exit)) ⌝ }
+// The levels, from the last place to the first.
+pub fn levels(c: &[u64; 264], v: &mut [u64; 265])
+    requires { ⌜ length (now v) ≡ 265 ⌝ }
+    ensures { λ _. ⌜ Levelled (now (c .entry)) (now (v .exit)) ⌝ }
 {
-    let mut j: usize = 0;
-    while j < 260 {
-        t[j] = coefficient_correction(c[j + 4], c[j + 3], c[j + 2], c[j + 1]);
-        j += 1;
+    let mut j: usize = 264;
+    while j > 0 {
+        j -= 1;
+        v[j] = level_below(v[j + 1], c[j]);
     }
 }

@@ -13,7 +13,7 @@ pub fn least(a: usize, b: usize) -> usize
 // From the number returned on, registers and coefficients are 0.
 pub fn used(h: &[i32; 256], registers: &[u64]) -> usize
     requires { ⌜ (length (now h) ≡ 256) × (256 ≤ length (now registers)) ⌝ }
-    ensures { λ r. ⌜ Quiet r (now (h .entry)) (now (registers .entry)) ⌝ }
+    ensures { λ r. ⌜ (r ≤ 256) × (Quiet r (now (h .entry)) (now (registers .entry))) ⌝ }
 {
     let mut w: usize = 256;
     while w > 0 {

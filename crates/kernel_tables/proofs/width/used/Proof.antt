@@ -32,7 +32,7 @@ shared-slice-read-if1 : tie.Need-shared-slice-read-if1 Inv-loop μ-loop
 shared-slice-read-if1 c = search needs
 
 returns : tie.Need-returns Inv-loop μ-loop
-returns c = c .before .before .before .loop .inv .1
+returns c = c .before .before .before .loop .inv
 
 sub-if2 : tie.Need-sub-if2 Inv-loop μ-loop
 sub-if2 c = search needs
@@ -44,7 +44,7 @@ element-copy-out-if2 : tie.Need-element-copy-out-if2 Inv-loop μ-loop
 element-copy-out-if2 c = search needs
 
 returns-2 : tie.Need-returns-2 Inv-loop μ-loop
-returns-2 c = c .before .before .before .before .before .loop .inv .1
+returns-2 c = c .before .before .before .before .before .loop .inv
 
 sub-w : tie.Need-sub-w Inv-loop μ-loop
 sub-w c = search needs
@@ -66,7 +66,7 @@ returns-3 : tie.Need-returns-3 Inv-loop μ-loop
 returns-3 c =
     let at = c .before in
     let e : at .loop .w ≡ 0 = omega arith in
-    subst (λ k. Quiet k (at .before .args .h .now) (at .before .args .registers .now)) e (at .loop .inv .1)
+    (search needs, subst (λ k. Quiet k (at .before .args .h .now) (at .before .args .registers .now)) e (at .loop .inv .1))
 
 pub used-spec : {M : Type 1} → statement M
 used-spec =

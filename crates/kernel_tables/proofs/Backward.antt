@@ -1,0 +1,41 @@
+-- A table of levels, filled from its end. Assumes nothing.
+use mathlib.Core.Path.{_≡_, refl, sym, ap, subst, _∙_}
+use mathlib.Core.Bool.{Bool, true, false}
+use mathlib.Core.List.{List}
+use Prim.Native.Nat.{ℕ, _+_, _<_, _≤_}
+use native.Mathlib.Omega.{arith}
+use borrow.Author.Tests.{ltb-true, ltb-false}
+use lib.Dec.{ltb}
+use lib.ListN.{length, getD, set, length-set}
+use lib.Seq.{getD-set-same, getD-set-other}
+use Rattle.kernel_products.specs.Offset.{levelBelow}
+use Rattle.kernel_tables.specs.Tables.{Levelled}
+
+-- from place j on, v holds the levels
+pub record From (c v : List ℕ) (j : ℕ) : Type 0 where
+  pub size : length v ≡ 265
+  pub is : (i : ℕ) → j ≤ i → i < 264 → getD v i 0 ≡ levelBelow (getD v (i + 1) 0) (getD c i 0)
+
+pub from-end : (c v : List ℕ) → length v ≡ 265 → From c v 264
+from-end c v e = record { size = e; is = λ i a b. absurd (omega arith) }
+
+module _ (c v : List ℕ) (k n : ℕ) (l : k < 264) (f : From c v (k + 1)) (e : n ≡ levelBelow (getD v (k + 1) 0) (getD c k 0)) where
+  other : (i : ℕ) → k < i → getD (set v k n) i 0 ≡ getD v i 0
+  other i m = getD-set-other v k i n 0 (λ p. omega (arith, p))
+
+  here : getD (set v k n) k 0 ≡ levelBelow (getD (set v k n) (k + 1) 0) (getD c k 0)
+  here = getD-set-same v k n 0 (omega (arith, f .size)) ∙ e ∙ ap (λ a. levelBelow a (getD c k 0)) (sym (other (k + 1) (omega arith)))
+
+  by : (i : ℕ) → k ≤ i → i < 264 → (t : Bool) → ltb k i ≡ t → getD (set v k n) i 0 ≡ levelBelow (getD (set v k n) (i + 1) 0) (getD c i 0)
+  by i a b true q =
+      let u : k < i = ltb-true k i q in
+      other i u ∙ f .is i (omega arith) b ∙ ap (λ m. levelBelow m (getD c i 0)) (sym (other (i + 1) (omega arith)))
+  by i a b false q =
+      let u : k ≡ i = omega (arith, ltb-false k i q) in
+      subst (λ m. getD (set v k n) m 0 ≡ levelBelow (getD (set v k n) (m + 1) 0) (getD c m 0)) u here
+
+  pub from-next : From c (set v k n) k
+  from-next = record { size = length-set v k n ∙ f .size; is = λ i a b. by i a b (ltb k i) refl }
+
+pub from-all : (c v : List ℕ) → From c v 0 → Levelled c v
+from-all c v f = record { is = λ j l. f .is j (omega arith) l }
