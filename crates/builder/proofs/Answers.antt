@@ -15,7 +15,7 @@ use Rattle.building.specs.TapRows.{built}
 use Rattle.building.specs.Answer.{buildAnswer, rowCount}
 use Rattle.building.specs.Tables.{wordsOfRows, wordsOfTapRows}
 use Rattle.building.proofs.Answers.{short}
-use Rattle.builder.specs.Plan.{Written}
+use Rattle.network_tables.specs.Plan.{Written}
 
 -- ---- the entry's three statements, from what building answers
 abbrev pub Says : Answer ℕ → Answer Network → List ℕ → List ℕ → List ℕ → List ℕ → List ℕ → List ℕ → Type 0

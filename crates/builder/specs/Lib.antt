@@ -1,3 +1,1 @@
 pub mod Answer
--- For the contracts of the internal functions:
-pub mod Plan

@@ -13,7 +13,7 @@ use Rattle.building.specs.TapRows.{built}
 use Rattle.building.specs.Answer.{Choice, choicesOf, noSuchForm, buildAnswer}
 use Rattle.building.specs.Tables.{wordsOfRows, wordsOfTapRows}
 use Rattle.building.proofs.Answers.{short, length-choices, missingForm, no-taps, too-many, too-short, no-form, network-given}
-use Rattle.builder.specs.Plan.{Accepted}
+use Rattle.network_tables.specs.Plan.{Accepted}
 use Rattle.builder.proofs.Answers.{Says, turned-down, network-left, short-choices, short-rows, short-taps, none-short}
 use Rattle.builder.proofs.build.Statement.{statement}
 use Rattle.builder.proofs.build.Tie as tie

@@ -1,13 +1,13 @@
--- `builder::build_accepted` meets its contract. Assumes nothing.
+-- `network_tables::build_accepted` meets its contract. Assumes nothing.
 use borrow.Author.Needs.{needs}
 use mathlib.Core.Path.{_≡_}
 use Prim.Native.Nat.{_-_}
 use native.Mathlib.Omega.{arith}
 use lib.ListN.{length}
-use Rattle.builder.specs.Plan.{Planned}
-use Rattle.builder.proofs.Plans.{planned}
-use Rattle.builder.proofs.build_accepted.Statement.{statement}
-use Rattle.builder.proofs.build_accepted.Tie as tie
+use Rattle.network_tables.specs.Plan.{Planned}
+use Rattle.network_tables.proofs.Plans.{planned}
+use Rattle.network_tables.proofs.build_accepted.Statement.{statement}
+use Rattle.network_tables.proofs.build_accepted.Tie as tie
 
 abbrev start : tie.After-order → tie.Start
 start c = c .before .before .before .before .before

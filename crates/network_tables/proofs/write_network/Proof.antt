@@ -1,10 +1,10 @@
--- `builder::write_network` meets its contract. Assumes nothing.
+-- `network_tables::write_network` meets its contract. Assumes nothing.
 use borrow.Author.Needs.{needs}
 use Prim.Native.Nat.{_-_}
 use native.Mathlib.Omega.{arith}
-use Rattle.builder.proofs.Plans.{can-start, written}
-use Rattle.builder.proofs.write_network.Statement.{statement}
-use Rattle.builder.proofs.write_network.Tie as tie
+use Rattle.network_tables.proofs.Plans.{can-start, written}
+use Rattle.network_tables.proofs.write_network.Statement.{statement}
+use Rattle.network_tables.proofs.write_network.Tie as tie
 
 abbrev start : tie.After-add-rows → tie.Start
 start c = c .before .before .before .before .before .before .before .before .before .before

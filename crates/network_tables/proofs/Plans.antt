@@ -25,7 +25,7 @@ use Rattle.row_index.proofs.Values.{length-rows}
 use Rattle.chain.specs.Reading.{HasRoom}
 use Rattle.row_builder.specs.Ready.{CanStart}
 use Rattle.tap_rows.specs.Table.{over, tapRowsFor}
-use Rattle.builder.specs.Plan.{Accepted, Planned, WithIndex, Written}
+use Rattle.network_tables.specs.Plan.{Accepted, Planned, WithIndex, Written}
 
 -- ---- the plan
 pub planned : (cs : List ℤ) (ks keys : List ℕ) (m : ℕ) (rows taps : List ℕ) → Accepted cs ks rows taps → Ordered cs keys m → m ≤ length keys → Planned cs ks keys m rows taps

@@ -1,13 +1,13 @@
--- `builder::write_few` meets its contract. Assumes nothing.
+-- `network_tables::write_few` meets its contract. Assumes nothing.
 use borrow.Author.Needs.{needs}
 use mathlib.Core.Path.{refl}
 use Prim.Native.Nat.{ℕ, _-_, _≤_, _<_}
 use lib.Dec.{lit<, lit≤}
 use lib.ListN.{replicate}
 use Rattle.row_index.proofs.Empty.{indexed-none}
-use Rattle.builder.proofs.Plans.{room-few}
-use Rattle.builder.proofs.write_few.Statement.{statement}
-use Rattle.builder.proofs.write_few.Tie as tie
+use Rattle.network_tables.proofs.Plans.{room-few}
+use Rattle.network_tables.proofs.write_few.Statement.{statement}
+use Rattle.network_tables.proofs.write_few.Tie as tie
 
 slice-aggregate-write-network : tie.Need-slice-aggregate-write-network
 slice-aggregate-write-network c = search needs
