@@ -1,7 +1,7 @@
 -- The walk of `list`: the two tables at each link, and at its end. The forms of a negative number are those of its magnitude with the masks
 -- exchanged. Assumes nothing.
 use mathlib.Core.Path.{_≡_, refl, ap, ap₂, sym, _∙_, subst}
-use mathlib.Core.Bool.{Bool, true, false}
+use mathlib.Core.Bool.{true, false}
 use mathlib.Core.List.{List, [], _∷_, _++_, map}
 use mathlib.Core.Logic.{_≢_}
 use Prim.Native.Nat.{ℕ, suc, _+_, _*_, _-_, _≤_, _/_, _%_, _^_}
@@ -25,10 +25,10 @@ use Rattle.form_links.proofs.Spots.{Spot, Walked, Reads, past, walked-end}
 use Rattle.form_links.proofs.Spots as Spots
 use Rattle.form_links.proofs.Needed.{Sided, needed}
 use Rattle.form_links.proofs.Filled.{Filled, firstOf, filled-start, filled-fits, filled-room, filled-nought, filled-digit, filled-end}
-use Rattle.form_listing.specs.declared.Walk.{Walk}
-use Rattle.form_listing.specs.Walk.{IsStart, skipOf, nextOf}
-use Rattle.form_listing.proofs.Stands.{At, AtLink, AtEnd, Stands, stands-start, at-link, at-end, skip-fits, digit, digit-nonzero, digit-read, some-left, next-fits, stands-next}
-use Rattle.form_listing.proofs.Counted.{small-enough, started}
+use Rattle.form_walk.specs.declared.Walk.{Walk}
+use Rattle.form_walk.specs.Walk.{IsStart, skipOf, nextOf}
+use Rattle.form_walk.proofs.Stands.{At, AtLink, stands-start, at-link, at-end, skip-fits, digit, digit-nonzero, digit-read, some-left, next-fits, stands-next}
+use Rattle.form_walk.proofs.Counted.{small-enough, started}
 
 -- ---- which table has the places that hold the sign of n
 abbrev pub ups : {A : Type 0} → ℤ → A → A → A

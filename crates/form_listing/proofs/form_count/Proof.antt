@@ -9,8 +9,8 @@ use mir.Val.{toZ, ofZ}
 use Rattle.signed_digit.specs.Forms.{listing}
 use Rattle.signed_digit.proofs.Coefficients.{i32-coefficient, coefficient-magnitude, at-most-1597}
 use Rattle.form_listing.proofs.Machine.{read-once}
-use Rattle.form_listing.proofs.Stands.{at-link, skip-fits, next-fits}
-use Rattle.form_listing.proofs.Counted.{OnWay, itself, over-nought, over-digit, Counting, CountingLink, count-start, counting-next, count-end, fewer}
+use Rattle.form_walk.proofs.Stands.{at-link, skip-fits, next-fits}
+use Rattle.form_walk.proofs.Counted.{OnWay, itself, over-nought, over-digit, Counting, count-start, counting-next, count-end, fewer}
 use borrow.Author.Needs.{needs}
 use Rattle.form_listing.proofs.form_count.Statement.{statement}
 use Rattle.form_listing.proofs.form_count.Tie as tie

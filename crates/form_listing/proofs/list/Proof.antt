@@ -1,5 +1,5 @@
 -- `form_listing::list` meets its contract. Assumes nothing.
-use mathlib.Core.Path.{_≡_, ap, ap₂, subst, _∙_}
+use mathlib.Core.Path.{_≡_, ap, _∙_}
 use mathlib.Core.List.{List, _++_, map}
 use Prim.Native.Nat.{ℕ, _≤_, _^_}
 use native.Mathlib.Omega.{arith}
@@ -11,7 +11,7 @@ use Rattle.signed_digit.specs.Masks.{plusMask, minusMask}
 use Rattle.signed_digit.specs.Forms.{listing}
 use Rattle.signed_digit.proofs.Coefficients.{i32-coefficient, coefficient-magnitude}
 use Rattle.form_listing.proofs.Machine.{read-once}
-use Rattle.form_listing.proofs.Counted.{fewer}
+use Rattle.form_walk.proofs.Counted.{fewer}
 use Rattle.form_listing.proofs.Listed.{Ready, ready, Listing, list-start, list-skip, list-link, widen-fits, link-fits, list-next, same-lengths, list-end, past-front}
 use borrow.Author.Needs.{needs}
 use Rattle.form_listing.proofs.list.Statement.{statement}

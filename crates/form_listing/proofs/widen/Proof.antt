@@ -1,12 +1,15 @@
 -- `form_listing::widen` meets its contract. Assumes nothing.
-use mathlib.Core.Path.{ap, _∙_}
-use Prim.Native.Nat.{_/_}
+use mathlib.Core.Path.{_≡_, ap, _∙_}
+use Prim.Native.Nat.{ℕ, _+_, _-_, _≤_, _<_, _/_, _%_, _^_}
 use native.Mathlib.Omega.{arith}
 use Rattle.form_links.specs.Growth.{grown}
-use Rattle.form_listing.proofs.Parts.{offset-is}
 use borrow.Author.Needs.{needs}
 use Rattle.form_listing.proofs.widen.Statement.{statement}
 use Rattle.form_listing.proofs.widen.Tie as tie
+
+-- what the machine subtracts from 0
+offset-is : (r b : ℕ) → r < 2 ^ 32 → b ≤ 2 ^ 32 → (r + b) % 2 ^ 32 ≡ 0 → r ≡ (2 ^ 32 - b) % 2 ^ 32
+offset-is r b h k e = omega arith
 
 cast-wrapping-sub-u32 : tie.Need-cast-wrapping-sub-u32
 cast-wrapping-sub-u32 c = search needs

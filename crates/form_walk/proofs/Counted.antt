@@ -1,7 +1,7 @@
 -- The walk of `form_count`: it counts the forms of the magnitude of n, which are as many as those of n. Assumes nothing.
 use mathlib.Core.Path.{_≡_, refl, ap, sym, _∙_, subst}
 use mathlib.Core.Logic.{_≢_}
-use Prim.Native.Nat.{ℕ, _*_, _≤_, _<_, _/_, _%_, _^_}
+use Prim.Native.Nat.{ℕ, _*_, _≤_, _<_, _^_}
 use native.Mathlib.Nat.{div-le-self}
 use native.Mathlib.Omega.{arith}
 use lib.Count.{trailingZeros}
@@ -17,10 +17,10 @@ use Rattle.form_links.proofs.Lists.{listing-length}
 use Rattle.form_links.proofs.Spots.{Spot, Walked, Reads, past, walked-start, walked-past, walked-end}
 use Rattle.form_links.proofs.Spots as Spots
 use Rattle.form_links.proofs.Needed.{Sided, sided-past, needed}
-use Rattle.form_listing.specs.declared.Walk.{Walk}
-use Rattle.form_listing.specs.Walk.{IsStart, startOf, skipOf, nextOf}
-use Rattle.form_listing.proofs.Parts.{start-same}
-use Rattle.form_listing.proofs.Stands.{At, AtLink, stands-start, at-link, at-end, digit, digit-nonzero, digit-read, some-left, stands-next}
+use Rattle.form_walk.specs.declared.Walk.{Walk}
+use Rattle.form_walk.specs.Walk.{IsStart, startOf, skipOf, nextOf}
+use Rattle.form_walk.proofs.Parts.{start-same}
+use Rattle.form_walk.proofs.Stands.{At, AtLink, stands-start, at-end, digit, digit-read, some-left, stands-next}
 
 module _ (m : ℕ) where
   abbrev pub OnWay : Digit → Spot → Type 0

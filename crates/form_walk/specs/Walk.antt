@@ -10,8 +10,8 @@ use Rattle.signed_digit.specs.String.{DigitString}
 use Rattle.form_masks.specs.declared.Form.{Form}
 use Rattle.form_masks.specs.Form.{formOf}
 use Rattle.form_links.specs.Links.{opposed, linksOf, takenLinks}
-use Rattle.form_listing.specs.declared.Chains.{Chains}
-use Rattle.form_listing.specs.declared.Walk.{Walk}
+use Rattle.form_walk.specs.declared.Chains.{Chains}
+use Rattle.form_walk.specs.declared.Walk.{Walk}
 
 abbrev pub aheadOf : ℕ → Chains → Chains
 aheadOf k a = record {

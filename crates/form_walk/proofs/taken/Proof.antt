@@ -1,9 +1,9 @@
--- `form_listing::taken` meets its contract. Assumes nothing.
+-- `form_walk::taken` meets its contract. Assumes nothing.
 use native.Mathlib.Omega.{arith}
-use Rattle.form_listing.proofs.Parts.{taken-is}
+use Rattle.form_walk.proofs.Parts.{taken-is}
 use borrow.Author.Needs.{needs}
-use Rattle.form_listing.proofs.taken.Statement.{statement}
-use Rattle.form_listing.proofs.taken.Tie as tie
+use Rattle.form_walk.proofs.taken.Statement.{statement}
+use Rattle.form_walk.proofs.taken.Tie as tie
 
 ahead-requires : tie.Need-ahead-requires
 ahead-requires c κs = search needs

@@ -1,14 +1,14 @@
--- `form_listing::skip` meets its contract. Assumes nothing.
+-- `form_walk::skip` meets its contract. Assumes nothing.
 use mathlib.Core.Path.{_≡_, refl}
 use Prim.Native.Nat.{_*_, _≤_, _%_, _^_}
 use native.Mathlib.Nat.{mul-le-mul-left}
 use native.Mathlib.Omega.{arith}
 use lib.Count.{trailingZeros}
-use Rattle.form_listing.proofs.TrailingZeros.{few, least}
-use Rattle.form_listing.proofs.Parts.{walk}
+use Rattle.form_walk.proofs.TrailingZeros.{few, least}
+use Rattle.form_walk.proofs.Parts.{walk}
 use borrow.Author.Needs.{needs}
-use Rattle.form_listing.proofs.skip.Statement.{statement}
-use Rattle.form_listing.proofs.skip.Tie as tie
+use Rattle.form_walk.proofs.skip.Statement.{statement}
+use Rattle.form_walk.proofs.skip.Tie as tie
 
 cast-t3 : tie.Need-cast-t3
 cast-t3 c = let s = c .before in omega (arith, few (s .args .w .links) (omega (arith, s .pre .0)) (s .pre .1))

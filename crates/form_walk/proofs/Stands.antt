@@ -1,8 +1,8 @@
 -- The walk of src/lib.rt over links, beside the walk digit by digit: it stands at a spot, goes on from link to link, and ends with the number
 -- of forms. Assumes nothing.
-use mathlib.Core.Path.{_≡_, refl, ap, ap₂, sym, _∙_, subst}
+use mathlib.Core.Path.{_≡_, refl, ap, sym, _∙_, subst}
 use mathlib.Core.Bool.{Bool, true, false, cond}
-use mathlib.Core.Logic.{_≢_, _⊎_, inl, inr, ⊎-elim}
+use mathlib.Core.Logic.{_≢_, _⊎_, ⊎-elim}
 use mathlib.Core.List.{_∷_}
 use Prim.Native.Nat.{ℕ, zero, suc, _+_, _*_, _≤_, _<_, _/_, _%_, _^_}
 use native.Mathlib.Nat.{le-refl, mul-le-mul-left}
@@ -15,15 +15,14 @@ use lib.Pow.{pow-mono, pow-add, shl-shr}
 use Rattle.signed_digit.specs.Digit.{Digit, one, nought, minus-one, nonzero}
 use Rattle.signed_digit.specs.CanonicalForm.{lowest, canonicalNat}
 use Rattle.signed_digit.proofs.CanonicalForm.{canonicalNat-places}
-use Rattle.form_links.specs.Links.{opposed, linksOf, joined, takenLinks}
 use Rattle.form_links.proofs.LinkMasks.{takes-small, taken-small}
 use Rattle.form_links.proofs.Spots.{Spot, Walked, Reads, past, coming, next-digit, walked-room}
 use Rattle.form_links.proofs.Spots as Spots
-use Rattle.form_links.proofs.Needed.{Sided, needed, needed-nought, needed-digit, needed-end, OppositeLink, EqualLink, link-step}
+use Rattle.form_links.proofs.Needed.{Sided, needed, needed-nought, needed-digit, needed-end, link-step}
 use Rattle.form_links.proofs.Found.{linksAt, opposedAt, takes-nought, links-first, links-digit, links-start, past-bit, Found, Ended, find}
-use Rattle.form_listing.specs.declared.Walk.{Walk}
-use Rattle.form_listing.specs.Walk.{startOf, skipOf, nextOf}
-use Rattle.form_listing.proofs.TrailingZeros.{factors, zeros-are}
+use Rattle.form_walk.specs.declared.Walk.{Walk}
+use Rattle.form_walk.specs.Walk.{startOf, skipOf, nextOf}
+use Rattle.form_walk.proofs.TrailingZeros.{factors, zeros-are}
 
 -- the walk w stands at the spot s, d being the digit two places below
 pub record Stands (d : Digit) (s : Spot) (w : Walk) : Type 0 where

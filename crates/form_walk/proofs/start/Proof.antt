@@ -1,13 +1,13 @@
--- `form_listing::start` meets its contract. Assumes nothing.
+-- `form_walk::start` meets its contract. Assumes nothing.
 use mathlib.Core.Path.{_≡_, refl, ap}
 use Prim.Native.Nat.{_<_, _/_, _^_}
 use native.Mathlib.Omega.{arith}
 use lib.Bits.{bitAnd, bitOr}
 use Rattle.form_masks.specs.declared.Form.{Form}
-use Rattle.form_listing.proofs.Parts.{either-small, start-is}
+use Rattle.form_walk.proofs.Parts.{either-small, start-is}
 use borrow.Author.Needs.{needs}
-use Rattle.form_listing.proofs.start.Statement.{statement}
-use Rattle.form_listing.proofs.start.Tie as tie
+use Rattle.form_walk.proofs.start.Statement.{statement}
+use Rattle.form_walk.proofs.start.Tie as tie
 
 small : (c : tie.After-taken) (form : Form) → form ≡ c .before .before .before .before .before .before .before .before .before .args .form
     → bitOr (bitAnd (form .plus) (form .minus / 4)) (bitAnd (form .minus) (form .plus / 4)) < 2 ^ 32

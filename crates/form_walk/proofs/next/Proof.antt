@@ -1,9 +1,9 @@
--- `form_listing::next` meets its contract. Assumes nothing.
+-- `form_walk::next` meets its contract. Assumes nothing.
 use mathlib.Core.Path.{refl}
-use Rattle.form_listing.proofs.Parts.{walk}
+use Rattle.form_walk.proofs.Parts.{walk}
 use borrow.Author.Needs.{needs}
-use Rattle.form_listing.proofs.next.Statement.{statement}
-use Rattle.form_listing.proofs.next.Tie as tie
+use Rattle.form_walk.proofs.next.Statement.{statement}
+use Rattle.form_walk.proofs.next.Tie as tie
 
 add-both : tie.Need-add-both
 add-both c = search needs

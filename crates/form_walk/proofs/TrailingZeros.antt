@@ -1,6 +1,6 @@
 -- The number of zeros at the low end of a number that is an odd one and zeros below it. Assumes nothing.
-use mathlib.Core.Path.{_≡_, refl, sym, ap, _∙_}
-use Prim.Native.Nat.{ℕ, zero, suc, _+_, _*_, _≤_, _<_, _/_, _%_, _^_}
+use mathlib.Core.Path.{_≡_, refl, ap, _∙_}
+use Prim.Native.Nat.{ℕ, zero, suc, _*_, _≤_, _<_, _/_, _%_, _^_}
 use native.Mathlib.Nat.{pow-suc, lt-of-not-le}
 use native.Mathlib.Omega.{arith}
 use lib.Count.{trailingZeros, under}

@@ -1,20 +1,17 @@
 -- What the leaf functions of src/lib.rt return. Assumes nothing.
 use mathlib.Core.Path.{_≡_, refl, ap, ap₂, sym, _∙_}
-use Prim.Native.Nat.{ℕ, _+_, _*_, _-_, _≤_, _<_, _/_, _%_, _^_}
+use Prim.Native.Nat.{ℕ, _*_, _-_, _<_, _/_, _^_}
 use native.Mathlib.Omega.{arith}
 use lib.Bits.{bitAnd, bitOr, and-le-l, or-lt}
 use lib.IntN.{ℤ, pos, negsuc, natAbs}
-use lib.ListN.{length}
-use Rattle.signed_digit.specs.String.{DigitString}
 use Rattle.signed_digit.specs.CanonicalForm.{canonicalNat, canonical}
 use Rattle.form_masks.specs.declared.Form.{Form}
-use Rattle.form_masks.specs.Form.{formOf}
 use Rattle.form_links.specs.Links.{opposed, alike, linksOf, takenLinks}
 use Rattle.form_links.proofs.LinkMasks.{opposed-links, alike-links, taken-links, taken-small, opposed-negated, taken-negated}
 use Rattle.form_links.proofs.LookAhead.{four-times}
-use Rattle.form_listing.specs.declared.Chains.{Chains}
-use Rattle.form_listing.specs.declared.Walk.{Walk}
-use Rattle.form_listing.specs.Walk.{aheadOf, IsTaken, IsStart, startOf}
+use Rattle.form_walk.specs.declared.Chains.{Chains}
+use Rattle.form_walk.specs.declared.Walk.{Walk}
+use Rattle.form_walk.specs.Walk.{aheadOf, IsTaken, IsStart, startOf}
 
 -- two walks are the same by their numbers
 pub walk : {links links′ opposite opposite′ bit bit′ forms forms′ moved moved′ : ℕ} → links ≡ links′ → opposite ≡ opposite′ → bit ≡ bit′ → forms ≡ forms′ → moved ≡ moved′
@@ -57,7 +54,3 @@ start-same (pos m) = refl
 start-same (negsuc k) =
     let s = canonicalNat 32 (natAbs (negsuc k)) in
     walk (ap (λ (x : ℕ). x * 4) (taken-negated s)) (ap (λ (x : ℕ). x * 4) (opposed-negated s)) refl refl refl
-
--- ---- `widen`: what the machine subtracts from 0
-pub offset-is : (r b : ℕ) → r < 2 ^ 32 → b ≤ 2 ^ 32 → (r + b) % 2 ^ 32 ≡ 0 → r ≡ (2 ^ 32 - b) % 2 ^ 32
-offset-is r b h k e = omega arith

@@ -1,0 +1,4 @@
+pub mod TrailingZeros
+pub mod Stands
+pub mod Parts
+pub mod Counted
