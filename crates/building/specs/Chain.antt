@@ -5,7 +5,7 @@ use mathlib.Core.List.{List, [], _∷_, _++_, reverse}
 use lib.IntN.{pos}
 use lib.ListN.{getD}
 use Rattle.refusal.specs.Answer.{Place, nowhere, at-place, placeOr}
-use Rattle.signed_digit.specs.Digit.{Digit, one, nought, minus-one}
+use Rattle.signed_digit.specs.Digit.{one, nought, minus-one}
 use Rattle.signed_digit.specs.String.{DigitString}
 use Rattle.signed_digit.specs.Forms.{listing}
 use Rattle.network.specs.declared.Row.{Row}

@@ -1,6 +1,6 @@
 -- Steps 1 and 2 of building: a row that has a value, and the search for one new row. Document 01, "Building". Definitions only.
 use Prim.Native.Nat.{ℕ, suc, _^_}
-use mathlib.Core.Bool.{Bool, cond}
+use mathlib.Core.Bool.{cond}
 use mathlib.Core.List.{List, [], _∷_}
 use lib.Dec.{eqb, leb}
 use lib.ListN.{length}

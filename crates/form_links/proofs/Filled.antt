@@ -1,6 +1,6 @@
 -- The two mask tables on the walk, and at its end: the listing in front, and the rest as it was. Assumes nothing.
 use mathlib.Core.Path.{_≡_, refl, ap, ap₂, sym, _∙_}
-use mathlib.Core.Bool.{Bool, true, false}
+use mathlib.Core.Bool.{Bool, true}
 use mathlib.Core.List.{List, [], _∷_, _++_, map}
 use Prim.Native.Nat.{ℕ, suc, _+_, _*_, _-_, _≤_, _<_, _^_, _/_, _%_}
 use native.Mathlib.Omega.{arith}
@@ -14,13 +14,13 @@ use Rattle.signed_digit.specs.Forms.{listing}
 use Rattle.signed_digit.proofs.Strings.{small}
 use Rattle.signed_digit.proofs.CanonicalForm.{canonicalNat-places}
 use Rattle.form_links.specs.Links.{joined}
-use Rattle.form_links.proofs.Passed.{passed-nought, passed-digit, more}
+use Rattle.form_links.proofs.Passed.{passed-digit, more}
 use Rattle.form_links.proofs.Counts.{ofSide}
 use Rattle.form_links.proofs.Growth.{grownIf, if-rest}
 use Rattle.form_links.proofs.SignMasks.{bitOf}
 use Rattle.form_links.proofs.Columns.{Column, column-start, column-nought, column-own, column-other, column-end}
 use Rattle.form_links.proofs.Spots.{Spot, Walked, Reads, startOf, past, walked-start, walked-past, walked-end}
-use Rattle.form_links.proofs.Needed.{Sided, sided-past, needed, needed-nought, needed-digit, met-own, met-other, needed-fits}
+use Rattle.form_links.proofs.Needed.{Sided, sided-past, needed, needed-digit, met-own, met-other, needed-fits}
 
 -- past the first count elements a table is as it was
 pub record Kept (count : ℕ) (old new : List ℕ) : Type 0 where

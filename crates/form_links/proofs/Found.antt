@@ -1,6 +1,6 @@
 -- The next link that some form takes, by the masks of the links from the walk's spot on; where none is left, the walk's end. What is passed on
 -- the way leaves the number of forms as it is. Assumes nothing.
-use mathlib.Core.Path.{_≡_, refl, ap, ap₂, sym, _∙_}
+use mathlib.Core.Path.{_≡_, refl, ap, sym, _∙_}
 use mathlib.Core.List.{[], _∷_}
 use mathlib.Core.Logic.{_⊎_, inl, inr, ⊎-elim}
 use Prim.Native.Nat.{ℕ, zero, suc, _+_, _*_, _≤_, _^_, _%_}
@@ -16,7 +16,7 @@ use Rattle.signed_digit.proofs.Same.{same-equal}
 use Rattle.signed_digit.proofs.Value.{values-eq}
 use Rattle.signed_digit.proofs.Canonical.{canonical-pad, canonical-unique}
 use Rattle.signed_digit.proofs.CanonicalForm.{canonicalNat-worth, canonicalNat-places, canonicalNat-canonical}
-use Rattle.form_links.specs.Links.{opposed, second, linksOf, joined, takes, takenLinks}
+use Rattle.form_links.specs.Links.{opposed, linksOf, joined, takes, takenLinks}
 use Rattle.form_links.proofs.LinkMasks.{takes-small, taken-top, opposed-top}
 use Rattle.form_links.proofs.Spots.{Spot, Walked, Reads, startOf, past, coming, next-digit, past-less, coming-nought, coming-digit}
 use Rattle.form_links.proofs.Needed.{Sided, needed, needed-nought, needed-digit, needed-end, quiet-forms, quiet-sides}

@@ -1,7 +1,7 @@
 -- The masks of links: how they come from the masks of the digits, and what the mask of those that are taken is equal to. Assumes nothing.
 use mathlib.Core.Path.{_≡_, refl, ap, ap₂, sym, _∙_}
 use mathlib.Core.List.{[], _∷_}
-use Prim.Native.Nat.{ℕ, zero, suc, _+_, _*_, _≤_, _<_, _^_, _/_, _%_, min, max}
+use Prim.Native.Nat.{ℕ, _+_, _*_, _<_, _^_, _/_, _%_, min, max}
 use native.Mathlib.Nat.{pow-suc}
 use native.Mathlib.Omega.{arith}
 use lib.Bits.{bitAnd, bitOr, and-step, or-step}

@@ -1,6 +1,6 @@
 -- A mask v that is t | e & (v / 2^k) is also so with t and e taken together over twice the distance. Assumes nothing.
 use mathlib.Core.Path.{_≡_, refl, ap, ap₂, sym, _∙_}
-use Prim.Native.Nat.{ℕ, zero, suc, _+_, _*_, _<_, _^_, _/_, _%_, min, max}
+use Prim.Native.Nat.{ℕ, zero, suc, _<_, _^_, _/_, _%_, min, max}
 use native.Mathlib.Nat.{pow-suc, zero-min, div-le-self}
 use native.Mathlib.Omega.{arith}
 use lib.Bits.{bitAnd, bitOr, and-step, or-step, and-shr, or-shr, and-zero-r, or-zero-r, and-le-l, or-lt}

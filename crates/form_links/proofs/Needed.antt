@@ -14,7 +14,7 @@ use Rattle.signed_digit.specs.Forms.{listing}
 use Rattle.form_links.specs.Links.{opposed, joined, takes}
 use Rattle.form_links.proofs.Counts.{ofSide}
 use Rattle.form_links.proofs.LinkMasks.{joined-nought}
-use Rattle.form_links.proofs.Spots.{Spot, Walked, Reads, past, coming, next-digit, past-less, walked-past, walked-end, walked-most, coming-nought, coming-digit}
+use Rattle.form_links.proofs.Spots.{Spot, Walked, Reads, past, coming, next-digit, past-less, walked-past, walked-most, coming-nought, coming-digit}
 
 -- the digit two places below the walk, 0 where there is none: the forms beside lie on its other side
 abbrev pub Sided : Digit → Spot → Type 0

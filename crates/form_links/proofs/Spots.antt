@@ -1,6 +1,6 @@
 -- A walk over the canonical digits of a number m, digit by digit from the low end: where it has come, and how many forms there are of what
 -- has been passed. Assumes nothing.
-use mathlib.Core.Path.{_≡_, refl, ap, sym, _∙_}
+use mathlib.Core.Path.{_≡_, refl, ap, _∙_}
 use mathlib.Core.List.{_∷_}
 use Prim.Native.Nat.{ℕ, zero, suc, _+_, _*_, _-_, _≤_, _<_, _^_, _/_, _%_}
 use native.Mathlib.Nat.{pow-suc}

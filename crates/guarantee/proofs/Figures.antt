@@ -1,14 +1,13 @@
 -- The proved figures, one list.
-use mathlib.Core.Path.{_≡_, refl, sym, ap, ap₂, _∙_, subst}
-use mathlib.Core.List.{List, [], _∷_, _++_}
+use mathlib.Core.Path.{_≡_, refl, ap, ap₂, _∙_}
+use mathlib.Core.List.{List, _∷_, _++_}
 use Prim.Native.Nat.{ℕ, zero, suc, _*_, _<_, _≤_}
 use native.Mathlib.Omega.{arith}
 use lib.Count.{trailingZeros}
-use lib.IntN.{ℤ, pos, negℤ, negsuc}
+use lib.IntN.{ℤ, pos}
 use lib.ListN.{length, drop, replicate, getD, length-drop}
 use Rattle.refusal.specs.Answer.{Answer, given, filled}
 use Rattle.signed_digit.specs.Coefficient.{Coefficient}
-use Rattle.signed_digit.specs.Forms.{listing}
 use Rattle.signed_digit.proofs.Figures.{figures}
 use Rattle.coefficient.specs.Parts.{partsOf, oddPartOf, shiftOf}
 use Rattle.tap.proofs.Figures.{tap-figures}
@@ -20,7 +19,7 @@ use Rattle.building.proofs.Example.{example}
 use Rattle.filter.specs.Run.{runAnswer}
 use Rattle.filter.proofs.Figures as Running
 use Rattle.guarantee.specs.Demand3.{Listed, Taken, rowsLeft, tapsLeft}
-use Rattle.guarantee.specs.Figures.{sheetTaps, noChoices, samples, sheet, SheetFilter, ProvedFigures}
+use Rattle.guarantee.specs.Figures.{sheetTaps, noChoices, samples, SheetFilter, ProvedFigures}
 use Rattle.guarantee.proofs.Demand3.{demand-3}
 
 -- the sheet's taps and choices are such as demand 3 speaks of

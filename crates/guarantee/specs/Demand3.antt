@@ -11,7 +11,7 @@ use Rattle.signed_digit.specs.Forms.{listing}
 use Rattle.coefficient.specs.Parts.{Parts, no-odd-part, parts, partsOf}
 use Rattle.form_listing.specs.declared.Listing.{Listing}
 use Rattle.form_listing.proofs.Written.{Answered, Written}
-use Rattle.network.specs.Rows.{Network, networkOf, rowWords, tapWords}
+use Rattle.network.specs.Rows.{networkOf, rowWords, tapWords}
 use Rattle.building.specs.TapRows.{built}
 use Rattle.building.specs.Answer.{buildAnswer}
 use Rattle.building.specs.Tables.{wordsOfRows, wordsOfTapRows}

@@ -7,7 +7,7 @@ use native.Mathlib.Omega.{arith}
 use lib.IntN.{ℤ}
 use lib.Dec.{eqb, eqb·suc-zero}
 use lib.Ieee.{Float, nan, inf, fin, up, down, ne}
-use lib.Ieee.Fits.{up-pos, down-pos}
+use lib.Ieee.Fits.{up-pos}
 use borrow.Author.Tests.{eq-eqb, ne-eqb}
 use Rattle.tap.specs.Rounding.{finite}
 use Rattle.tap.proofs.Value.{nought}

@@ -1,5 +1,4 @@
 -- Normalised mode: document 01, "Taps to coefficients", first paragraph. Definitions only.
-use Prim.Native.Nat.{ℕ}
 use mathlib.Core.Bool.{Bool, true, false}
 use mathlib.Core.List.{List, [], _∷_, map}
 use lib.IntN.{pos}

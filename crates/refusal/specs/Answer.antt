@@ -1,5 +1,5 @@
 -- What an entry answers and what it leaves in lent memory, as document 01, "Turned down", has it. Every entry's contract goes through these. Definitions only.
-use Prim.Native.Nat.{ℕ, zero, suc}
+use Prim.Native.Nat.{ℕ, suc}
 use mathlib.Core.Bool.{Bool, true, false, cond}
 use mathlib.Core.List.{List, [], _∷_, _++_}
 use lib.ListN.{length, drop}

@@ -5,8 +5,8 @@ use mathlib.Core.Bool.{Bool, true, false, not, cond, true≢false, false≢true}
 use Prim.Native.Nat.{ℕ, zero, suc, _*_, _^_, _≤_, _<_}
 use native.Mathlib.Nat.{le-trans, le-of-eq, lt-of-lt-of-le, lt-of-le-of-lt, mul-le-mul-right, mul-right-comm}
 use native.Mathlib.Omega.{arith}
-use lib.IntN.{ℤ, pos, negsuc, negℤ}
-use lib.Dec.{T, ltb, leb, eqb, ltb→lt, nltb→le, lit≤, lit<}
+use lib.IntN.{ℤ, pos, negsuc}
+use lib.Dec.{T, ltb, eqb, ltb→lt, nltb→le, lit≤, lit<}
 use lib.Signed.{ltZ}
 use mir.Syntax.{w32}
 use mir.Val.{SFits}
@@ -14,9 +14,9 @@ use lib.Ieee.{Float, nan, inf, fin, binary64, up, down, round, mul, eq, lt, ofIn
 use lib.Ieee.Fits.{down-pos}
 use lib.Ieee.Exact.{HasValue}
 use borrow.Author.Tests.{lt-ltb, le-ltb, eqb-false, ltb-true, ltb-false}
-use Rattle.refusal.specs.Answer.{Answer, given, refused, refuseIf}
+use Rattle.refusal.specs.Answer.{given, refused, refuseIf}
 use Rattle.refusal.proofs.Checks.{check-applies, check-passes}
-use Rattle.tap.specs.Rounding.{Coefficient, exact, rounded, nearestWhole, signed, most, leftover, split, finite, sizeOf, outside, coefficientOf, roundedTap, absOf}
+use Rattle.tap.specs.Rounding.{exact, rounded, nearestWhole, signed, most, leftover, split, finite, sizeOf, outside, coefficientOf, roundedTap, absOf}
 use Rattle.tap.specs.Steps.{nearestOf, parted, magnitudeOf}
 use Rattle.tap.proofs.Whole.{nearest-same, nearest-le, nearest-ge}
 use Rattle.tap.proofs.Value.{scaled-is, scaled-exact, over, lt-pow, nought, two-to}

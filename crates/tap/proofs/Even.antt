@@ -1,24 +1,24 @@
 -- Added to 2 ^ 52 and taken off again, a number is rounded to a whole one, at a half to the even one. Assumes nothing.
 use mathlib.Core.Path.{_≡_, refl, sym, ap, _∙_, subst}
-use mathlib.Core.Logic.{_⊎_, inl, inr}
-use mathlib.Core.Bool.{Bool, true, false, not, _&&_, _||_, Bool·beq, cond, true≢false, false≢true}
+use mathlib.Core.Logic.{inl}
+use mathlib.Core.Bool.{Bool, true, false, _&&_, _||_, Bool·beq, cond, true≢false}
 use Prim.Native.Nat.{ℕ, zero, suc, _+_, _-_, _*_, _/_, _%_, _^_, _≤_, _<_, compare, Ordering, Ordering·lt, Ordering·eq, Ordering·gt}
-use native.Mathlib.Nat.{le-trans, le-of-eq, le-of-lt, lt-of-lt-of-le, lt-of-le-of-lt, lt-of-not-le, lt-of-mul-lt-mul-right, not-le-of-lt, le-antisymm, add-comm, add-mul, zero-mul, one-mul, mul-one, mul-assoc, mul-comm, mul-right-comm, mul-pos, mul-le-mul-right, mul-lt-mul-of-pos-right, le-div-iff-mul-le, div-lt-iff-lt-mul, eq-of-mul-eq-mul-right, zero-lt-suc, mod-lt, div-add-mod'}
+use native.Mathlib.Nat.{le-trans, le-of-eq, lt-of-lt-of-le, lt-of-le-of-lt, lt-of-not-le, lt-of-mul-lt-mul-right, not-le-of-lt, le-antisymm, add-mul, zero-mul, one-mul, mul-one, mul-assoc, mul-comm, mul-right-comm, mul-pos, mul-le-mul-right, mul-lt-mul-of-pos-right, le-div-iff-mul-le, div-lt-iff-lt-mul, eq-of-mul-eq-mul-right, mod-lt, div-add-mod'}
 use native.Mathlib.Omega.{arith}
 use lib.Arith.{digits-div}
 use lib.IntN.{ℤ, pos, negsuc}
 use lib.Dec.{T, leb, ltb, eqb, lit≤, lit<, le→leb}
 use lib.Pow.{pow-add, pow-pos, pow-mono}
 use Rattle.tap.proofs.Whole.{on-half, no-half}
-use lib.Ieee.{Float, nan, inf, fin, binary64, up, down, round, nearest, size, sum, add, sub, eq, lt, ofInt, ofBits, fits, inFloat, inSigned, toSigned}
+use lib.Ieee.{Float, nan, inf, fin, binary64, up, down, round, nearest, size, sum, add, sub, eq, lt, ofInt, fits, inFloat, inSigned, toSigned}
 use lib.Ieee.Fits.{down-pos, round-fits, nearest-le}
 use lib.Ieee.Digits.{size-lt, size-le}
 use lib.Ieee.Exact.{HasValue, round-exact}
 use lib.Ieee.Nearest.{closest, closest-same}
-use lib.Ieee.Order.{drop, kept}
+use lib.Ieee.Order.{drop}
 use lib.Ieee.Scale.{grid, round-val, round-same}
 use lib.Ieee.Back.{round-whole, whole-unique, positive-back}
-use borrow.Author.Tests.{lt-ltb, le-ltb, le-leb, eq-eqb, ne-eqb, eqb-true, eqb-false}
+use borrow.Author.Tests.{lt-ltb, le-leb, eq-eqb, ne-eqb, eqb-true, eqb-false}
 use Rattle.tap.specs.Rounding.{halfOf, nearestWhole}
 use Rattle.tap.specs.Steps.{evenOf, nearestOf}
 use Rattle.tap.proofs.Rest.{rest-is, leftover-is}

@@ -2,17 +2,16 @@
 use mathlib.Core.Path.{_≡_, refl, sym, ap, _∙_, subst}
 use mathlib.Core.Bool.{Bool, true, false, not, _&&_, cond}
 use Prim.Native.Nat.{ℕ, zero, suc, _+_, _-_, _*_, _/_, _%_, _≤_, _<_}
-use native.Mathlib.Nat.{lt-of-le-of-lt, mul-lt-mul-of-pos-right, mul-div-cancel, mod-eq-of-lt}
+use native.Mathlib.Nat.{lt-of-le-of-lt}
 use native.Mathlib.Omega.{arith}
-use lib.Arith.{digits-div}
 use lib.IntN.{ℤ, pos, negsuc, negℤ, _-ℤ_, +ℤ-idl}
 use lib.Dec.{T, leb, eqb, lit<}
-use lib.Ieee.{Float, nan, inf, fin, binary64, ofInt, ofFields, ofBits, nanBits, odd, minus, eq, sub}
-use borrow.Author.Tests.{le-leb, lt-leb, eq-eqb, ne-eqb}
+use lib.Ieee.{Float, inf, fin, binary64, ofInt, ofFields, ofBits, nanBits, odd, minus, eq, sub}
+use borrow.Author.Tests.{le-leb, lt-leb, ne-eqb}
 use mir.Syntax.{w64}
 use mir.Val.{SFits, toZ}
 use mir.ValLaws.{toZ-pos}
-use Rattle.tap.specs.Rounding.{Coefficient, exact, rounded}
+use Rattle.tap.specs.Rounding.{exact, rounded}
 use Rattle.tap.specs.Steps.{parted}
 
 -- ---- scaled: 2 ^ k by its bits, a sign of 0, an exponent's field of 1023 + k and digits of 0

@@ -5,7 +5,7 @@ use mathlib.Core.Bool.{Bool, true, false, not, cond}
 use lib.IntN.{ℤ, pos, negℤ}
 use lib.Dec.{leb, ltb, eqb}
 use lib.Ieee.{Float, nan, inf, fin, binary64, up, down, round}
-use Rattle.refusal.specs.Answer.{Answer, given, refused, turnedDown, refuseIf}
+use Rattle.refusal.specs.Answer.{Answer, given, turnedDown, refuseIf}
 use Rattle.tap.specs.declared.RoundedTap.{RoundedTap}
 use Rattle.tap.specs.declared.RoundedTap.the-variants.{Exact, Rounded, Refused}
 

@@ -1,19 +1,16 @@
 -- The answers of `round_quotients` and `round_taps`, by the checks that led to them. Assumes nothing.
-use mathlib.Core.Path.{_≡_, refl, sym, ap, _∙_, subst}
+use mathlib.Core.Path.{_≡_, refl, sym, ap, _∙_}
 use mathlib.Core.Bool.{Bool, true, false, not, _&&_, cond, true≢false, false≢true}
-use mathlib.Core.List.{List, [], _∷_, map}
-use Prim.Native.Nat.{ℕ, zero, suc, _+_, _-_, _*_, _/_, _%_, _^_, _≤_, _<_, compare}
-use native.Mathlib.Nat.{lt-irrefl, lt-of-lt-of-le}
-use native.Mathlib.Omega.{arith}
-use lib.IntN.{ℤ, pos, negsuc}
-use lib.Dec.{T, ltb, eqb}
+use mathlib.Core.List.{List, [], _∷_}
+use Prim.Native.Nat.{ℕ, zero, suc, _-_, _*_, _/_, _%_, _^_, _≤_, _<_, compare}
+use lib.IntN.{pos}
+use lib.Dec.{ltb, eqb}
 use lib.ListN.{length}
 use lib.Ieee.{Float, nan, inf, fin, binary64, round, nearest, size, units, odd, add, div, isNan, up, down, unlike}
 use borrow.Author.Tests.{lt-ltb, le-ltb, eq-eqb, ne-eqb}
-use Rattle.refusal.specs.Answer.{Answer, given, refused, refuseIf, refuseAt, Place, nowhere, at-place, lowestFrom, lowest}
+use Rattle.refusal.specs.Answer.{refused, refuseIf, refuseAt, Place, nowhere, at-place, lowestFrom, lowest}
 use Rattle.refusal.proofs.Checks.{check-applies, check-passes, lowest-all, lowest-alike}
 use Rattle.tap.specs.Rounding.{finite}
-use Rattle.tap_set.specs.declared.Report.{Report}
 use Rattle.normalise.specs.Normalised.{sumFrom, sumOf, unusable, infinite, quotients, used, divisorOf}
 use Rattle.tap_set.specs.Set.{bounded, roundedTaps}
 use Rattle.tap_set.specs.Steps.{finiteRule, checked, settled}

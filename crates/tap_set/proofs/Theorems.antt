@@ -1,12 +1,12 @@
 -- What document 01 says of the report, as theorems about `roundedTaps`: no result is a not-a-number. Assumes nothing.
-use mathlib.Core.Path.{_≡_, refl, sym, ap, _∙_, subst}
-use mathlib.Core.Bool.{Bool, true, false, not, _&&_}
-use mathlib.Core.List.{List, [], _∷_, map}
+use mathlib.Core.Path.{_≡_, refl, sym, ap, _∙_}
+use mathlib.Core.Bool.{Bool, true, false, _&&_}
+use mathlib.Core.List.{List, [], _∷_}
 use Prim.Native.Nat.{ℕ, suc, _≤_}
 use lib.IntN.{pos}
 use lib.Dec.{T, ltb, eqb}
 use lib.ListN.{length}
-use lib.Ieee.{Float, fin, binary64, div, fits, isNan}
+use lib.Ieee.{Float, fin, binary64, fits, isNan}
 use lib.Ieee.Fits.{div-fits}
 use borrow.Author.Tests.{ltb-false}
 use Rattle.refusal.specs.Answer.{given, refuseAt, nowhere, lowestFrom, lowest}

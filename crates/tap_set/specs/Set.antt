@@ -1,6 +1,6 @@
 -- A set of taps: its report, its coefficients and its refusals. Document 01, "Taps to coefficients" and "Turned down". Definitions only.
 use Prim.Native.Nat.{ℕ}
-use mathlib.Core.Bool.{Bool, true, false, not, _&&_, cond}
+use mathlib.Core.Bool.{Bool, false, not, _&&_, cond}
 use mathlib.Core.List.{List, [], _∷_, map}
 use lib.IntN.{ℤ, pos}
 use lib.Dec.{ltb, eqb}

@@ -5,7 +5,7 @@ use mathlib.Core.List.{List, _++_}
 use lib.IntN.{ℤ, pos}
 use lib.ListN.{length, drop}
 use mathlib.Core.Path.{_≡_}
-use Rattle.refusal.specs.Answer.{Answer, given, refused, Place, nowhere, at-place, refuseIf, refuseAt, lowest}
+use Rattle.refusal.specs.Answer.{Answer, given, refused, refuseIf, refuseAt, lowest}
 use lib.Ieee.{Float, fin}
 use Rattle.tap.specs.Rounding.{Coefficient, finite, wholeOf, leftOf, roundedTap}
 use Rattle.tap_set.specs.declared.Report.{Report}

@@ -1,6 +1,6 @@
 -- `normalise::is_usable` meets its contract. Assumes nothing.
 use borrow.Author.Needs.{needs}
-use mathlib.Core.Path.{_≡_, sym, ap, _∙_}
+use mathlib.Core.Path.{sym, ap, _∙_}
 use lib.Ieee.{Float, ne}
 use Rattle.tap.proofs.Value.{zero-is}
 use Rattle.normalise.proofs.Usable.{usable-finite, usable-never}

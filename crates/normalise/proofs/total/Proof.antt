@@ -1,12 +1,12 @@
 -- `normalise::total` meets its contract. The invariant: what is left of the taps, added to the sum so far, is the whole sum. Assumes nothing.
 use borrow.Author.Needs.{needs}
-use mathlib.Core.Path.{_≡_, refl, sym, ap, _∙_}
-use mathlib.Core.List.{List, []}
+use mathlib.Core.Path.{_≡_, sym, ap, _∙_}
+use mathlib.Core.List.{List}
 use Prim.Native.Nat.{ℕ, _+_, _-_, _≤_, _<_}
 use native.Mathlib.Numerals.{add-one}
 use lib.ListN.{length, getD, drop, drop-of-length-le}
 use lib.Seq.{drop-cons}
-use lib.Ieee.{Float, nan, binary64, add, ofBits}
+use lib.Ieee.{Float, nan, binary64, add}
 use Rattle.tap.proofs.Value.{zero-is}
 use Rattle.normalise.specs.Normalised.{sumFrom, sumOf}
 use Rattle.normalise.proofs.total.Statement.{statement}

@@ -1,8 +1,8 @@
 -- `tap::magnitude` meets its contract. Assumes nothing.
-use mathlib.Core.Path.{_≡_, refl, sym, ap, _∙_}
+use mathlib.Core.Path.{sym, ap, _∙_}
 use mathlib.Core.Bool.{true, false}
-use lib.Ieee.{Float, binary64, lt, ofBits}
-use Rattle.tap.proofs.Value.{nought, zero-is}
+use lib.Ieee.{Float, lt}
+use Rattle.tap.proofs.Value.{zero-is}
 use Rattle.tap.proofs.Sign.{magnitude-at}
 use Rattle.tap.proofs.magnitude.Statement.{statement}
 use Rattle.tap.proofs.magnitude.Tie as tie

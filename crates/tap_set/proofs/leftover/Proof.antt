@@ -1,6 +1,6 @@
 -- `tap_set::leftover` meets its contract. Assumes nothing.
 use borrow.Author.Needs.{needs}
-use mathlib.Core.Path.{_≡_, sym, ap, _∙_}
+use mathlib.Core.Path.{sym, ap, _∙_}
 use lib.Ieee.{Float}
 use Rattle.tap.specs.declared.RoundedTap.{RoundedTap}
 use Rattle.tap.specs.Rounding.{answerOf}

@@ -1,6 +1,6 @@
 -- `tap_set::no_sum` meets its contract. Assumes nothing.
 use borrow.Author.Needs.{needs}
-use mathlib.Core.Path.{_≡_, refl, sym, ap}
+use mathlib.Core.Path.{refl, sym, ap}
 use lib.ListN.{length}
 use Rattle.refusal.specs.Answer.{Place, refused, refuseAt}
 use Rattle.tap_set.specs.declared.Report.{Report}

@@ -1,8 +1,7 @@
 -- `tap_set::not_finite` meets its contract. Assumes nothing.
 use mathlib.Core.Path.{sym, ap}
 use mathlib.Core.Bool.{Bool}
-use Rattle.refusal.specs.Answer.{Answer, refused}
-use Rattle.tap_set.specs.declared.Report.{Report}
+use Rattle.refusal.specs.Answer.{refused}
 use Rattle.tap_set.specs.Steps.{finiteRule}
 use Rattle.tap_set.proofs.not_finite.Statement.{statement}
 use Rattle.tap_set.proofs.not_finite.Tie as tie

@@ -6,8 +6,8 @@ use mathlib.Core.Bool.{true, false}
 use Prim.Native.Nat.{ℕ, _+_, _-_, _≤_, _<_}
 use native.Mathlib.Nat.{le-trans, le-of-eq, lt-of-lt-of-le}
 use native.Mathlib.Omega.{arith}
-use lib.IntN.{ℤ, pos}
-use lib.ListN.{length, length-set, take, drop, set, getD}
+use lib.IntN.{ℤ}
+use lib.ListN.{length, length-set, drop, set, getD}
 use lib.Ieee.{Float, nan}
 use mir.Syntax.{w32}
 use mir.Val.{toZ, ofZ}

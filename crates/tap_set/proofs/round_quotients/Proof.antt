@@ -1,21 +1,20 @@
 -- `tap_set::round_quotients` meets its contract. Assumes nothing.
 use borrow.Author.Needs.{needs}
 use borrow.Author.Tests.{not-true, not-false}
-use mathlib.Core.Path.{_≡_, refl, sym, ap, subst, _∙_}
+use mathlib.Core.Path.{_≡_, refl, sym, ap, _∙_}
 use mathlib.Core.Bool.{Bool, true, false, not}
 use mathlib.Core.List.{List, _++_}
-use Prim.Native.Nat.{ℕ, _≤_}
+use Prim.Native.Nat.{ℕ}
 use native.Mathlib.Nat.{le-trans, le-of-eq}
-use native.Mathlib.Omega.{arith}
 use lib.IntN.{ℤ}
-use lib.ListN.{length, take, drop}
+use lib.ListN.{length, take}
 use lib.Seq.{take-at}
 use lib.Ieee.{Float, binary64, div}
 use Rattle.refusal.specs.Answer.{Answer, refused, refuseAt, filled, Place, lowest, nowhere, at-place}
 use Rattle.refusal.proofs.Tables.{length-map}
 use Rattle.tap_set.specs.declared.Report.{Report}
 use Rattle.normalise.specs.Normalised.{sumOf, unusable, quotients}
-use Rattle.tap_set.specs.Set.{answerOf, coefficientsOf}
+use Rattle.tap_set.specs.Set.{coefficientsOf}
 use Rattle.tap_set.specs.Steps.{checked, settled}
 use Rattle.tap_set.proofs.Rounds.{notFinite}
 use Rattle.tap_set.proofs.Settled.{without-sum, with-sum}
