@@ -99,7 +99,11 @@ fn taps_from_a_file() {
 #[test]
 fn no_sheet() {
     let clone = Clone::built("none");
-    for arguments in [&["15", "/no/such/file"][..], &["15", "/dev/null", "x"]] {
+    for arguments in [
+        &["15", "/no/such/file"][..],
+        &["15", "/"],
+        &["15", "/dev/null", "x"],
+    ] {
         let ended = run(clone.command().args(arguments), b"", Delivery::AtOnce);
         assert_eq!((ended.status, ended.out.len()), (Some(2), 0));
         assert!(!ended.errors.is_empty());

@@ -24,7 +24,7 @@ fn listed_form(v: u32, choice: u32) -> Form
 }
 
 // The form of this number in the listing of v. The canonical form is the first, and the others are listed
-// only where one of them is chosen.
+// only where one of them is chosen. Internal.
 pub fn chosen_form(v: u32, choice: u32) -> Form
     requires { ⌜ (v < 2 ^ 31) × (choice < length (listing 32 (pos v))) ⌝ }
     ensures { λ r. ⌜ r ≡ formOf (chosenForm v choice) ⌝ }

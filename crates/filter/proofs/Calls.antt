@@ -38,24 +38,27 @@ module _ (h : List ℤ) (few : length h ≤ 256) (sized : Within w32 h) (r₀ : 
           let u : k < 256 = omega (arith, length-map r (toZ w64), b .size) in
           List·getD-map (toZ w64) r k 0 ∙ register-exact h few sized r₀ clear xs r (b .samples) (b .holds) k u ∙ sym (getD-upTo 256 (registerSum h xs) (pos 0) k u)
 
-  module _ (xs : List ℤ) (r : List ℕ) (b : Between h r₀ xs r) (l : Lending) (room : l .call .registers ≤ 256 + length (l .beyond)) (fit : Within w16 (l .call .samples)) where
+  module _ (xs : List ℤ) (r : List ℕ) (b : Between h r₀ xs r) (l : Lending) (room : l .start + l .call .registers ≤ 256 + length (l .beyond)) (fit : Within w16 (l .call .samples)) where
     abbrev ys : List ℤ
     ys = l .call .samples
 
-    module _ (long : 256 ≤ l .call .registers) where
+    module _ (long : 256 ≤ l .call .registers) (whole : l .start ≡ 0) where
+      fits : l .call .registers ≤ 256 + length (l .beyond)
+      fits = omega (arith, room, whole)
+
       lent-holds : Holds h r₀ xs (lent r l)
-      lent-holds k = held-lent r (l .beyond) (l .call .registers) (b .size) room long k ∙ b .holds k
+      lent-holds k = held-lent r (l .beyond) (b .size) (l .start) (l .call .registers) whole fits long k ∙ b .holds k
 
       abbrev new : List ℕ
       new = registersOf h (lent r l) ys
 
       length-new : length new ≡ l .call .registers
       length-new =
-          let e = length-lent r (l .beyond) (l .call .registers) (b .size) room in
+          let e = length-lent r (l .beyond) (b .size) (l .start) (l .call .registers) room in
           length-registers h (lent r l) ys (omega arith) ∙ e
 
       accepted-first : take 256 (after (given h) r l) ≡ take 256 new
-      accepted-first = registers-new r (l .beyond) (l .call .registers) (b .size) room new long length-new (drop-registers h (lent r l) ys)
+      accepted-first = registers-new r (l .beyond) (b .size) (l .start) (l .call .registers) whole fits new long length-new (drop-registers h (lent r l) ys)
 
       accepted-holds : Holds h r₀ (xs ++ ys) (take 256 (after (given h) r l))
       accepted-holds k = ap (λ t. held t k) accepted-first ∙ held-first new k ∙ holds-after h few r₀ ys xs (lent r l) lent-holds k
@@ -63,33 +66,35 @@ module _ (h : List ℤ) (few : length h ≤ 256) (sized : Within w32 h) (r₀ : 
       accepted-size : length (take 256 (after (given h) r l)) ≡ 256
       accepted-size = ap length accepted-first ∙ length-first new (omega (arith, length-new))
 
-    -- an accepted call lends 256 registers and is handed a network with the coefficients h
+    -- an accepted call lends 256 registers from the first on and is handed a network with the coefficients h
     abbrev Told : Answer (List ℤ) → Type 0
-    Told a = (g : List ℤ) → a ≡ given g → (256 ≤ l .call .registers) × (g ≡ h)
+    Told a = (g : List ℤ) → a ≡ given g → ((256 ≤ l .call .registers) × (l .start ≡ 0)) × (g ≡ h)
 
     -- the memory after a call that was turned down
     refused-memory : (number place : ℕ) → after (refused number place) r l ≡ memory r l
-    refused-memory number place = same-memory r (l .beyond) (l .call .registers) (b .size) room
+    refused-memory number place = same-memory r (l .beyond) (b .size) (l .start) (l .call .registers) room
 
     pub between : (a : Answer (List ℤ)) → Told a → Between h r₀ (stored a (λ (g : List ℤ). xs ++ ys) xs) (take 256 (after a r l))
     between (given g) t =
-        let long = t g refl .0 in
+        let long = t g refl .0 .0 in
+        let whole = t g refl .0 .1 in
         subst (λ (f : List ℤ). Between h r₀ (xs ++ ys) (take 256 (after (given f) r l))) (sym (t g refl .1))
-        (record { size = accepted-size long; samples = within-after ys xs (b .samples) fit; holds = accepted-holds long })
+        (record { size = accepted-size long whole; samples = within-after ys xs (b .samples) fit; holds = accepted-holds long whole })
     between (refused number place) t =
-        subst (Between h r₀ xs) (sym (ap (take 256) (refused-memory number place) ∙ first-256 r (l .beyond) (l .call .registers) (b .size) room)) b
+        subst (Between h r₀ xs) (sym (ap (take 256) (refused-memory number place) ∙ first-256 r (l .beyond) (b .size))) b
 
     pub outputs : (a : Answer (List ℤ)) → Told a
         → runOutputs a ys (lent r l) (l .held) ≡ filled (outcome a) (stored a (λ (g : List ℤ). outputSums h xs ys) []) (l .held)
     outputs (given g) t =
         ap (λ (f : List ℤ). outputsOf f (lent r l) ys ++ drop (length ys) (l .held)) (t g refl .1)
-        ∙ ap₂ (λ (s : List ℤ) (n : ℕ). s ++ drop n (l .held)) (outputs-exact h few sized r₀ clear ys xs (lent r l) (b .samples) fit (lent-holds (t g refl .0)))
+        ∙ ap₂ (λ (s : List ℤ) (n : ℕ). s ++ drop n (l .held)) (outputs-exact h few sized r₀ clear ys xs (lent r l) (b .samples) fit (lent-holds (t g refl .0 .0) (t g refl .0 .1)))
         (sym (length-sums h xs ys))
     outputs (refused number place) t = refl
 
     pub beyond : (a : Answer (List ℤ)) → Told a → drop 256 (after a r l) ≡ l .beyond
     beyond (given g) t =
-        let long = t g refl .0 in
+        let long = t g refl .0 .0 in
+        let whole = t g refl .0 .1 in
         ap (λ (f : List ℤ). drop 256 (after (given f) r l)) (t g refl .1)
-        ∙ beyond-stays r (l .beyond) (l .call .registers) (b .size) room (new long) long (length-new long) (drop-registers h (lent r l) ys)
-    beyond (refused number place) t = ap (drop 256) (refused-memory number place) ∙ past-256 r (l .beyond) (l .call .registers) (b .size) room
+        ∙ beyond-stays r (l .beyond) (b .size) (l .start) (l .call .registers) whole (fits long whole) (new long whole) long (length-new long whole) (drop-registers h (lent r l) ys)
+    beyond (refused number place) t = ap (drop 256) (refused-memory number place) ∙ past-256 r (l .beyond) (b .size)

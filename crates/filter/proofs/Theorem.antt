@@ -59,14 +59,14 @@ module _ (h : List ℤ) (rows : List ℕ) (n : ℕ) (taps : List ℕ) (m : ℕ) 
 
   module _ (xs : List ℤ) (r : List ℕ) (b : Between h (replicate 256 0) xs r) (l : Lending) (f : Fair net l) where
     same : answered r l ≡ tableAnswer (l .call)
-    same = rw (length-lent r (l .beyond) (l .call .registers) (b .size) (f .registers), f .outputs)
+    same = rw (length-lent r (l .beyond) (b .size) (l .start) (l .call .registers) (f .registers), f .outputs)
 
-    told : (g : List ℤ) → tableAnswer (l .call) ≡ given g → (256 ≤ l .call .registers) × (g ≡ h)
+    told : (g : List ℤ) → tableAnswer (l .call) ≡ given g → ((256 ≤ l .call .registers) × (l .start ≡ 0)) × (g ≡ h)
     told g e =
         let c = l .call in
         let short = ltb (c .registers) 256 || ltb (c .outputs) (length (c .samples)) in
         let a = given-accepted short (c .rows) (c .rowCount) (c .taps) (c .tapCount) g e in (
-          ltb-false (c .registers) 256 (or-first (ltb (c .registers) 256) (ltb (c .outputs) (length (c .samples))) (a .others-long)),
+          (ltb-false (c .registers) 256 (or-first (ltb (c .registers) 256) (ltb (c .outputs) (length (c .samples))) (a .others-long)), f .whole g e),
           same-coefficients short false (c .rows) rows (c .rowCount) n (c .taps) taps (c .tapCount) m g h (f .network g e) e built,
         )
 

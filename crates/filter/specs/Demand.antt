@@ -15,10 +15,12 @@ use Rattle.filter.specs.Memory.{Lending, dueAll, foundAll}
 -- a call of the list, where net is the network that was built
 pub record Fair (net : Network) (l : Lending) : Type 0 where
   -- the memory is as long as the call says
-  pub registers : l .call .registers ≤ 256 + length (l .beyond)
+  pub registers : l .start + l .call .registers ≤ 256 + length (l .beyond)
   pub outputs : length (l .held) ≡ l .call .outputs
   -- "whatever 16-bit samples they bring"
   pub samples : Within w16 (l .call .samples)
+  -- "Each call gets the registers that the last one left": the first of them is the first that is lent; a refused call may get any part
+  pub whole : (g : List ℤ) → tableAnswer (l .call) ≡ given g → l .start ≡ 0
   -- "every accepted call is handed the built network and no other"; a refused one may be handed anything
   pub network : (g : List ℤ) → tableAnswer (l .call) ≡ given g → networkIn (l .call) ≡ net
 

@@ -1,6 +1,6 @@
 -- A list of running calls on one set of registers: what is in memory after each, by the contract of `run`. Definitions only.
 use mathlib.Core.List.{List, [], _∷_, _++_, map}
-use Prim.Native.Nat.{ℕ}
+use Prim.Native.Nat.{ℕ, _+_}
 use lib.IntN.{ℤ}
 use lib.ListN.{length, take, drop, replicate}
 use mir.Syntax.{w64}
@@ -10,9 +10,10 @@ use Rattle.network.specs.Check.{outcome}
 use Rattle.filter.specs.Run.{runAnswer, runRegisters, runOutputs}
 use Rattle.filter.specs.Call.{Call, Said}
 
--- a call and the memory that it meets: what lies past the 256 registers, and what the lent outputs hold
+-- a call and the memory that it meets: where the part that is lent starts, what lies past the 256 registers, and what the lent outputs hold
 pub record Lending : Type 0 where
   pub call : Call
+  pub start : ℕ
   pub beyond : List ℕ
   pub held : List ℤ
 
@@ -39,20 +40,20 @@ dueAll (s ∷ ss) (l ∷ ls) = due s l ∷ dueAll ss ls
 abbrev pub memory : List ℕ → Lending → List ℕ
 memory r l = r ++ l .beyond
 
--- the front of it that is lent to the call: the registers, or more; "one refused with 3 may get only a part of them"
+-- the part of it that is lent to the call; "one refused with 3 may get only a part of them"
 abbrev pub lent : List ℕ → Lending → List ℕ
-lent r l = take (l .call .registers) (memory r l)
+lent r l = take (l .call .registers) (drop (l .start) (memory r l))
 
 abbrev pub answered : List ℕ → Lending → Answer (List ℤ)
 answered r l = runAnswer (l .call .rows) (l .call .rowCount) (l .call .taps) (l .call .tapCount) (l .call .samples) (length (lent r l)) (length (l .held))
 
--- a table whose front has become another
-abbrev pub overwritten : List ℕ → List ℕ → List ℕ
-overwritten front table = front ++ drop (length front) table
+-- a table whose part from `start` on has become another
+abbrev pub overwritten : ℕ → List ℕ → List ℕ → List ℕ
+overwritten start part table = take start table ++ (part ++ drop (start + length part) table)
 
 -- the memory after a call that was answered so
 abbrev pub after : Answer (List ℤ) → List ℕ → Lending → List ℕ
-after a r l = overwritten (runRegisters a (l .call .samples) (lent r l)) (memory r l)
+after a r l = overwritten (l .start) (runRegisters a (l .call .samples) (lent r l)) (memory r l)
 
 abbrev pub found : Answer (List ℤ) → List ℕ → Lending → Found
 found a r l =

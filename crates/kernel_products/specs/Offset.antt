@@ -1,4 +1,4 @@
--- Offset binary and four sums at a time, for the contracts of functions that serve the crate `kernel`; document 01 does not speak of them. Definitions only.
+-- Offset binary and four sums at a time, for the contracts of inner functions; document 01 does not speak of them. Definitions only.
 use Prim.Native.Nat.{ℕ, _+_, _*_, _%_}
 use lib.IntN.{ℤ, pos, _+ℤ_, _-ℤ_, _*ℤ_}
 use Rattle.convolution.specs.Words.{wrapped}

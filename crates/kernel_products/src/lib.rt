@@ -1,8 +1,8 @@
 // Registers and products as 64-bit words: one product with its sign, and four at a time in offset
 // binary, where a number is stored with half its range added, so that a product of two is one
 // multiplication without a sign. What the offsets add is not taken off product by product: a sum
-// stays raised by a level and a gain for as long as samples pass. Every function here serves the
-// crate `kernel`.
+// stays raised by a level and a gain for as long as samples pass. All functions here are internal:
+// they serve the crates `kernel_..` and `kernel`.
 ghost use mathlib.Core.Path.{_≡_};
 ghost use Prim.Native.Nat.{_≤_, _+_, _*_, _%_};
 ghost use lib.IntN.{pos, _+ℤ_, _*ℤ_};

@@ -9,7 +9,7 @@ use Rattle.convolution.specs.Running.{next}
 use Rattle.convolution.specs.Sums.{held}
 use Rattle.kernel_products.specs.Offset.{coefficientIn, levelBelow, raisedBy}
 
--- the 256 coefficients that the table c holds in offset binary, from its fourth word on
+-- the 256 coefficients that the table c holds in offset binary, from word 4 on
 unfoldable pub coefficientsIn : List ℕ → List ℤ
 coefficientsIn c = upTo 256 (λ k. coefficientIn (getD c (k + 4) 0))
 

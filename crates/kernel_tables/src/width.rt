@@ -10,7 +10,8 @@ pub fn least(a: usize, b: usize) -> usize
     if a < b { a } else { b }
 }
 
-// From the number returned on, registers and coefficients are 0.
+// From the number returned on, registers and coefficients are 0. Internal: the crate `kernel` brings
+// tables that are long enough.
 pub fn used(h: &[i32; 256], registers: &[u64]) -> usize
     requires { ⌜ (length (now h) ≡ 256) × (256 ≤ length (now registers)) ⌝ }
     ensures { λ r. ⌜ (r ≤ 256) × (Quiet r (now (h .entry)) (now (registers .entry))) ⌝ }

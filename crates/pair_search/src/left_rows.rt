@@ -63,7 +63,7 @@ fn lower_left(
 }
 
 // No left row below the result fits. It is cut short, with 0, where a low left row may fit: then the
-// search itself comes there sooner.
+// search itself comes there sooner. Internal.
 pub fn lowest_left(
     table: &[u32],
     heads: &[u16],

@@ -70,7 +70,7 @@ fn with_sign(
     }
 }
 
-// One left row and shift: the signs in the order +, -, r.
+// One left row and shift: the signs in the order +, -, r. Internal.
 pub fn at_shift(
     table: &[u32],
     heads: &[u16],

@@ -3,7 +3,7 @@ use libc::STDIN_FILENO;
 use libc::STDOUT_FILENO;
 
 fn main() {
-    // Linux passes no argument of 131,072 bytes or more.
+    // On x86-64 Linux passes no argument of 131,072 bytes or more.
     let mut argument = [0u8; 131072];
     let length = os::arg(1, &mut argument);
     let given = os::errno() != libc::EINVAL;

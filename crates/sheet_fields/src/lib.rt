@@ -1,5 +1,5 @@
-// Fields of a line of text, written one after the other into a lent area. Internal: the crate above
-// has room for them.
+// Fields of a line of text, written one after the other into a lent area. Internal: the crates
+// above have room for them.
 ghost use mathlib.Core.List.{_++_, _∷_, []};
 ghost use Prim.Native.Nat.{_+_, _≤_};
 ghost use lib.ListN.{length};
