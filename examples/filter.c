@@ -1,6 +1,6 @@
 /* A filter from taps to outputs: rounding, building, running. In the repository's root:
- *   rt staticlib fir
- *   cc -Icrates/fir/include examples/filter.c target/staticlib/libfir.a -o target/filter_c */
+ *   ./library
+ *   cc -Iinclude examples/filter.c target/staticlib/libfir.a -o target/filter_c */
 #include <inttypes.h>
 #include <stdio.h>
 

@@ -1,5 +1,5 @@
 //! A filter from coefficients to outputs: building, running. In the repository's root:
-//!   rt staticlib fir
+//!   ./library
 //!   rustc -O -L target/staticlib -l static=fir examples/filter.rs -o target/filter_rust
 
 #[rustfmt::skip]

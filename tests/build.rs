@@ -12,7 +12,7 @@ fn main() {
     let archive = folder.join("libfir.a");
     println!("cargo:rerun-if-changed={}", archive.display());
     if !archive.is_file() {
-        eprintln!("no {}: make it with `rt staticlib fir`", archive.display());
+        eprintln!("no {}: make it with `./library`", archive.display());
         exit(1);
     }
     println!("cargo:rustc-link-search=native={}", folder.display());

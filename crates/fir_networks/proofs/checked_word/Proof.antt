@@ -1,0 +1,27 @@
+-- `fir_networks::checked_word` meets its contract. Assumes nothing.
+use borrow.Author.Needs.{needs}
+use mathlib.Core.Path.{sym, ap, _∙_}
+use Rattle.network_check.specs.declared.Checked.{Checked}
+use Rattle.network_check.specs.Checked.{answerOf}
+use Rattle.fir_words.specs.Words.{refusalWord}
+use Rattle.fir_networks.proofs.checked_word.Statement.{statement}
+use Rattle.fir_networks.proofs.checked_word.Tie as tie
+
+enum-told : tie.Need-enum-told
+enum-told c = search needs
+
+enum-known-answer : tie.Need-enum-known-answer
+enum-known-answer c = search needs
+
+refusal-word-requires : tie.Need-refusal-word-requires
+refusal-word-requires c κs = search needs
+
+returns : tie.Need-returns
+returns c = search needs
+
+returns-2 : tie.Need-returns-2
+returns-2 c = c .refusal-word .ensures ∙ ap (λ (a : Checked). refusalWord (answerOf a)) (sym (c .before .before .answer .given .1))
+
+pub checked-word-spec : {M : Type 1} → statement M
+checked-word-spec =
+    tie.close (tie.spec enum-told enum-known-answer refusal-word-requires returns returns-2)

@@ -1,0 +1,49 @@
+-- `fir_reduction::fir_reduce` meets its contract. Assumes nothing.
+use borrow.Author.Needs.{needs}
+use mathlib.Core.Path.{_≡_, refl, sym, ap, _∙_}
+use mathlib.Core.Bool.{Bool, true, false}
+use Prim.Native.Nat.{ℕ}
+use lib.IntN.{ℤ}
+use mir.Syntax.{w32}
+use mir.Val.{boolByte}
+use mir.ValLaws.{toZ-ofZ}
+use Rattle.coefficient.specs.Parts.{Parts, parts, partsOf, partsIn, signIf}
+use Rattle.fir_words.specs.Words.{negativeIn, oddPartIn, shiftIn}
+use Rattle.fir_reduction.proofs.fir_reduce.Statement.{statement}
+use Rattle.fir_reduction.proofs.fir_reduce.Tie as tie
+
+byte-of : (b : Bool) (x i : ℕ) → boolByte b ≡ negativeIn (parts (signIf b) x i)
+byte-of true x i = refl
+byte-of false x i = refl
+
+reduce-requires : tie.Need-reduce-requires
+reduce-requires c κs = search needs
+
+enum-told : tie.Need-enum-told
+enum-told c = search needs
+
+enum-known-reduction : tie.Need-enum-known-reduction
+enum-known-reduction c = search needs
+
+cast-negative : tie.Need-cast-negative
+cast-negative c = search needs
+
+returns : tie.Need-returns
+returns c =
+    let r = c .before .before in
+    let s = r .before in
+    let e = ap partsIn (sym (c .enum-told .given .1)) ∙ r .reduce .ensures ∙ ap partsOf (toZ-ofZ w32 (s .args .n) (s .fits .n)) in
+    (refl, (ap negativeIn e, (ap oddPartIn e, ap shiftIn e)))
+
+returns-2 : tie.Need-returns-2
+returns-2 c =
+    let m = c .before .before in
+    let r = m .before .before in
+    let s = r .before in
+    let e = ap partsIn (sym (m .reduction .given .1)) ∙ r .reduce .ensures ∙ ap partsOf (toZ-ofZ w32 (s .args .n) (s .fits .n)) in
+    (refl, (byte-of (m .reduction .given .0 .0 .negative) (m .reduction .given .0 .0 .«odd_part») (m .reduction .given .0 .0 .shift) ∙ ap negativeIn e, (ap oddPartIn e, ap shiftIn e)))
+
+pub fir-reduce-spec : {M : Type 1} → statement M
+fir-reduce-spec =
+    tie.close
+    (tie.spec reduce-requires enum-told enum-known-reduction cast-negative returns returns-2)

@@ -1,0 +1,26 @@
+-- `fir_taps::fir_round_tap` meets its contract. Assumes nothing.
+use borrow.Author.Needs.{needs}
+use mathlib.Core.Path.{_≡_, ap, _∙_}
+use Rattle.tap.specs.Rounding.{roundedTap}
+use Rattle.fir_words.specs.Words.{tapWord}
+use Rattle.fir_taps.proofs.fir_round_tap.Statement.{statement}
+use Rattle.fir_taps.proofs.fir_round_tap.Tie as tie
+
+of-bits-requires : tie.Need-of-bits-requires
+of-bits-requires c κs = search needs
+
+round-tap-requires : tie.Need-round-tap-requires
+round-tap-requires c κs = search needs
+
+tap-word-requires : tie.Need-tap-word-requires
+tap-word-requires c κs = search needs
+
+returns : tie.Need-returns
+returns c =
+    let r = c .before in
+    let b = r .before in
+    c .tap-word .ensures ∙ ap tapWord (r .round-tap .ensures ∙ ap (roundedTap (b .before .args .fraction-bits)) (b .of-bits .ensures))
+
+pub fir-round-tap-spec : {M : Type 1} → statement M
+fir-round-tap-spec =
+    tie.close (tie.spec of-bits-requires round-tap-requires tap-word-requires returns)

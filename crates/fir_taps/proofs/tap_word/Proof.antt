@@ -1,0 +1,77 @@
+-- `fir_taps::tap_word` meets its contract. Assumes nothing.
+use borrow.Author.Needs.{needs}
+use mathlib.Core.Path.{_≡_, sym, ap, _∙_}
+use Prim.Native.Nat.{ℕ, _*_}
+use lib.IntN.{ℤ}
+use mir.Syntax.{w32}
+use mir.Val.{ofZ}
+use mir.ValLaws.{toZ-ofZ}
+use Rattle.tap.specs.declared.RoundedTap.{RoundedTap}
+use Rattle.tap.specs.Rounding.{answerOf}
+use Rattle.fir_words.specs.Words.{tapWord}
+use Rattle.fir_taps.proofs.tap_word.Statement.{statement}
+use Rattle.fir_taps.proofs.tap_word.Tie as tie
+
+abbrev wordOf : RoundedTap → ℕ
+wordOf t = tapWord (answerOf t)
+
+enum-known-tap : tie.Need-enum-known-tap
+enum-known-tap c = search needs
+
+pattern-requires : tie.Need-pattern-requires
+pattern-requires c κs = search needs
+
+cast-result : tie.Need-cast-result
+cast-result c = search needs
+
+enum-known-tap-2 : tie.Need-enum-known-tap-2
+enum-known-tap-2 c = search needs
+
+pattern-requires-2 : tie.Need-pattern-requires-2
+pattern-requires-2 c κs = search needs
+
+cast-result-2 : tie.Need-cast-result-2
+cast-result-2 c = search needs
+
+enum-known-tap-3 : tie.Need-enum-known-tap-3
+enum-known-tap-3 c = search needs
+
+number-requires : tie.Need-number-requires
+number-requires c κs = search needs
+
+cast-result-3 : tie.Need-cast-result-3
+cast-result-3 c = search needs
+
+mul-result : tie.Need-mul-result
+mul-result c = search needs
+
+returns : tie.Need-returns
+returns c =
+    let g = c .before .before .tap .given in
+    c .pattern .ensures ∙ ap (ofZ w32) (toZ-ofZ w32 (g .0 .0) (record { sfits = c .before .known-told .given .0 .1 })) ∙ ap wordOf (sym (g .1))
+
+returns-2 : tie.Need-returns-2
+returns-2 c =
+    let g = c .before .before .tap2 .given in
+    c .pattern2 .ensures ∙ ap (ofZ w32) (toZ-ofZ w32 (g .0 .0) (record { sfits = c .before .known-told2 .given .0 .1 })) ∙ ap wordOf (sym (g .1))
+
+returns-3 : tie.Need-returns-3
+returns-3 c = ap (λ (n : ℕ). n * 4294967296) (c .number .ensures) ∙ ap wordOf (sym (c .before .before .tap3 .given .1))
+
+pub tap-word-spec : {M : Type 1} → statement M
+tap-word-spec =
+    tie.close
+    (tie.spec
+    enum-known-tap
+    pattern-requires
+    cast-result
+    enum-known-tap-2
+    pattern-requires-2
+    cast-result-2
+    enum-known-tap-3
+    number-requires
+    cast-result-3
+    mul-result
+    returns
+    returns-2
+    returns-3)
