@@ -1,6 +1,6 @@
 -- `fir_forms::fir_form_weight` meets its contract. Assumes nothing.
 use borrow.Author.Needs.{needs}
-use mathlib.Core.Path.{_≡_, sym, ap, _∙_}
+use mathlib.Core.Path.{sym, ap, _∙_}
 use Prim.Native.Nat.{ℕ}
 use Rattle.refusal.specs.Answer.{Answer, stored}
 use Rattle.form_masks.specs.Weight.{answerOf}

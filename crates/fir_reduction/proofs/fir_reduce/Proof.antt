@@ -3,11 +3,10 @@ use borrow.Author.Needs.{needs}
 use mathlib.Core.Path.{_≡_, refl, sym, ap, _∙_}
 use mathlib.Core.Bool.{Bool, true, false}
 use Prim.Native.Nat.{ℕ}
-use lib.IntN.{ℤ}
 use mir.Syntax.{w32}
 use mir.Val.{boolByte}
 use mir.ValLaws.{toZ-ofZ}
-use Rattle.coefficient.specs.Parts.{Parts, parts, partsOf, partsIn, signIf}
+use Rattle.coefficient.specs.Parts.{parts, partsOf, partsIn, signIf}
 use Rattle.fir_words.specs.Words.{negativeIn, oddPartIn, shiftIn}
 use Rattle.fir_reduction.proofs.fir_reduce.Statement.{statement}
 use Rattle.fir_reduction.proofs.fir_reduce.Tie as tie

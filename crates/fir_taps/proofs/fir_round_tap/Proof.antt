@@ -1,6 +1,6 @@
 -- `fir_taps::fir_round_tap` meets its contract. Assumes nothing.
 use borrow.Author.Needs.{needs}
-use mathlib.Core.Path.{_≡_, ap, _∙_}
+use mathlib.Core.Path.{ap, _∙_}
 use Rattle.tap.specs.Rounding.{roundedTap}
 use Rattle.fir_words.specs.Words.{tapWord}
 use Rattle.fir_taps.proofs.fir_round_tap.Statement.{statement}

@@ -1,12 +1,11 @@
 -- `fir_taps::fir_round_taps` meets its contract. Assumes nothing.
 use borrow.Author.Needs.{needs}
-use mathlib.Core.Path.{_≡_, sym, ap, _∙_}
+use mathlib.Core.Path.{sym, ap, _∙_}
 use lib.Ieee.{Float}
-use lib.ListN.{length}
 use Rattle.refusal.specs.Answer.{Answer, stored}
 use Rattle.tap_set.specs.declared.Report.{Report}
-use Rattle.tap_set.specs.Set.{answerOf, roundedTaps}
-use Rattle.fir_words.specs.Words.{refusalWord, isSet}
+use Rattle.tap_set.specs.Set.{answerOf}
+use Rattle.fir_words.specs.Words.{refusalWord}
 use Rattle.fir_taps.proofs.fir_round_taps.Statement.{statement}
 use Rattle.fir_taps.proofs.fir_round_taps.Tie as tie
 
