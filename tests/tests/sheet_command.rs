@@ -57,7 +57,7 @@ fn refusals_in_words() {
     refused(
         clone,
         &Input::new(&[], "15"),
-        "there is no whole tap of 8 bytes",
+        "there is no whole tap of 8 bytes; usage: sheet [F] [FILE]",
     );
     refused(
         clone,
