@@ -3,15 +3,12 @@ use mathlib.Core.Path.{_≡_, refl, sym, ap, subst, _∙_}
 use mathlib.Core.List.{List, [], _∷_, _++_}
 use Prim.Native.Nat.{ℕ, suc, _+_, _<_, _≤_}
 use native.Mathlib.Nat.{zero-add}
-use native.Mathlib.Numerals.{add-one}
 use native.Mathlib.Omega.{arith}
 use lib.IntN.{ℤ, pos, _+ℤ_, _*ℤ_}
-use lib.ListN.{length, getD, drop, set, drop-of-length-le}
+use lib.ListN.{length, getD, drop}
 use lib.Seq.{drop-cons, sets, sets-eq}
-use mir.Syntax.{w64}
-use mir.Val.{toZ}
 use Rattle.sequence.specs.UpTo.{front}
-use Rattle.convolution.specs.Running.{sumAt, next, outputsOf, registersOf}
+use Rattle.convolution.specs.Running.{next, outputsOf, registersOf}
 use Rattle.convolution.specs.Sums.{held}
 use Rattle.convolution.specs.Bounds.{Words}
 use Rattle.convolution.proofs.Words.{wrapped-lt}
@@ -21,18 +18,6 @@ use Rattle.kernel_tables.specs.Quiet.{Quiet}
 use Rattle.kernel_tables.proofs.Quiets.{quiet-four}
 use Rattle.kernel_moves.proofs.Moves.{moved-all}
 use Rattle.kernel.specs.Passed.{Passed}
-
--- ---- one sample
-
-module _ (h xs : List ℤ) (r : List ℕ) (i : ℕ) (l : i < length xs) (new : List ℕ) (e : new ≡ next h (getD xs i (pos 0)) r) where
-  pub one-registers : registersOf h new (drop (i + 1) xs) ≡ registersOf h r (drop i xs)
-  unfolding registersOf
-  one-registers = rw (add-one i, drop-cons xs i (pos 0) l, e)
-
-  pub one-outputs : (outs : List ℤ) (v : ℤ) → v ≡ toZ w64 (sumAt h (getD xs i (pos 0)) r 0)
-      → sets (set outs i v) (i + 1) (outputsOf h new (drop (i + 1) xs)) ≡ sets outs i (outputsOf h r (drop i xs))
-  unfolding outputsOf
-  one-outputs outs v q = rw (add-one i, drop-cons xs i (pos 0) l, e, q)
 
 -- ---- four samples
 
@@ -131,16 +116,6 @@ module _ {h : List ℤ} {w : ℕ} {v r : List ℕ} {xs outs : List ℤ} {i gain 
 
   pub passed-outputs : sets news i (outputsOf h new (drop i xs)) ≡ sets outs 0 (outputsOf h r xs)
   passed-outputs = ap (λ s. sets news i (outputsOf h s (drop i xs))) e ∙ p .outputs
-
--- ---- the end of the samples
-
-pub end-registers : (h xs : List ℤ) (r : List ℕ) (i : ℕ) → length xs ≤ i → registersOf h r (drop i xs) ≡ r
-unfolding registersOf
-end-registers h xs r i l = rw (drop-of-length-le xs l)
-
-pub end-outputs : (h xs : List ℤ) (r : List ℕ) (i : ℕ) (outs : List ℤ) → length xs ≤ i → sets outs i (outputsOf h r (drop i xs)) ≡ outs
-unfolding outputsOf
-end-outputs h xs r i outs l = rw (drop-of-length-le xs l)
 
 pub all-outputs : (h xs : List ℤ) (r : List ℕ) (outs : List ℤ) → length xs ≤ length outs
     → sets outs 0 (outputsOf h r xs) ≡ outputsOf h r xs ++ drop (length xs) outs

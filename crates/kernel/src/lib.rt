@@ -6,26 +6,11 @@ ghost use mathlib.Core.List.{List, _++_};
 ghost use Prim.Native.Nat.{ℕ, _≤_};
 ghost use lib.ListN.{length, drop};
 ghost use lib.Seq.{sets};
-ghost use Rattle.convolution.specs.Running.{next, outputsOf, registersOf};
+ghost use Rattle.convolution.specs.Running.{outputsOf, registersOf};
 ghost use Rattle.kernel_tables.specs.Tables.{coefficientsIn, Padded, Levelled, Raised};
 ghost use Rattle.kernel_tables.specs.Quiet.{Quiet};
 ghost use Rattle.kernel.specs.Passed.{fourfold, Passed};
-use kernel_products::signed;
-use kernel_products::sum;
-
-// The registers after one sample; those from w on are 0 and stay so.
-fn move_one(h: &[i32; 256], x: i16, w: usize, registers: &mut [u64])
-    requires { ⌜ (length (now h) ≡ 256) × ((256 ≤ length (now registers)) × (Quiet w (now h) (now registers))) ⌝ }
-    ensures { λ _. ⌜ now (registers .exit) ≡ next (now (h .entry)) x (now (registers .entry)) ⌝ }
-{
-    let n = kernel_tables::least(w, 255);
-    let mut k: usize = 0;
-    while k < n {
-        registers[k] = sum(registers[k + 1], h[k + 1], x);
-        k += 1;
-    }
-    registers[255] = 0;
-}
+use kernel_singly::singly;
 
 // The samples four by four, as far as that goes; returns the gain after them.
 fn fours(
@@ -58,35 +43,13 @@ fn by_fours(h: &[i32; 256], w: usize, samples: &[i16], registers: &mut [u64], ou
     ensures { λ _. ⌜ sets (now (outputs .exit)) (fourfold (length (now (samples .entry)))) (outputsOf (now (h .entry)) (now (registers .exit)) (drop (fourfold (length (now (samples .entry)))) (now (samples .entry)))) ≡ sets (now (outputs .entry)) 0 (outputsOf (now (h .entry)) (now (registers .entry)) (now (samples .entry))) ⌝ }
 {
     let mut c = [2147483648u64; 264];
-    kernel_tables::offset_all(h, &mut c);
+    kernel_tables::offset_all(h, w, &mut c);
     let mut v = [0u64; 265];
-    kernel_tables::levels(&c, &mut v);
+    kernel_tables::levels(&c, w, &mut v);
     let mut words = [0u64; 260];
     kernel_moves::raise(&v, w, registers, &mut words);
     let gain = fours(&c, &v, w, samples, &mut words, outputs);
     kernel_moves::lower(&v, w, gain, &words, registers);
-}
-
-// The samples from the one at start, one by one.
-fn singly(
-    h: &[i32; 256],
-    w: usize,
-    samples: &[i16],
-    start: usize,
-    registers: &mut [u64],
-    outputs: &mut [i64],
-)
-    requires { ⌜ ((length (now h) ≡ 256) × ((start ≤ length (now samples)) × ((256 ≤ length (now registers)) × (length (now samples) ≤ length (now outputs))))) × (Quiet w (now h) (now registers)) ⌝ }
-    ensures { λ _. ⌜ now (registers .exit) ≡ registersOf (now (h .entry)) (now (registers .entry)) (drop start (now (samples .entry))) ⌝ }
-    ensures { λ _. ⌜ now (outputs .exit) ≡ sets (now (outputs .entry)) start (outputsOf (now (h .entry)) (now (registers .entry)) (drop start (now (samples .entry)))) ⌝ }
-{
-    let mut i = start;
-    while i < samples.len() {
-        let x = samples[i];
-        outputs[i] = signed(sum(registers[0], h[0], x));
-        move_one(h, x, w, registers);
-        i += 1;
-    }
 }
 
 // The outputs for the samples, and the registers after them. Tables are not made for fewer than

@@ -1,23 +1,30 @@
 -- A table of levels, filled from its end. Assumes nothing.
-use mathlib.Core.Path.{_≡_, refl, sym, ap, subst, _∙_}
+use mathlib.Core.Path.{_≡_, refl, sym, ap, ap₂, subst, _∙_}
 use mathlib.Core.Bool.{Bool, true, false}
 use mathlib.Core.List.{List}
 use Prim.Native.Nat.{ℕ, _+_, _<_, _≤_}
 use native.Mathlib.Omega.{arith}
 use borrow.Author.Tests.{ltb-true, ltb-false}
 use lib.Dec.{ltb}
-use lib.ListN.{length, getD, set, length-set}
+use lib.ListN.{length, getD, set, replicate, length-set, length-replicate, getD-replicate}
 use lib.Seq.{getD-set-same, getD-set-other}
 use Rattle.kernel_products.specs.Offset.{levelBelow}
-use Rattle.kernel_tables.specs.Tables.{Levelled}
+use Rattle.kernel_tables.specs.Tables.{Blank, Levelled}
 
 -- from place j on, v holds the levels
 pub record From (c v : List ℕ) (j : ℕ) : Type 0 where
   pub size : length v ≡ 265
   pub is : (i : ℕ) → j ≤ i → i < 264 → getD v i 0 ≡ levelBelow (getD v (i + 1) 0) (getD c i 0)
 
-pub from-end : (c v : List ℕ) → length v ≡ 265 → From c v 264
-from-end c v e = record { size = e; is = λ i a b. absurd (omega arith) }
+-- past the places in use the levels are 0
+pub from-end : (w : ℕ) (c v : List ℕ) → v ≡ replicate 265 0 → Blank w c → From c v (w + 4)
+from-end w c v e q = record { size = ap length e ∙ length-replicate {A = ℕ} 265 0; is = is }
+  where
+    zero-at : (i : ℕ) → i < 265 → getD v i 0 ≡ 0
+    zero-at i l = ap (λ t. getD t i 0) e ∙ getD-replicate 265 i 0 0 l
+
+    is : (i : ℕ) → w + 4 ≤ i → i < 264 → getD v i 0 ≡ levelBelow (getD v (i + 1) 0) (getD c i 0)
+    is i a b = zero-at i (omega arith) ∙ sym (ap₂ levelBelow (zero-at (i + 1) (omega arith)) (q i a b))
 
 module _ (c v : List ℕ) (k n : ℕ) (l : k < 264) (f : From c v (k + 1)) (e : n ≡ levelBelow (getD v (k + 1) 0) (getD c k 0)) where
   other : (i : ℕ) → k < i → getD (set v k n) i 0 ≡ getD v i 0

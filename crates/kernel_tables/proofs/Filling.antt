@@ -3,7 +3,7 @@ use mathlib.Core.Path.{_≡_, refl, sym, ap, _∙_, subst}
 use mathlib.Core.Logic.{_≢_}
 use mathlib.Core.Bool.{Bool, true, false}
 use mathlib.Core.List.{List}
-use Prim.Native.Nat.{ℕ, _+_, _<_, _≤_}
+use Prim.Native.Nat.{ℕ, _+_, _-_, _<_, _≤_}
 use native.Mathlib.Omega.{arith}
 use borrow.Author.Tests.{ltb-true, ltb-false}
 use lib.Dec.{ltb}
@@ -13,7 +13,7 @@ use lib.Seq.{getD-set-same, getD-set-other, ext-getD}
 use Rattle.sequence.specs.UpTo.{upTo}
 use Rattle.sequence.proofs.UpTo.{length-upTo, getD-upTo}
 use Rattle.kernel_products.specs.Offset.{coefficientIn}
-use Rattle.kernel_tables.specs.Tables.{coefficientsIn, Padded}
+use Rattle.kernel_tables.specs.Tables.{coefficientsIn, Padded, Blank}
 
 -- c holds the first k coefficients, and 0 at every other place
 pub record Filled (h : List ℤ) (c : List ℕ) (k : ℕ) : Type 0 where
@@ -55,13 +55,24 @@ module _ (h : List ℤ) (c : List ℕ) (k v : ℕ) (l : k < 256) (f : Filled h c
         rest = λ j a b. other (j + 4) (λ p. omega (arith, p)) ∙ f .rest j (omega arith) b;
       }
 
-pub filled-padded : (h : List ℤ) (c : List ℕ) → Filled h c 256 → Padded c
-filled-padded h c f = record { low = λ k l. ap coefficientIn (f .low k l); high = λ k a b. ap coefficientIn (f .rest k a b) }
+-- the coefficients that are not filled in are 0
+module _ (h : List ℤ) (c : List ℕ) (w : ℕ) (b : w ≤ 256) (n : length h ≡ 256) (q : (k : ℕ) → w ≤ k → getD h k (pos 0) ≡ pos 0) (f : Filled h c w) where
+  pub filled-padded : Padded c
+  filled-padded = record { low = λ k l. ap coefficientIn (f .low k l); high = λ k a m. ap coefficientIn (f .rest k (omega arith) m) }
 
-pub filled-all : (h : List ℤ) (c : List ℕ) → length h ≡ 256 → Filled h c 256 → coefficientsIn c ≡ h
-unfolding coefficientsIn
-filled-all h c n f =
-    ext-getD (pos 0) (upTo 256 g) h (length-upTo 256 g ∙ sym n) (λ k l. let u : k < 256 = omega (arith, length-upTo 256 g) in getD-upTo 256 g (pos 0) k u ∙ f .done k u)
-  where
-    g : ℕ → ℤ
-    g k = coefficientIn (getD c (k + 4) 0)
+  pub filled-blank : Blank w c
+  filled-blank j l m = let e : j - 4 + 4 ≡ j = omega arith in subst (λ i. getD c i 0 ≡ 2147483648) e (f .rest (j - 4) (omega arith) (omega arith))
+
+  at-by : (k : ℕ) → k < 256 → (t : Bool) → ltb k w ≡ t → coefficientIn (getD c (k + 4) 0) ≡ getD h k (pos 0)
+  at-by k l true e = f .done k (ltb-true k w e)
+  at-by k l false e =
+      let m : w ≤ k = ltb-false k w e in
+      ap coefficientIn (f .rest k m (omega arith)) ∙ sym (q k m)
+
+  pub filled-all : coefficientsIn c ≡ h
+  unfolding coefficientsIn
+  filled-all =
+      ext-getD (pos 0) (upTo 256 g) h (length-upTo 256 g ∙ sym n) (λ k l. let u : k < 256 = omega (arith, length-upTo 256 g) in getD-upTo 256 g (pos 0) k u ∙ at-by k u (ltb k w) refl)
+    where
+      g : ℕ → ℤ
+      g k = coefficientIn (getD c (k + 4) 0)

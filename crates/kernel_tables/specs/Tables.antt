@@ -18,6 +18,10 @@ pub record Padded (c : List ℕ) : Type 0 where
   pub low : (k : ℕ) → k < 4 → coefficientIn (getD c k 0) ≡ pos 0
   pub high : (k : ℕ) → 256 ≤ k → k < 260 → coefficientIn (getD c (k + 4) 0) ≡ pos 0
 
+-- past the first w coefficients the table c holds 0
+abbrev pub Blank : ℕ → List ℕ → Type 0
+Blank w c = (j : ℕ) → w + 4 ≤ j → j < 264 → getD c j 0 ≡ 2147483648
+
 -- v holds the levels of the coefficients in c; whatever stands at its end
 pub record Levelled (c v : List ℕ) : Type 0 where
   pub is : (j : ℕ) → j < 264 → getD v j 0 ≡ levelBelow (getD v (j + 1) 0) (getD c j 0)

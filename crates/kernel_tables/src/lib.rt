@@ -2,8 +2,10 @@
 // them, and the levels. All functions here are internal: they serve the crates `kernel_passes` and
 // `kernel`.
 ghost use mathlib.Core.Path.{_≡_};
-ghost use lib.ListN.{length, replicate};
-ghost use Rattle.kernel_tables.specs.Tables.{coefficientsIn, Padded, Levelled};
+ghost use Prim.Native.Nat.{ℕ, _≤_};
+ghost use lib.IntN.{pos};
+ghost use lib.ListN.{length, getD, replicate};
+ghost use Rattle.kernel_tables.specs.Tables.{coefficientsIn, Padded, Blank, Levelled};
 
 mod width;
 
@@ -12,24 +14,24 @@ use kernel_products::offset_coefficient;
 pub use width::least;
 pub use width::used;
 
-// Fills a table that holds zeros in offset binary.
-pub fn offset_all(h: &[i32; 256], c: &mut [u64; 264])
-    requires { ⌜ (length (now h) ≡ 256) × (now c ≡ replicate 264 2147483648) ⌝ }
-    ensures { λ _. ⌜ (Padded (now (c .exit))) × (coefficientsIn (now (c .exit)) ≡ now (h .entry)) ⌝ }
+// Fills a table that holds zeros in offset binary; from w on, coefficients are 0.
+pub fn offset_all(h: &[i32; 256], w: usize, c: &mut [u64; 264])
+    requires { ⌜ ((length (now h) ≡ 256) × (w ≤ 256)) × ((now c ≡ replicate 264 2147483648) × ((k : ℕ) → w ≤ k → getD (now h) k (pos 0) ≡ pos 0)) ⌝ }
+    ensures { λ _. ⌜ (Padded (now (c .exit))) × ((coefficientsIn (now (c .exit)) ≡ now (h .entry)) × (Blank w (now (c .exit)))) ⌝ }
 {
     let mut k: usize = 0;
-    while k < 256 {
+    while k < w {
         c[k + 4] = offset_coefficient(h[k]);
         k += 1;
     }
 }
 
-// The levels, from the last place to the first.
-pub fn levels(c: &[u64; 264], v: &mut [u64; 265])
-    requires { ⌜ length (now v) ≡ 265 ⌝ }
+// Fills a table of zeros with the levels, from the last place in use to the first.
+pub fn levels(c: &[u64; 264], w: usize, v: &mut [u64; 265])
+    requires { ⌜ (w ≤ 256) × ((now v ≡ replicate 265 0) × (Blank w (now c))) ⌝ }
     ensures { λ _. ⌜ Levelled (now (c .entry)) (now (v .exit)) ⌝ }
 {
-    let mut j: usize = 264;
+    let mut j = w + 4;
     while j > 0 {
         j -= 1;
         v[j] = level_below(v[j + 1], c[j]);

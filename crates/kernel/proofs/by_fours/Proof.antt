@@ -8,7 +8,9 @@ use Rattle.kernel.proofs.by_fours.Statement.{statement}
 use Rattle.kernel.proofs.by_fours.Tie as tie
 
 offset-all-requires : tie.Need-offset-all-requires
-offset-all-requires c κs = search needs
+offset-all-requires c κs =
+    let st = c .before .before in
+    ((st .pre .0 .0, st .pre .1 .1 .0), (search needs, λ k l. st .pre .1 .1 .1 k l .1))
 
 levels-requires : tie.Need-levels-requires
 levels-requires c κs = search needs
@@ -42,8 +44,8 @@ returns c =
     let st = oa .before .before .before in
     let a = st .args in
     let r = a .registers .now in
-    let quiet = subst (λ g. Quiet (a .w) g r) (sym (oa .offset-all .ensures .1)) (st .pre .1 .1 .1) in
-    let p = passed-same (oa .offset-all .ensures .1) (fo .fours .ensures r (st .pre .0 .1 .0) quiet (ra .raise .ensures .1)) in
+    let quiet = subst (λ g. Quiet (a .w) g r) (sym (oa .offset-all .ensures .1 .0)) (st .pre .1 .1 .1) in
+    let p = passed-same (oa .offset-all .ensures .1 .0) (fo .fours .ensures r (st .pre .0 .1 .0) quiet (ra .raise .ensures .1)) in
     let e = lowered-to (st .pre .0 .0) (st .pre .0 .1 .0) (st .pre .1 .1 .0) (omega (arith, st .pre .1 .0)) (st .pre .1 .1 .1) p _ (lo .lower .ensures) in
     (passed-quiet p e, (passed-registers p e, passed-outputs p e))
 

@@ -8,13 +8,16 @@ use Rattle.kernel_tables.proofs.levels.Statement.{statement}
 use Rattle.kernel_tables.proofs.levels.Tie as tie
 
 abbrev Inv-loop : tie.InvT-loop
-Inv-loop c v₀ j₀ v j = (j ≤ 264) × (From c v j)
+Inv-loop c w v₀ j₀ v j = (j ≤ 260) × (From c v j)
 
 abbrev μ-loop : tie.MeasureT-loop
-μ-loop c v₀ j₀ v j = j
+μ-loop c w v₀ j₀ v j = j
+
+add-j : tie.Need-add-j Inv-loop μ-loop
+add-j c = search needs
 
 loop-holds : tie.Need-loop-holds Inv-loop μ-loop
-loop-holds c = (search needs, from-end _ _ (c .pre))
+loop-holds c = (search needs, from-end _ _ _ (c .pre .1 .0) (c .pre .1 .1))
 
 sub-j : tie.Need-sub-j Inv-loop μ-loop
 sub-j c = search needs
@@ -67,6 +70,7 @@ levels-spec =
     (tie.spec
     Inv-loop
     μ-loop
+    add-j
     loop-holds
     sub-j
     add-level-below

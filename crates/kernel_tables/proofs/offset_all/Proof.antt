@@ -7,18 +7,18 @@ use borrow.Author.Needs.{needs}
 use lib.IntN.{pos}
 use mir.Syntax.{w32}
 use mir.ValLaws.{toZ-ofZ}
-use Rattle.kernel_tables.proofs.Filling.{Filled, filled-start, filled-next, filled-padded, filled-all}
+use Rattle.kernel_tables.proofs.Filling.{Filled, filled-start, filled-next, filled-padded, filled-blank, filled-all}
 use Rattle.kernel_tables.proofs.offset_all.Statement.{statement}
 use Rattle.kernel_tables.proofs.offset_all.Tie as tie
 
 abbrev Inv-loop : tie.InvT-loop
-Inv-loop h c₀ k₀ c k = (k ≤ 256) × (Filled h c k)
+Inv-loop h w c₀ k₀ c k = (k ≤ w) × (Filled h c k)
 
 abbrev μ-loop : tie.MeasureT-loop
-μ-loop h c₀ k₀ c k = 256 - k
+μ-loop h w c₀ k₀ c k = w - k
 
 loop-holds : tie.Need-loop-holds Inv-loop μ-loop
-loop-holds c = (search needs, filled-start _ _ (c .pre .1))
+loop-holds c = (search needs, filled-start _ _ (c .pre .1 .0))
 
 mul-offset-coefficient : tie.Need-mul-offset-coefficient Inv-loop μ-loop
 mul-offset-coefficient c = search needs
@@ -56,9 +56,13 @@ returns : tie.Need-returns Inv-loop μ-loop
 returns c =
     let at = c .before in
     let h = at .before .args .h .now in
-    let e : at .loop .k ≡ 256 = omega arith in
-    let f : Filled h (at .loop .c) 256 = subst (Filled h (at .loop .c)) e (at .loop .inv .1) in
-    (filled-padded h _ f, filled-all h _ (at .before .pre .0) f)
+    let st = at .before in
+    let w = st .args .w in
+    let e : at .loop .k ≡ w = omega (arith, at .loop .inv .0, c .loop-test .left) in
+    let f : Filled h (at .loop .c) w = subst (Filled h (at .loop .c)) e (at .loop .inv .1) in (
+      filled-padded h _ w (st .pre .0 .1) (st .pre .0 .0) (st .pre .1 .1) f,
+      (filled-all h _ w (st .pre .0 .1) (st .pre .0 .0) (st .pre .1 .1) f, filled-blank h _ w (st .pre .0 .1) (st .pre .0 .0) (st .pre .1 .1) f),
+    )
 
 pub offset-all-spec : {M : Type 1} → statement M
 offset-all-spec =

@@ -1,4 +1,4 @@
--- `kernel::singly` meets its contract. Assumes nothing.
+-- `kernel_singly::singly` meets its contract. Assumes nothing.
 use Prim.Native.Nat.{_≤_, _-_, _<_}
 use mathlib.Core.Path.{_≡_, refl, sym, ap, subst, _∙_}
 use native.Mathlib.Omega.{arith}
@@ -14,9 +14,9 @@ use Rattle.convolution.specs.Words.{wrapped}
 use Rattle.convolution.specs.Running.{sumAt, next, registersOf, outputsOf}
 use Rattle.kernel_tables.specs.Quiet.{Quiet}
 use Rattle.kernel_tables.proofs.Quiets.{quiet-next}
-use Rattle.kernel.proofs.Passes.{one-registers, one-outputs, end-registers, end-outputs}
-use Rattle.kernel.proofs.singly.Statement.{statement}
-use Rattle.kernel.proofs.singly.Tie as tie
+use Rattle.kernel_singly.proofs.Single.{one-registers, one-outputs, end-registers, end-outputs}
+use Rattle.kernel_singly.proofs.singly.Statement.{statement}
+use Rattle.kernel_singly.proofs.singly.Tie as tie
 
 abbrev Inv-loop : tie.InvT-loop
 Inv-loop h w samples start registers₀ outputs₀ i₀ registers outputs i =

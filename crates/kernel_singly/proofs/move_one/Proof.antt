@@ -1,4 +1,4 @@
--- `kernel::move_one` meets its contract. Assumes nothing.
+-- `kernel_singly::move_one` meets its contract. Assumes nothing.
 use Prim.Native.Nat.{_≤_, _-_, _+_, _<_}
 use mathlib.Core.Path.{_≡_, refl, sym, ap, _∙_}
 use native.Mathlib.Omega.{arith}
@@ -18,8 +18,8 @@ use Rattle.convolution.specs.Running.{next}
 use Rattle.convolution.specs.Sums.{held}
 use Rattle.convolution.proofs.Steps.{held-low, held-next}
 use Rattle.kernel_moves.proofs.Moves.{moved-one}
-use Rattle.kernel.proofs.move_one.Statement.{statement}
-use Rattle.kernel.proofs.move_one.Tie as tie
+use Rattle.kernel_singly.proofs.move_one.Statement.{statement}
+use Rattle.kernel_singly.proofs.move_one.Tie as tie
 
 abbrev Inv-loop : tie.InvT-loop
 Inv-loop h x w registers₀ n k₀ registers k =
