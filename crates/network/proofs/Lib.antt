@@ -7,5 +7,4 @@ pub mod Figures
 -- What they and the proofs of the functions rest on:
 pub mod Booleans
 pub mod RowTests
-pub mod TapTests
 pub mod Multiples

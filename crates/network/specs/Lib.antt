@@ -4,4 +4,3 @@ pub mod Coefficients
 pub mod TapRowRule
 pub mod Check
 pub mod Evaluation
-pub mod Products

@@ -1,15 +1,9 @@
-// The rows and tap rows of a network, as tables of words hold them, and the rules that they keep.
-mod row_rule;
-mod tap_row_rule;
-
-pub use row_rule::keeps_row_rule;
-pub use tap_row_rule::TapProduct;
-pub use tap_row_rule::tap_product;
+// The rows and tap rows of a network, as tables of words hold them. The rules that they keep are
+// definitions and theorems here; the crate `network_rules` has the code.
 ghost use mathlib.Core.Path.{_≡_};
-ghost use Prim.Native.Nat.{_+_, _*_, _^_, _≤_};
+ghost use Prim.Native.Nat.{_+_, _*_, _≤_};
 ghost use lib.ListN.{length};
 ghost use Rattle.network.specs.Rows.{rowWords, tapWords, rowAt, tapRowAt};
-ghost use Rattle.network.specs.RowRule.{lifted};
 
 // The words of a row and of a tap row.
 const ROW_WORDS: usize = 5;
@@ -23,7 +17,7 @@ pub const MINUS: u32 = 45;
 
 pub const REVERSED: u32 = 114;
 
-const NONE: u32 = 0;
+pub const NONE: u32 = 0;
 
 // Its value is worked out from the values of the rows left and right.
 pub struct Row {
@@ -74,24 +68,4 @@ pub fn read_tap_row(taps: &[u32], j: usize) -> TapRow
         row: taps[at + 1],
         shift: taps[at + 2],
     }
-}
-
-fn number(x: u32) -> usize
-    ensures { λ r. ⌜ r ≡ x ⌝ }
-{
-    x as usize
-}
-
-fn wide(x: u32) -> u64
-    ensures { λ r. ⌜ r ≡ x ⌝ }
-{
-    x as u64
-}
-
-// 2^s times a value.
-fn lift(s: u32, value: u32) -> u64
-    requires { ⌜ s ≤ 31 ⌝ }
-    ensures { λ r. ⌜ (r ≡ lifted s value) × (r ≤ 2 ^ 63) ⌝ }
-{
-    wide(value) << s
 }

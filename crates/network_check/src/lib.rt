@@ -12,7 +12,7 @@ ghost use Rattle.network.specs.Coefficients as Coefficients;
 ghost use Rattle.network.specs.Check.{breaksRowRule, breaksTapRowRule, numbers, checked, networkAnswer, outcome};
 ghost use Rattle.network_check.specs.Checked.{answerOf};
 ghost use Rattle.network_check.specs.Steps.{isGiven, Holds};
-use network::TapProduct;
+use network_rules::TapProduct;
 use refusal::Refusal;
 
 pub enum Checked {
@@ -37,7 +37,7 @@ fn first_broken_row(rows: &[u32], n: usize) -> usize
 {
     let mut i: usize = 0;
     while i < n {
-        if !network::keeps_row_rule(rows, i) {
+        if !network_rules::keeps_row_rule(rows, i) {
             return i;
         }
         i += 1;
@@ -54,7 +54,7 @@ fn fill(rows: &[u32], n: usize, taps: &[u32], m: usize, buffer: &mut [i32; 256])
 {
     let mut j: usize = 0;
     while j < m {
-        let TapProduct::Coefficient(c) = network::tap_product(rows, n, taps, j) else {
+        let TapProduct::Coefficient(c) = network_rules::tap_product(rows, n, taps, j) else {
             return j;
         };
         buffer[j] = c;

@@ -10,7 +10,7 @@ use Rattle.sequence.proofs.UpTo.{length-upTo, getD-upTo}
 use Rattle.network.specs.Rows.{rowsOf, tapRowsOf, tapRowAt, noTap}
 use Rattle.network.specs.Coefficients.{coefficientOf}
 use Rattle.network.specs.Check.{breaksTapRowRule}
-use Rattle.network.proofs.TapTests.{product-kept, product-broken}
+use Rattle.network_rules.proofs.TapTests.{product-kept, product-broken}
 use Rattle.network_check.proofs.Scans.{NoneBefore, scan-stop, scan-next, scan-end}
 use Prim.Native.Nat.{ℕ, _≤_, _-_}
 use mathlib.Core.Path.{_≡_, refl, sym, ap, _∙_}

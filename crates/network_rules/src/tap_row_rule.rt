@@ -4,13 +4,13 @@ ghost use mathlib.Core.Bool.{_&&_};
 ghost use Prim.Native.Nat.{_+_, _*_, _^_, _≤_};
 ghost use lib.IntN.{pos, negℤ};
 ghost use lib.ListN.{length};
 ghost use Rattle.network.specs.Rows.{rowWords, tapWords, rowsOf, tapRowAt};
 ghost use Rattle.network.specs.Coefficients.{signed};
 ghost use Rattle.network.specs.TapRowRule.{isTapSign, withinBounds};
-ghost use Rattle.network.specs.Products.{productIf, productOf};
-use crate::MINUS;
-use crate::NONE;
-use crate::PLUS;
+ghost use Rattle.network_rules.specs.Products.{productIf, productOf};
+use network::MINUS;
+use network::NONE;
+use network::PLUS;
 
 // The product of a tap row, where it is a coefficient.
 pub enum TapProduct {
@@ -52,7 +52,7 @@ pub fn tap_product(rows: &[u32], n: usize, taps: &[u32], j: usize) -> TapProduct
     requires { ⌜ (rowWords * n ≤ length (now rows)) × (tapWords * j + tapWords ≤ length (now taps)) ⌝ }
     ensures { λ r. ⌜ r ≡ productOf (rowsOf (now (rows .entry)) n) (tapRowAt (now (taps .entry)) j) ⌝ }
 {
-    let tap = crate::read_tap_row(taps, j);
+    let tap = network::read_tap_row(taps, j);
     let row = crate::number(tap.row);
     if tap.sign == NONE {
         if (row == 0) & (tap.shift == 0) {
@@ -68,6 +68,6 @@ pub fn tap_product(rows: &[u32], n: usize, taps: &[u32], j: usize) -> TapProduct
     }
     signed_product(
         tap.sign,
-        crate::lift(tap.shift, crate::read_value(rows, row)),
+        crate::lift(tap.shift, network::read_value(rows, row)),
     )
 }

@@ -1,12 +1,12 @@
--- `network::lift` meets its contract: nothing is lost at the high end. Assumes nothing.
+-- `network_rules::lift` meets its contract: nothing is lost at the high end. Assumes nothing.
 use Prim.Native.Nat.{_%_, _^_, ℕ, _*_, _<_}
 use native.Mathlib.Nat.{mul-comm, lt-of-lt-of-le}
 use lib.Pow.{shl-exact, shl-lt, pow-mono}
 use mathlib.Core.Path.{_≡_, ap, _∙_}
 use native.Mathlib.Omega.{arith}
 use borrow.Author.Needs.{needs}
-use Rattle.network.proofs.lift.Statement.{statement}
-use Rattle.network.proofs.lift.Tie as tie
+use Rattle.network_rules.proofs.lift.Statement.{statement}
+use Rattle.network_rules.proofs.lift.Tie as tie
 
 wide-requires : tie.Need-wide-requires
 wide-requires c κs = search needs

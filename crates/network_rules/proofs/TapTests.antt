@@ -11,13 +11,13 @@ use lib.ListN.{length}
 use mir.Syntax.{w32}
 use mir.Val.{toZ}
 use mir.ValLaws.{toZ-neg}
 use Rattle.network.specs.declared.Row.{Row}
 use Rattle.network.specs.declared.TapRow.{TapRow}
-use Rattle.network.specs.declared.tap_row_rule.TapProduct.the-variants.{Coefficient, Broken}
+use Rattle.network_rules.specs.declared.tap_row_rule.TapProduct.the-variants.{Coefficient, Broken}
 use Rattle.network.specs.Rows.{none, plus, minus}
 use Rattle.network.specs.Coefficients.{signed, coefficientOf}
 use Rattle.network.specs.TapRowRule.{isTapSign, withinBounds, isProduct, keepsTapRowRule}
-use Rattle.network.specs.Products.{productIf, productOf}
+use Rattle.network_rules.specs.Products.{productIf, productOf}
 
 -- ---- a number p with a sign
 

@@ -2,12 +2,12 @@
 ghost use mathlib.Core.Path.{_≡_};
 ghost use Prim.Native.Nat.{ℕ, _+_, _*_, _^_, _≤_, _<_};
 ghost use lib.ListN.{length};
 ghost use Rattle.network.specs.Rows.{rowWords, rowsOf};
 ghost use Rattle.network.specs.RowRule.{isFirst, isWorked, isSum, keepsRowRule};
-use crate::MINUS;
-use crate::PLUS;
-use crate::REVERSED;
-use crate::Row;
+use network::MINUS;
+use network::PLUS;
+use network::REVERSED;
+use network::Row;
 
 fn is_first(row: Row) -> bool
     ensures { λ r. ⌜ r ≡ isFirst row ⌝ }
@@ -45,7 +45,7 @@ pub fn keeps_row_rule(rows: &[u32], i: usize) -> bool
     requires { ⌜ rowWords * i + rowWords ≤ length (now rows) ⌝ }
     ensures { λ r. ⌜ ((n : ℕ) → i < n → r ≡ keepsRowRule (rowsOf (now (rows .entry)) n) i) ⌝ }
 {
-    let row = crate::read_row(rows, i);
+    let row = network::read_row(rows, i);
     if i == 0 {
         return is_first(row);
     }
@@ -59,7 +59,7 @@ pub fn keeps_row_rule(rows: &[u32], i: usize) -> bool
     }
     is_sum(
         row,
-        crate::read_value(rows, left),
-        crate::read_value(rows, right),
+        network::read_value(rows, left),
+        network::read_value(rows, right),
     )
 }

@@ -1,12 +1,12 @@
--- `network::row_rule::keeps_row_rule` meets its contract: each return is a law of proofs/RowTests.antt. Assumes nothing.
+-- `network_rules::row_rule::keeps_row_rule` meets its contract: each return is a law of proofs/RowTests.antt. Assumes nothing.
 use Rattle.network.specs.Rows.{rowAt}
 use Rattle.network.proofs.RowTests.{row-first, row-left, row-right, row-sum}
 use Prim.Native.Nat.{ℕ}
 use mathlib.Core.Path.{ap, _∙_}
 use native.Mathlib.Omega.{arith}
 use borrow.Author.Needs.{needs}
-use Rattle.network.proofs.row_rule.keeps_row_rule.Statement.{statement}
-use Rattle.network.proofs.row_rule.keeps_row_rule.Tie as tie
+use Rattle.network_rules.proofs.row_rule.keeps_row_rule.Statement.{statement}
+use Rattle.network_rules.proofs.row_rule.keeps_row_rule.Tie as tie
 
 read-row-requires : tie.Need-read-row-requires
 read-row-requires c κs = search needs

@@ -1,20 +1,20 @@
--- `network::tap_row_rule::tap_product` meets its contract: each return is a law of proofs/TapTests.antt. Assumes nothing.
+-- `network_rules::tap_row_rule::tap_product` meets its contract: each return is a law of proofs/TapTests.antt. Assumes nothing.
 use mathlib.Core.Bool.{true, false, _&&_}
 use lib.IntN.{ℤ, pos}
 use Rattle.sequence.proofs.UpTo.{length-upTo, getD-upTo}
 use Rattle.network.specs.declared.Row.{Row}
 use Rattle.network.specs.Rows.{rowAt, rowsOf, rowIn, noRow}
 use Rattle.network.specs.RowRule.{lifted}
 use Rattle.network.specs.Coefficients.{signed, coefficientOf}
 use Rattle.network.specs.TapRowRule.{isTapSign, withinBounds}
-use Rattle.network.specs.Products.{productIf, productOf}
-use Rattle.network.proofs.TapTests.{tap-empty, tap-row, tap-shift, tap-signed}
+use Rattle.network_rules.specs.Products.{productIf, productOf}
+use Rattle.network_rules.proofs.TapTests.{tap-empty, tap-row, tap-shift, tap-signed}
 use Prim.Native.Nat.{ℕ, _<_}
 use mathlib.Core.Path.{_≡_, sym, ap, _∙_}
 use native.Mathlib.Omega.{arith}
 use borrow.Author.Needs.{needs}
-use Rattle.network.proofs.tap_row_rule.tap_product.Statement.{statement}
-use Rattle.network.proofs.tap_row_rule.tap_product.Tie as tie
+use Rattle.network_rules.proofs.tap_row_rule.tap_product.Statement.{statement}
+use Rattle.network_rules.proofs.tap_row_rule.tap_product.Tie as tie
 
 read-tap-row-requires : tie.Need-read-tap-row-requires
 read-tap-row-requires c κs = search needs

@@ -1,8 +1,8 @@
--- `network::row_rule::is_worked` meets its contract. Assumes nothing.
+-- `network_rules::row_rule::is_worked` meets its contract. Assumes nothing.
 use Rattle.network.proofs.RowTests.{worked-tests}
 use borrow.Author.Needs.{needs}
-use Rattle.network.proofs.row_rule.is_worked.Statement.{statement}
-use Rattle.network.proofs.row_rule.is_worked.Tie as tie
+use Rattle.network_rules.proofs.row_rule.is_worked.Statement.{statement}
+use Rattle.network_rules.proofs.row_rule.is_worked.Tie as tie
 
 add-result : tie.Need-add-result
 add-result c = search needs

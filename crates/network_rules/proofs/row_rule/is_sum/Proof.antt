@@ -1,8 +1,8 @@
--- `network::row_rule::is_sum` meets its contract. Assumes nothing.
+-- `network_rules::row_rule::is_sum` meets its contract. Assumes nothing.
 use Rattle.network.proofs.RowTests.{sum-shift, sum-tests}
 use borrow.Author.Needs.{needs}
-use Rattle.network.proofs.row_rule.is_sum.Statement.{statement}
-use Rattle.network.proofs.row_rule.is_sum.Tie as tie
+use Rattle.network_rules.proofs.row_rule.is_sum.Statement.{statement}
+use Rattle.network_rules.proofs.row_rule.is_sum.Tie as tie
 
 returns : tie.Need-returns
 returns c = let a = c .before .before .args in sum-shift (a .row) (a .left) (a .right) (c .if1 .taken)

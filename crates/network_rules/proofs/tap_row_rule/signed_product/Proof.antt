@@ -1,13 +1,13 @@
--- `network::tap_row_rule::signed_product` meets its contract: each return is a law of proofs/TapTests.antt. Assumes nothing.
+-- `network_rules::tap_row_rule::signed_product` meets its contract: each return is a law of proofs/TapTests.antt. Assumes nothing.
 use mir.Syntax.{w32}
 use mir.ValLaws.{toZ-pos, toZ-ofZ}
-use Rattle.network.specs.declared.tap_row_rule.TapProduct.the-variants.{Coefficient}
-use Rattle.network.proofs.TapTests.{plus-within, plus-outside, minus-within, minus-outside, no-sign}
+use Rattle.network_rules.specs.declared.tap_row_rule.TapProduct.the-variants.{Coefficient}
+use Rattle.network_rules.proofs.TapTests.{plus-within, plus-outside, minus-within, minus-outside, no-sign}
 use mathlib.Core.Path.{ap, _∙_}
 use native.Mathlib.Omega.{arith}
 use borrow.Author.Needs.{needs}
-use Rattle.network.proofs.tap_row_rule.signed_product.Statement.{statement}
-use Rattle.network.proofs.tap_row_rule.signed_product.Tie as tie
+use Rattle.network_rules.proofs.tap_row_rule.signed_product.Statement.{statement}
+use Rattle.network_rules.proofs.tap_row_rule.signed_product.Tie as tie
 
 cast-t5 : tie.Need-cast-t5
 cast-t5 c = search needs

@@ -1,11 +1,11 @@
--- `network::tap_row_rule::negated` meets its contract. Assumes nothing.
+-- `network_rules::tap_row_rule::negated` meets its contract. Assumes nothing.
 use lib.IntN.{pos, negℤ}
-use Rattle.network.proofs.TapTests.{negative-word}
+use Rattle.network_rules.proofs.TapTests.{negative-word}
 use Prim.Native.Nat.{ℕ}
 use mathlib.Core.Path.{sym, ap}
 use borrow.Author.Needs.{needs}
-use Rattle.network.proofs.tap_row_rule.negated.Statement.{statement}
-use Rattle.network.proofs.tap_row_rule.negated.Tie as tie
+use Rattle.network_rules.proofs.tap_row_rule.negated.Statement.{statement}
+use Rattle.network_rules.proofs.tap_row_rule.negated.Tie as tie
 
 returns : tie.Need-returns
 returns c = ap (λ (n : ℕ). negℤ (pos n)) (sym (c .if1 .taken))
