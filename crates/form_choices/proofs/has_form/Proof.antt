@@ -1,4 +1,4 @@
--- `odd_parts::choices::has_form` meets its contract. Assumes nothing.
+-- `form_choices::has_form` meets its contract. Assumes nothing.
 use borrow.Author.Needs.{needs}
 use mathlib.Core.Path.{_≡_, sym, ap, _∙_}
 use mathlib.Core.Bool.{not}
@@ -11,9 +11,9 @@ use Rattle.signed_digit.specs.Forms.{listing}
 use Rattle.coefficient.specs.declared.Reduced.the-variants.{Split}
 use Rattle.coefficient.specs.Parts.{partsOf, partsIn, signIf}
 use Rattle.building.specs.Answer.{noSuchForm}
-use Rattle.odd_parts.proofs.FormNumbers.{split-small, choice-zero, no-odd-part-choice, counted-choice}
-use Rattle.odd_parts.proofs.choices.has_form.Statement.{statement}
-use Rattle.odd_parts.proofs.choices.has_form.Tie as tie
+use Rattle.form_choices.proofs.FormNumbers.{split-small, choice-zero, no-odd-part-choice, counted-choice}
+use Rattle.form_choices.proofs.has_form.Statement.{statement}
+use Rattle.form_choices.proofs.has_form.Tie as tie
 
 -- what `reduce` gave
 reduced : (c : tie.After-reduce) → partsIn (c .reduce .result) ≡ partsOf (c .before .before .args .n)

@@ -1,4 +1,4 @@
--- `odd_parts::choices::first_without_form` meets its contract. The invariant: every tap passed has its form. Assumes nothing.
+-- `form_choices::first_without_form` meets its contract. The invariant: every tap passed has its form. Assumes nothing.
 use borrow.Author.Needs.{needs}
 use borrow.Author.Tests.{not-true, not-false}
 use mathlib.Core.Path.{_≡_, refl, sym, ap, _∙_}
@@ -14,8 +14,8 @@ use Rattle.refusal.proofs.Checks.{lowest-here, lowest-later, lowest-none}
 use Rattle.coefficient.specs.Parts.{partsOf}
 use Rattle.building.specs.Answer.{Choice, choicesOf, noSuchForm}
 use Rattle.building.proofs.Answers.{length-choices, choice-at}
-use Rattle.odd_parts.proofs.choices.first_without_form.Statement.{statement}
-use Rattle.odd_parts.proofs.choices.first_without_form.Tie as tie
+use Rattle.form_choices.proofs.first_without_form.Statement.{statement}
+use Rattle.form_choices.proofs.first_without_form.Tie as tie
 
 -- what stands past the last tap
 abbrev noChoice : Choice

@@ -1,4 +1,5 @@
-// The choices of forms.
+// Before a network is built: whether each tap has the form that is chosen for it. All functions here are
+// internal: the crate `builder` has tested the lengths.
 ghost use mathlib.Core.Path.{_≡_};
 ghost use mathlib.Core.Bool.{not};
 ghost use Prim.Native.Nat.{_≤_};
@@ -24,8 +25,7 @@ fn has_form(n: i32, choice: u32) -> bool
     }
 }
 
-// The first tap whose choice is not below the number of forms, or the number of taps. Internal: the
-// crate above has tested the lengths.
+// The first tap whose choice is not below the number of forms, or the number of taps.
 pub fn first_without_form(coefficients: &[i32], choices: &[u32]) -> usize
     requires { ⌜ length (now coefficients) ≤ length (now choices) ⌝ }
     ensures { λ r. ⌜ r ≡ placeOr (length (now (coefficients .entry))) (lowest (λ (c : Choice). noSuchForm (c .tap) (c .number)) (choicesOf (now (coefficients .entry)) (now (choices .entry)))) ⌝ }
