@@ -42,7 +42,7 @@ fn add_new(
             n + 1
         }
         NewRow::NoneFits => {
-            let form = chain::chosen_form(v, choice);
+            let form = chosen_form::chosen_form(v, choice);
             chain::add_chain(table, heads, links, n, form)
         }
     }

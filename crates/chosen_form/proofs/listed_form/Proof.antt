@@ -1,4 +1,4 @@
--- `chain::chosen::listed_form` meets its contract. Assumes nothing.
+-- `chosen_form::listed_form` meets its contract. Assumes nothing.
 use borrow.Author.Needs.{needs}
 use mathlib.Core.Path.{refl, ap, ap₂, _∙_}
 use mathlib.Core.List.{List, _++_, map}
@@ -14,9 +14,9 @@ use Rattle.signed_digit.specs.Forms.{listing}
 use Rattle.signed_digit.proofs.Coefficients.{at-most-1597}
 use Rattle.form_listing.specs.Listing.{formCount}
 use Rattle.building.specs.Chain.{chosenForm}
-use Rattle.chain.proofs.Listed.{listed}
-use Rattle.chain.proofs.chosen.listed_form.Statement.{statement}
-use Rattle.chain.proofs.chosen.listed_form.Tie as tie
+use Rattle.chosen_form.proofs.Listed.{listed}
+use Rattle.chosen_form.proofs.listed_form.Statement.{statement}
+use Rattle.chosen_form.proofs.listed_form.Tie as tie
 
 within : (s : tie.Start) → s .args .choice < 1597
 within s = omega (arith, s .pre .1, at-most-1597 (pos (s .args .v)) (omega (arith, s .pre .0)))

@@ -1,4 +1,4 @@
--- `chain::chosen::chosen_form` meets its contract. Assumes nothing.
+-- `chosen_form::chosen_form` meets its contract. Assumes nothing.
 use borrow.Author.Needs.{needs}
 use mathlib.Core.Path.{sym, ap, _∙_}
 use Prim.Native.Nat.{ℕ, _-_}
@@ -9,9 +9,9 @@ use mir.ValLaws.{toZ-ofZ}
 use Rattle.signed_digit.specs.CanonicalForm.{canonical}
 use Rattle.form_masks.specs.Form.{formOf}
 use Rattle.building.specs.Chain.{chosenForm}
-use Rattle.chain.proofs.Listed.{first-chosen}
-use Rattle.chain.proofs.chosen.chosen_form.Statement.{statement}
-use Rattle.chain.proofs.chosen.chosen_form.Tie as tie
+use Rattle.chosen_form.proofs.Listed.{first-chosen}
+use Rattle.chosen_form.proofs.chosen_form.Statement.{statement}
+use Rattle.chosen_form.proofs.chosen_form.Tie as tie
 
 cast-canonical : tie.Need-cast-canonical
 cast-canonical c = search needs

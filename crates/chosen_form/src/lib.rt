@@ -1,4 +1,5 @@
-// The form that is chosen for an odd part.
+// The form that is chosen for an odd part. All functions here are internal: the crate `builder` has
+// checked that there is such a form.
 ghost use mathlib.Core.Path.{_≡_};
 ghost use Prim.Native.Nat.{_^_, _<_};
 ghost use lib.IntN.{pos};
@@ -24,7 +25,7 @@ fn listed_form(v: u32, choice: u32) -> Form
 }
 
 // The form of this number in the listing of v. The canonical form is the first, and the others are listed
-// only where one of them is chosen. Internal.
+// only where one of them is chosen.
 pub fn chosen_form(v: u32, choice: u32) -> Form
     requires { ⌜ (v < 2 ^ 31) × (choice < length (listing 32 (pos v))) ⌝ }
     ensures { λ r. ⌜ r ≡ formOf (chosenForm v choice) ⌝ }
