@@ -37,7 +37,7 @@ pub fn build(coefficients: &[i32], choices: &[u32], rows: &mut [u32], taps: &mut
     if taps.len() < 768 {
         return Built::Refused(Refusal::ShortTable);
     }
-    let tap = odd_parts::first_without_form(coefficients, choices);
+    let tap = form_choices::first_without_form(coefficients, choices);
     if tap < n {
         return Built::Refused(Refusal::NoSuchForm(tap as u32));
     }

@@ -1,8 +1,5 @@
 // Step 3 of building: a chosen form read from its highest nonzero digit down, with a row for each value
 // on the way. Internal: the crate above brings the rows with their index.
-mod chosen;
-
-pub use chosen::chosen_form;
 ghost use mathlib.Core.Path.{_≡_};
 ghost use mathlib.Core.Bool.{cond};
 ghost use Prim.Native.Nat.{suc, _+_, _*_, _-_, _^_, _≤_, _<_};

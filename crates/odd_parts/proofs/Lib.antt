@@ -1,4 +1,3 @@
-pub mod FormNumbers
 pub mod Weights
 pub mod Rises
 pub mod Slots

@@ -1,5 +1,1 @@
-pub mod FirstOver
-pub mod Tries
 pub mod Shifts
-pub mod OddPart
-pub mod Lefts

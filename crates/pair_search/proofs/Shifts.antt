@@ -1,25 +1,24 @@
--- The search step by step: a sign, the three signs, the shifts of a left row, the left rows. Assumes nothing.
-use mathlib.Core.Path.{_≡_, refl, sym, ap, _∙_}
+-- The search step by step: the shifts of a left row, the left rows. Assumes nothing.
+use mathlib.Core.Path.{_≡_, refl, ap, _∙_}
 use mathlib.Core.List.{List}
 use mathlib.Core.Logic.{⊎-elim}
 use Prim.Native.Nat.{ℕ, suc, _+_, _-_, _*_, _^_, _≤_, _<_}
 use native.Mathlib.Nat.{eq-or-lt-of-le, mul-assoc, pow-succ', le-mul-of-pos-right, mul-le-mul-right}
 use native.Mathlib.Numerals.{add-one}
 use native.Mathlib.Omega.{arith}
-use lib.Dec.{T}
 use lib.ListN.{length}
 use lib.Pow.{pow-mono}
-use Rattle.refusal.specs.Answer.{nowhere, at-place}
 use Rattle.network.specs.declared.Row.{Row}
-use Rattle.network.specs.Rows.{plus, minus, reversed, rowsOf}
-use Rattle.network.specs.RowRule.{lifted, isRowSign}
-use Rattle.building.specs.Search.{Fit, fit, none-fits, orElse, firstOver, rowWith, rowOver, tried, firstFit}
+use Rattle.network.specs.Rows.{rowsOf}
+use Rattle.network.specs.RowRule.{lifted}
+use Rattle.building.specs.Search.{fit, none-fits, orElse, firstFit}
 use Rattle.row_index.specs.Index.{valueAt}
 use Rattle.row_index.proofs.Compare.{le-or-lt}
 use Rattle.row_index.proofs.Values.{length-rows}
-use Rattle.pair_search.specs.Pairs.{fitAtShift, fitAtLeft, rightValue, Searchable, AtShift}
-use Rattle.pair_search.proofs.FirstOver.{else-none, over-none, over-first}
-use Rattle.pair_search.proofs.Tries.{plus-none, minus-none, reversed-none, tried-right, tried-missing}
+use Rattle.row_signs.specs.Pairs.{fitAtShift, fitAtLeft, Searchable}
+use Rattle.row_signs.proofs.FirstOver.{over-none, over-first}
+use Rattle.row_signs.proofs.Tries.{plus-none, minus-none, reversed-none}
+use Rattle.row_signs.proofs.Signs.{three-signs, positive}
 
 -- ---- 2^s·left
 
@@ -33,13 +32,6 @@ lifted-more s l a e = ap (λ (x : ℕ). x * 2) e ∙ omega (arith, lifted-next s
 lifted-up : (s k l : ℕ) → s ≤ k → lifted s l ≤ lifted k l
 lifted-up s k l h = mul-le-mul-right l (pow-mono h)
 
--- ---- the signs in their order
-
-pub three-signs : (rows : List Row) (v left shift : ℕ) (f g h : Fit) → tried rows v left shift plus ≡ f → tried rows v left shift minus ≡ g
-    → tried rows v left shift reversed ≡ h → fitAtShift rows v left shift ≡ orElse f (orElse g h)
-unfolding fitAtShift firstOver
-three-signs rows v left shift f g h e p q = rw (e, p, q) (ap (λ (x : Fit). orElse f (orElse g x)) (else-none h))
-
 -- the shifts of a left row below z have been tried, and a is 2^z·left
 pub record Trying (t : List ℕ) (n v left z a : ℕ) : Type 0 where
   pub from : 1 ≤ z
@@ -52,36 +44,6 @@ pub try-first : (t : List ℕ) (n v left a : ℕ) → a ≡ 2 * valueAt t left �
 try-first t n v left a e = record { from = omega arith; to = omega arith; is-lifted = e; tried-below = λ k l. absurd (omega arith) }
 
 module _ (t heads links : List ℕ) (n most v : ℕ) (s : Searchable t heads links n most v) where
-  pub positive : (k : ℕ) → k < n → 0 < valueAt t k
-  positive k l = omega (arith, s .odd k l)
-
-  -- ---- one sign: x is the value that makes v on the right
-
-  module _ (left shift a : ℕ) (at : AtShift t n left shift a) (sign : ℕ) (known : T (isRowSign sign)) (x : ℕ) (is : x ≡ rightValue sign a v) where
-    missing : ((k : ℕ) → k < n → valueAt t k ≡ rightValue sign a v → ⊥) → none-fits ≡ tried (rowsOf t n) v left shift sign
-    missing h = sym (tried-missing t n v left shift a (at .within) (at .is-lifted) (at .low) positive sign known h)
-
-    pub sign-zero : x ≡ 0 → none-fits ≡ tried (rowsOf t n) v left shift sign
-    sign-zero z = missing (λ k l e. omega (arith, positive k l))
-
-    pub sign-past : most < x → none-fits ≡ tried (rowsOf t n) v left shift sign
-    sign-past h = missing (λ k l e. omega (arith, s .bounded k l))
-
-    right : tried (rowsOf t n) v left shift sign ≡ rowOver v left shift sign (rowWith (rowsOf t n) x)
-    right =
-        tried-right t n v left shift a (at .within) (at .is-lifted) (at .low) positive sign known
-        ∙ ap (λ (y : ℕ). rowOver v left shift sign (rowWith (rowsOf t n) y)) (sym is)
-
-    pub sign-missing : rowWith (rowsOf t n) x ≡ nowhere → none-fits ≡ tried (rowsOf t n) v left shift sign
-    unfolding rowOver
-    sign-missing e = sym (right ∙ ap (rowOver v left shift sign) e)
-
-    pub sign-found : (k j : ℕ) → rowWith (rowsOf t n) x ≡ at-place k → j ≡ k
-        → fit (record { left = left; right = j; shift = shift; sign = sign; value = v }) ≡ tried (rowsOf t n) v left shift sign
-    unfolding rowOver
-    sign-found k j e q =
-        ap (λ (i : ℕ). fit (record { left = left; right = i; shift = shift; sign = sign; value = v })) q ∙ sym (right ∙ ap (rowOver v left shift sign) e)
-
   -- ---- the limit
 
   -- past v + the largest value nothing fits
@@ -90,7 +52,7 @@ module _ (t heads links : List ℕ) (n most v : ℕ) (s : Searchable t heads lin
   shift-past left shift w h =
       let a = lifted shift (valueAt t left) in
       three-signs (rowsOf t n) v left shift none-fits none-fits none-fits
-      (plus-none t n v left shift a w refl (λ k l e. omega (arith, positive k l)))
+      (plus-none t n v left shift a w refl (λ k l e. omega (arith, positive t heads links n most v s k l)))
       (minus-none t n v left shift a w refl (λ k l e. omega (arith, s .bounded k l)))
       (reversed-none t n v left shift a w refl (λ k l e. omega (arith, s .bounded k l)))
 
@@ -102,7 +64,7 @@ module _ (t heads links : List ℕ) (n most v : ℕ) (s : Searchable t heads lin
     few-shifts h =
         ⊎-elim
         (λ (b : 32 ≤ z).
-        absurd (omega (arith, g .is-lifted, le-mul-of-pos-right (2 ^ z) (positive left w), pow-mono {i = 32} b)))
+        absurd (omega (arith, g .is-lifted, le-mul-of-pos-right (2 ^ z) (positive t heads links n most v s left w), pow-mono {i = 32} b)))
         (λ b. b)
         (le-or-lt 32 z)
 

@@ -1,28 +1,12 @@
 // Step 2 of building: the search for one new row from two that are there. Internal: the crate above
 // brings the rows with their index.
-mod left_rows;
-mod signs;
-
 ghost use mathlib.Core.Path.{_≡_};
-ghost use Prim.Native.Nat.{_^_, _<_};
 ghost use Rattle.network.specs.Rows.{rowsOf};
 ghost use Rattle.building.specs.Search.{firstFit};
-ghost use Rattle.pair_search.specs.NewRow.{fitOf};
-ghost use Rattle.pair_search.specs.Pairs.{Searchable};
-use network::Row;
-
-// What the search finds: a row to add, or none.
-pub enum NewRow {
-    Fits(Row),
-    NoneFits,
-}
-
-fn narrow(x: usize) -> u32
-    requires { ⌜ x < 2 ^ 32 ⌝ }
-    ensures { λ r. ⌜ r ≡ x ⌝ }
-{
-    x as u32
-}
+ghost use Rattle.row_signs.specs.NewRow.{fitOf};
+ghost use Rattle.row_signs.specs.Pairs.{Searchable};
+use row_signs::NewRow;
+use row_signs::narrow;
 
 // The first fit for v: lowest left, then lowest shift, then sign. No row's value is above most, so
 // that no shift fits past v + most.
@@ -41,7 +25,7 @@ pub fn first_fit(table: &[u32], heads: &[u16], links: &[u16], n: usize, most: u3
         let mut a = 2 * (value as u64);
         let mut s: u32 = 1;
         while a <= limit {
-            match signs::at_shift(table, heads, links, n, most, v, left, s, a) {
+            match row_signs::at_shift(table, heads, links, n, most, v, left, s, a) {
                 NewRow::Fits(row) => break 'search NewRow::Fits(row),
                 NewRow::NoneFits => {}
             }

@@ -22,7 +22,7 @@ use Rattle.building.proofs.FirstFit.{fit-is-first}
 use Rattle.building.proofs.Lawful.{lawful-value}
 use Rattle.row_index.specs.Index.{valueAt}
 use Rattle.row_index.proofs.Values.{length-rows, value-in}
-use Rattle.pair_search.specs.Pairs.{Searchable}
+use Rattle.row_signs.specs.Pairs.{Searchable}
 use Rattle.chain.specs.Reading.{Readable}
 use Rattle.row_builder.specs.Ready.{Ready}
 

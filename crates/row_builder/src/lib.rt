@@ -13,8 +13,8 @@ ghost use Rattle.row_index.specs.Index.{Indexed, Grown};
 ghost use Rattle.chain.specs.Reading.{HasRoom};
 ghost use Rattle.row_builder.specs.Ready.{partOf, Ready, CanStart};
 use network::Row;
-use pair_search::NewRow;
 use row_index::Found;
+use row_signs::NewRow;
 
 fn larger(a: u32, b: u32) -> u32
     ensures { λ r. ⌜ r ≡ max a b ⌝ }
@@ -42,7 +42,7 @@ fn add_new(
             n + 1
         }
         NewRow::NoneFits => {
-            let form = chain::chosen_form(v, choice);
+            let form = chosen_form::chosen_form(v, choice);
             chain::add_chain(table, heads, links, n, form)
         }
     }

@@ -26,7 +26,7 @@ use Rattle.building.specs.Tables.{wordsOfRows, wordsOfTapRows}
 use Rattle.building.proofs.Answers.{exist-forms, not-short, network-given}
 use Rattle.building.proofs.Passes.{CanBuild, built-few, built-passed}
 use Rattle.building.proofs.BuiltTables.{network-left, length-rows-left, length-taps-left, length-built-taps}
-use Rattle.odd_parts.proofs.FormNumbers.{choice-zero}
+use Rattle.form_choices.proofs.FormNumbers.{choice-zero}
 use Rattle.sheet_kinds.specs.Tables.{NetworkIn}
 use Rattle.sheet_text.specs.Sheet.{choices}
 use Rattle.sheet_text.specs.Coefficients.{Coefficients}

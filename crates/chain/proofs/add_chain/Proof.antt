@@ -1,7 +1,7 @@
 -- `chain::add_chain` meets its contract. The invariant: the digits still to come give the rows of the whole chain. Assumes nothing.
 use mathlib.Core.Path.{_≡_, refl, sym, subst, _∙_}
 use mathlib.Core.List.{List}
-use Prim.Native.Nat.{_-_, _^_, _<_}
+use Prim.Native.Nat.{_^_, _<_}
 use native.Mathlib.Omega.{arith}
 use lib.ListN.{length, take}
 use native.Mathlib.Nat.{mul-one}

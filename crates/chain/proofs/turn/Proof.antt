@@ -1,6 +1,5 @@
 -- `chain::turn` meets its contract. Assumes nothing.
 use borrow.Author.Needs.{needs}
-use Prim.Native.Nat.{_-_}
 use lib.ListN.{length}
 use Rattle.network.specs.Rows.{rowsOf}
 use Rattle.chain.specs.Reading.{toCome}

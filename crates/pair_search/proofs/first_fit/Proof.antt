@@ -8,8 +8,8 @@ use borrow.Author.Needs.{needs}
 use Rattle.network.specs.Rows.{rowsOf}
 use Rattle.building.specs.Search.{none-fits}
 use Rattle.row_index.specs.Index.{valueAt}
-use Rattle.pair_search.specs.NewRow.{fitOf}
-use Rattle.pair_search.specs.Pairs.{fitAtLeft}
+use Rattle.row_signs.specs.NewRow.{fitOf}
+use Rattle.row_signs.specs.Pairs.{fitAtLeft}
 use Rattle.pair_search.proofs.Shifts.{Trying, try-first, few-shifts, try-next, left-none, left-first, fit-none, fit-first}
 use Rattle.pair_search.proofs.first_fit.Statement.{statement}
 use Rattle.pair_search.proofs.first_fit.Tie as tie

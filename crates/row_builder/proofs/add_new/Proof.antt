@@ -12,7 +12,7 @@ use Rattle.network.specs.Rows.{rowsOf}
 use Rattle.building.specs.Search.{fit, none-fits, firstFit}
 use Rattle.building.specs.Chain.{chained}
 use Rattle.row_index.specs.Index.{Grown}
-use Rattle.pair_search.specs.NewRow.{fitOf}
+use Rattle.row_signs.specs.NewRow.{fitOf}
 use Rattle.chain.specs.Reading.{HasRoom, Readable}
 use Rattle.row_builder.specs.Ready.{partOf}
 use Rattle.row_builder.proofs.Searches.{searchable, fit-added, fit-length, fit-new, readable, chain-added}

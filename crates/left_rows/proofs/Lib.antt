@@ -1,0 +1,2 @@
+pub mod OddPart
+pub mod Lefts

@@ -1,0 +1,2 @@
+-- For the contracts of the internal functions:
+pub mod NoLeft

@@ -1,0 +1,3 @@
+pub mod FirstOver
+pub mod Tries
+pub mod Signs
