@@ -1,6 +1,6 @@
 -- What the leaf functions of src/lib.rt return. Assumes nothing.
 use mathlib.Core.Path.{_≡_, refl, ap, ap₂, sym, _∙_}
-use Prim.Native.Nat.{ℕ, _*_, _-_, _<_, _/_, _^_}
+use Prim.Native.Nat.{ℕ, _*_, _<_, _/_, _^_}
 use native.Mathlib.Omega.{arith}
 use lib.Bits.{bitAnd, bitOr, and-le-l, or-lt}
 use lib.IntN.{ℤ, pos, negsuc, natAbs}

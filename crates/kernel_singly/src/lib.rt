@@ -1,7 +1,7 @@
 // Samples through 256 coefficients and 256 registers, one by one. All functions here are internal:
 // they serve the crate `kernel`.
 ghost use mathlib.Core.Path.{_≡_};
-ghost use Prim.Native.Nat.{_≤_};
+ghost use Prim.Native.Nat.{_≤_, min};
 ghost use lib.ListN.{length, drop};
 ghost use lib.Seq.{sets};
 ghost use Rattle.convolution.specs.Running.{next, outputsOf, registersOf};
@@ -9,12 +9,18 @@ ghost use Rattle.kernel_tables.specs.Quiet.{Quiet};
 use kernel_products::signed;
 use kernel_products::sum;
 
+fn least(a: usize, b: usize) -> usize
+    ensures { λ r. ⌜ r ≡ min a b ⌝ }
+{
+    if a < b { a } else { b }
+}
+
 // The registers after one sample; those from w on are 0 and stay so.
 fn move_one(h: &[i32; 256], x: i16, w: usize, registers: &mut [u64])
     requires { ⌜ (length (now h) ≡ 256) × ((256 ≤ length (now registers)) × (Quiet w (now h) (now registers))) ⌝ }
     ensures { λ _. ⌜ now (registers .exit) ≡ next (now (h .entry)) x (now (registers .entry)) ⌝ }
 {
-    let n = kernel_tables::least(w, 255);
+    let n = least(w, 255);
     let mut k: usize = 0;
     while k < n {
         registers[k] = sum(registers[k + 1], h[k + 1], x);

@@ -11,7 +11,6 @@ mod width;
 
 use kernel_products::level_below;
 use kernel_products::offset_coefficient;
-pub use width::least;
 pub use width::used;
 
 // Fills a table that holds zeros in offset binary; from w on, coefficients are 0.

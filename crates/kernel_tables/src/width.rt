@@ -1,14 +1,8 @@
 // How many registers are in use.
 ghost use mathlib.Core.Path.{_≡_};
-ghost use Prim.Native.Nat.{_≤_, min};
+ghost use Prim.Native.Nat.{_≤_};
 ghost use lib.ListN.{length};
 ghost use Rattle.kernel_tables.specs.Quiet.{Quiet};
-
-pub fn least(a: usize, b: usize) -> usize
-    ensures { λ r. ⌜ r ≡ min a b ⌝ }
-{
-    if a < b { a } else { b }
-}
 
 // From the number returned on, registers and coefficients are 0. Internal: the crate `kernel` brings
 // tables that are long enough.

@@ -1,6 +1,6 @@
 -- What the tie rule gives: the number nearest to a / d is within a half of it, and of two that are as near it is the larger, `nearest-within`. No other number is so, `nearest-only`. Assumes nothing.
 use mathlib.Core.Path.{_≡_, sym, ap, _∙_}
-use Prim.Native.Nat.{ℕ, suc, _+_, _-_, _*_, _/_, _%_, _≤_, _<_, compare, Ordering, Ordering·lt, Ordering·eq, Ordering·gt}
+use Prim.Native.Nat.{ℕ, suc, _+_, _*_, _/_, _%_, _≤_, _<_, compare, Ordering, Ordering·lt, Ordering·eq, Ordering·gt}
 use native.Mathlib.Nat.{le-of-eq, le-of-lt, lt-of-lt-of-le, le-of-suc-le-suc, le-antisymm, mod-lt, div-add-mod', add-mul, one-mul, lt-of-mul-lt-mul-right}
 use native.Mathlib.Omega.{arith}
 use Rattle.tap.specs.Rounding.{toNearest, nearestWhole}

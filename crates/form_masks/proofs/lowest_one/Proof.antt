@@ -1,6 +1,5 @@
 -- `form_masks::lowest_one` meets its contract. Assumes nothing.
 use Rattle.form_masks.proofs.Overlap.{Scan, scan-start, scan-room, scan-next, scan-end}
-use Prim.Native.Nat.{_-_}
 use native.Mathlib.Omega.{arith}
 use Rattle.form_masks.proofs.lowest_one.Statement.{statement}
 use Rattle.form_masks.proofs.lowest_one.Tie as tie

@@ -1,7 +1,6 @@
 -- `network_tables::build_accepted` meets its contract. Assumes nothing.
 use borrow.Author.Needs.{needs}
 use mathlib.Core.Path.{_≡_}
-use Prim.Native.Nat.{_-_}
 use native.Mathlib.Omega.{arith}
 use lib.ListN.{length}
 use Rattle.network_tables.specs.Plan.{Planned}

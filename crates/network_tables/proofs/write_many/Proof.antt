@@ -1,7 +1,7 @@
 -- `network_tables::write_many` meets its contract. Assumes nothing.
 use borrow.Author.Needs.{needs}
 use mathlib.Core.Path.{refl}
-use Prim.Native.Nat.{ℕ, _-_, _≤_, _<_}
+use Prim.Native.Nat.{ℕ}
 use lib.Dec.{lit<, lit≤}
 use lib.ListN.{replicate}
 use Rattle.row_index.proofs.Empty.{indexed-none}

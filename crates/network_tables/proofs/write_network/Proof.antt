@@ -1,6 +1,5 @@
 -- `network_tables::write_network` meets its contract. Assumes nothing.
 use borrow.Author.Needs.{needs}
-use Prim.Native.Nat.{_-_}
 use native.Mathlib.Omega.{arith}
 use Rattle.network_tables.proofs.Plans.{can-start, written}
 use Rattle.network_tables.proofs.write_network.Statement.{statement}

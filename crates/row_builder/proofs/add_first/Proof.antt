@@ -1,7 +1,6 @@
 -- `row_builder::add_first` meets its contract. Assumes nothing.
 use borrow.Author.Needs.{needs}
 use mathlib.Core.Path.{refl}
-use Prim.Native.Nat.{_-_}
 use native.Mathlib.Omega.{arith}
 use Rattle.refusal.specs.Answer.{lowestFrom}
 use Rattle.sequence.specs.UpTo.{upTo}

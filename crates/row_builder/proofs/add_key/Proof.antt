@@ -1,7 +1,7 @@
 -- `row_builder::add_key` meets its contract. Assumes nothing.
 use borrow.Author.Needs.{needs}
 use mathlib.Core.Path.{_≡_, sym, ap₂, subst}
-use Prim.Native.Nat.{ℕ, _-_}
+use Prim.Native.Nat.{ℕ}
 use lib.ListN.{length, getD}
 use Rattle.network.specs.Rows.{rowsOf}
 use Rattle.building.specs.Parts.{Part}

@@ -1,7 +1,6 @@
 -- `tap_rows::row_of` meets its contract. Assumes nothing.
 use borrow.Author.Needs.{needs}
 use mathlib.Core.Path.{_≡_, sym, ap, _∙_}
-use Prim.Native.Nat.{_-_}
 use native.Mathlib.Omega.{arith}
 use Rattle.refusal.specs.Answer.{placeOr, at-place}
 use Rattle.network.specs.Rows.{rowsOf}

@@ -1,6 +1,5 @@
 -- `tap_rows::write_tap_row` meets its contract. Assumes nothing.
 use borrow.Author.Needs.{needs}
-use Prim.Native.Nat.{_-_}
 use native.Mathlib.Omega.{arith}
 use lib.ListN.{length-set}
 use Rattle.tap_rows.proofs.write_tap_row.Statement.{statement}
