@@ -1,5 +1,5 @@
 -- What building answers and leaves, check by check. Assumes nothing.
-use mathlib.Core.Path.{_≡_, refl, ap, _∙_}
+use mathlib.Core.Path.{_≡_, refl, sym, ap, _∙_}
 use mathlib.Core.Bool.{Bool, true, false, _||_}
 use mathlib.Core.List.{List}
 use Prim.Native.Nat.{ℕ, _*_, _≤_, _<_}
@@ -10,25 +10,31 @@ use lib.ListN.{length}
 use Rattle.refusal.specs.Answer.{Answer, given, refused, filled}
 use Rattle.network.specs.Rows.{Network, rowWords, tapWords}
 use Rattle.network.specs.Check.{shortTables}
-use Rattle.building.specs.Steps.{builtRows}
 use Rattle.building.specs.TapRows.{built}
 use Rattle.building.specs.Answer.{buildAnswer, rowCount}
 use Rattle.building.specs.Tables.{wordsOfRows, wordsOfTapRows}
 use Rattle.building.proofs.Answers.{short}
 use Rattle.network_tables.specs.Plan.{Written}
+use Rattle.builder.specs.Built.{BuiltInto}
 
--- ---- the entry's three statements, from what building answers
-abbrev pub Says : Answer ℕ → Answer Network → List ℕ → List ℕ → List ℕ → List ℕ → List ℕ → List ℕ → Type 0
-Says r b rowWords tapWords rows taps rows′ taps′ = (r ≡ rowCount b) × ((rows′ ≡ filled b rowWords rows) × (taps′ ≡ filled b tapWords taps))
-
-pub turned-down : (b : Answer Network) (number place : ℕ) (u v rows taps : List ℕ) → b ≡ refused number place → Says (refused number place) b u v rows taps rows taps
-turned-down b number place u v rows taps e = rw e (refl, (refl, refl))
+-- ---- the entry's contract, from what building answers
 
 module _ (cs : List ℤ) (ks rows taps : List ℕ) where
+  pub turned-down : (number place : ℕ) → buildAnswer cs ks rows taps ≡ refused number place → BuiltInto cs ks rows taps (refused number place) rows taps
+  turned-down number place e = record {
+    answer = sym (ap rowCount e);
+    rows-left = sym (ap (λ (b : Answer Network). filled b (wordsOfRows (built cs ks .rows)) rows) e);
+    taps-left = sym (ap (λ (b : Answer Network). filled b (wordsOfTapRows (built cs ks .taps)) taps) e);
+  }
+
   pub network-left : (rows′ taps′ : List ℕ) (n : ℕ) → buildAnswer cs ks rows taps ≡ given (built cs ks) → Written cs ks rows taps rows′ taps′ n
-      → Says (given n) (buildAnswer cs ks rows taps) (wordsOfRows (builtRows cs ks)) (wordsOfTapRows (built cs ks .taps)) rows taps rows′ taps′
+      → BuiltInto cs ks rows taps (given n) rows′ taps′
   unfolding built
-  network-left rows′ taps′ n e w = rw e (ap given (w .count), (w .rows-are, w .taps-are))
+  network-left rows′ taps′ n e w = record {
+    answer = ap given (w .count) ∙ sym (ap rowCount e);
+    rows-left = w .rows-are ∙ sym (ap (λ (b : Answer Network). filled b (wordsOfRows (built cs ks .rows)) rows) e);
+    taps-left = w .taps-are ∙ sym (ap (λ (b : Answer Network). filled b (wordsOfTapRows (built cs ks .taps)) taps) e);
+  }
 
   -- ---- check 3
   or-true : (a : Bool) → a || true ≡ true

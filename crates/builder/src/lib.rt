@@ -1,11 +1,6 @@
 // A network built from coefficients and chosen forms.
-ghost use mathlib.Core.Path.{_≡_};
-ghost use Rattle.refusal.specs.Answer.{filled};
-ghost use Rattle.building.specs.Steps.{builtRows};
-ghost use Rattle.building.specs.TapRows.{built};
-ghost use Rattle.building.specs.Answer.{buildAnswer, rowCount};
-ghost use Rattle.building.specs.Tables.{wordsOfRows, wordsOfTapRows};
 ghost use Rattle.builder.specs.Answer.{answerOf};
+ghost use Rattle.builder.specs.Built.{BuiltInto};
 use refusal::Refusal;
 
 // The number of rows, or a refusal.
@@ -17,9 +12,7 @@ pub enum Built {
 // Builds the network of the coefficients, each with the form chosen for it, into the two tables, and
 // returns the number of rows. The tables are written only where all is accepted.
 pub fn build(coefficients: &[i32], choices: &[u32], rows: &mut [u32], taps: &mut [u32]) -> Built
-    ensures answer { λ r. ⌜ answerOf r ≡ rowCount (buildAnswer (now (coefficients .entry)) (now (choices .entry)) (now (rows .entry)) (now (taps .entry))) ⌝ }
-    ensures rows { λ r. ⌜ now (rows .exit) ≡ filled (buildAnswer (now (coefficients .entry)) (now (choices .entry)) (now (rows .entry)) (now (taps .entry))) (wordsOfRows (builtRows (now (coefficients .entry)) (now (choices .entry)))) (now (rows .entry)) ⌝ }
-    ensures taps { λ r. ⌜ now (taps .exit) ≡ filled (buildAnswer (now (coefficients .entry)) (now (choices .entry)) (now (rows .entry)) (now (taps .entry))) (wordsOfTapRows (built (now (coefficients .entry)) (now (choices .entry)) .taps)) (now (taps .entry)) ⌝ }
+    ensures { λ r. ⌜ BuiltInto (now (coefficients .entry)) (now (choices .entry)) (now (rows .entry)) (now (taps .entry)) (answerOf r) (now (rows .exit)) (now (taps .exit)) ⌝ }
 {
     let n = coefficients.len();
     if n == 0 {

@@ -17,9 +17,13 @@ use Rattle.convolution.specs.Sums.{outputSums, registerSum, held}
 use Rattle.convolution.proofs.Steps.{length-registers, drop-registers, length-sums}
 use Rattle.convolution.proofs.Theorems.{Holds, Cleared, holds-after, within-after, register-exact, outputs-exact}
 use Rattle.network.specs.Check.{outcome}
-use Rattle.filter.specs.Run.{runOutputs}
-use Rattle.filter.specs.Memory.{Lending, lent, after, memory}
+use Rattle.filter.specs.Run.{runRegisters, runOutputs}
+use Rattle.filter.specs.Memory.{Lending, lent, overwritten, memory}
 use Rattle.filter.proofs.Stretches.{length-lent, same-memory, first-256, past-256, held-lent, beyond-stays, registers-new, held-first, length-first}
+
+-- the memory after a call that was answered so, by what `run` leaves
+abbrev pub afterBy : Answer (List ℤ) → List ℕ → Lending → List ℕ
+afterBy a r l = overwritten (l .start) (runRegisters a (l .call .samples) (lent r l)) (memory r l)
 
 -- what is so between two calls, after the samples xs: 256 registers, the sums over xs modulo 2^64
 pub record Between (h : List ℤ) (r₀ : List ℕ) (xs : List ℤ) (r : List ℕ) : Type 0 where
@@ -57,13 +61,13 @@ module _ (h : List ℤ) (few : length h ≤ 256) (sized : Within w32 h) (r₀ : 
           let e = length-lent r (l .beyond) (b .size) (l .start) (l .call .registers) room in
           length-registers h (lent r l) ys (omega arith) ∙ e
 
-      accepted-first : take 256 (after (given h) r l) ≡ take 256 new
+      accepted-first : take 256 (afterBy (given h) r l) ≡ take 256 new
       accepted-first = registers-new r (l .beyond) (b .size) (l .start) (l .call .registers) whole fits new long length-new (drop-registers h (lent r l) ys)
 
-      accepted-holds : Holds h r₀ (xs ++ ys) (take 256 (after (given h) r l))
+      accepted-holds : Holds h r₀ (xs ++ ys) (take 256 (afterBy (given h) r l))
       accepted-holds k = ap (λ t. held t k) accepted-first ∙ held-first new k ∙ holds-after h few r₀ ys xs (lent r l) lent-holds k
 
-      accepted-size : length (take 256 (after (given h) r l)) ≡ 256
+      accepted-size : length (take 256 (afterBy (given h) r l)) ≡ 256
       accepted-size = ap length accepted-first ∙ length-first new (omega (arith, length-new))
 
     -- an accepted call lends 256 registers from the first on and is handed a network with the coefficients h
@@ -71,14 +75,14 @@ module _ (h : List ℤ) (few : length h ≤ 256) (sized : Within w32 h) (r₀ : 
     Told a = (g : List ℤ) → a ≡ given g → ((256 ≤ l .call .registers) × (l .start ≡ 0)) × (g ≡ h)
 
     -- the memory after a call that was turned down
-    refused-memory : (number place : ℕ) → after (refused number place) r l ≡ memory r l
+    refused-memory : (number place : ℕ) → afterBy (refused number place) r l ≡ memory r l
     refused-memory number place = same-memory r (l .beyond) (b .size) (l .start) (l .call .registers) room
 
-    pub between : (a : Answer (List ℤ)) → Told a → Between h r₀ (stored a (λ (g : List ℤ). xs ++ ys) xs) (take 256 (after a r l))
+    pub between : (a : Answer (List ℤ)) → Told a → Between h r₀ (stored a (λ (g : List ℤ). xs ++ ys) xs) (take 256 (afterBy a r l))
     between (given g) t =
         let long = t g refl .0 .0 in
         let whole = t g refl .0 .1 in
-        subst (λ (f : List ℤ). Between h r₀ (xs ++ ys) (take 256 (after (given f) r l))) (sym (t g refl .1))
+        subst (λ (f : List ℤ). Between h r₀ (xs ++ ys) (take 256 (afterBy (given f) r l))) (sym (t g refl .1))
         (record { size = accepted-size long whole; samples = within-after ys xs (b .samples) fit; holds = accepted-holds long whole })
     between (refused number place) t =
         subst (Between h r₀ xs) (sym (ap (take 256) (refused-memory number place) ∙ first-256 r (l .beyond) (b .size))) b
@@ -91,10 +95,10 @@ module _ (h : List ℤ) (few : length h ≤ 256) (sized : Within w32 h) (r₀ : 
         (sym (length-sums h xs ys))
     outputs (refused number place) t = refl
 
-    pub beyond : (a : Answer (List ℤ)) → Told a → drop 256 (after a r l) ≡ l .beyond
+    pub beyond : (a : Answer (List ℤ)) → Told a → drop 256 (afterBy a r l) ≡ l .beyond
     beyond (given g) t =
         let long = t g refl .0 .0 in
         let whole = t g refl .0 .1 in
-        ap (λ (f : List ℤ). drop 256 (after (given f) r l)) (t g refl .1)
+        ap (λ (f : List ℤ). drop 256 (afterBy (given f) r l)) (t g refl .1)
         ∙ beyond-stays r (l .beyond) (b .size) (l .start) (l .call .registers) whole (fits long whole) (new long whole) long (length-new long whole) (drop-registers h (lent r l) ys)
     beyond (refused number place) t = ap (drop 256) (refused-memory number place) ∙ past-256 r (l .beyond) (b .size)

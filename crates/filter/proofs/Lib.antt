@@ -3,3 +3,4 @@ pub mod Stretches
 pub mod Calls
 pub mod Theorem
 pub mod Figures
+pub mod Example

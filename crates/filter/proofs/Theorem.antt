@@ -20,13 +20,13 @@ use Rattle.network.specs.Rows.{Network, networkOf, tapRowAt}
 use Rattle.network.specs.Check.{networkAnswer, outcome}
 use Rattle.network.proofs.Passed.{Passed, Accepted, given-accepted, accepted-given}
 use Rattle.network.proofs.Given.{given-length, given-fits, same-coefficients}
-use Rattle.filter.specs.Run.{runOutputs}
+use Rattle.filter.specs.Run.{runAnswer, runRegisters, runOutputs}
 use Rattle.filter.specs.Call.{Call, networkIn, tableAnswer, joined, saidOf, saidFrom}
-use Rattle.filter.specs.Memory.{Lending, due, dueAll, lent, answered, after, found, foundFrom}
-use Rattle.filter.specs.Demand.{Fair, EachFair, FullLength, Demand}
+use Rattle.filter.specs.Memory.{Lending, Step, RanFrom, Trace, due, dueAll, lent, after, found, foundFrom, overwritten, memory}
+use Rattle.filter.specs.Demand.{Fair, EachFair, FullLength, Calls, Demand}
 use Rattle.filter.proofs.Answers.{or-first}
 use Rattle.filter.proofs.Stretches.{length-lent}
-use Rattle.filter.proofs.Calls.{Between, between, outputs, beyond, registers-are}
+use Rattle.filter.proofs.Calls.{afterBy, Between, between, outputs, beyond, registers-are}
 
 cleared : Cleared (replicate 256 0)
 cleared k = by k (ltb k 256) refl
@@ -57,8 +57,13 @@ module _ (h : List ℤ) (rows : List ℕ) (n : ℕ) (taps : List ℕ) (m : ℕ) 
 
   -- ---- one call
 
-  module _ (xs : List ℤ) (r : List ℕ) (b : Between h (replicate 256 0) xs r) (l : Lending) (f : Fair net l) where
-    same : answered r l ≡ tableAnswer (l .call)
+  module _ (xs : List ℤ) (r : List ℕ) (b : Between h (replicate 256 0) xs r) (s : Step) (f : Fair net (s .lending))
+      (ran : RanFrom r (s .lending) (s .answer) (s .registers) (s .outputs)) where
+    abbrev l : Lending
+    l = s .lending
+
+    -- the answer by the lengths of what was lent is the table's
+    same : runAnswer (l .call .rows) (l .call .rowCount) (l .call .taps) (l .call .tapCount) (l .call .samples) (length (lent r l)) (length (l .held)) ≡ tableAnswer (l .call)
     same = rw (length-lent r (l .beyond) (b .size) (l .start) (l .call .registers) (f .registers), f .outputs)
 
     told : (g : List ℤ) → tableAnswer (l .call) ≡ given g → ((256 ≤ l .call .registers) × (l .start ≡ 0)) × (g ≡ h)
@@ -70,35 +75,41 @@ module _ (h : List ℤ) (rows : List ℕ) (n : ℕ) (taps : List ℕ) (m : ℕ) 
           same-coefficients short false (c .rows) rows (c .rowCount) n (c .taps) taps (c .tapCount) m g h (f .network g e) e built,
         )
 
-    after-one : Between h (replicate 256 0) (joined xs (l .call)) (take 256 (after (answered r l) r l))
+    -- what the contract leaves
+    left : after r s ≡ afterBy (tableAnswer (l .call)) r l
+    left =
+        ap (λ (p : List ℕ). overwritten (l .start) p (memory r l)) (ran .registers)
+        ∙ ap (λ (a : Answer (List ℤ)). afterBy a r l) same
+
+    after-one : Between h (replicate 256 0) (joined xs (l .call)) (take 256 (after r s))
     after-one =
-        subst (λ (a : Answer (List ℤ)). Between h (replicate 256 0) (joined xs (l .call)) (take 256 (after a r l))) (sym same)
+        subst (λ (m : List ℕ). Between h (replicate 256 0) (joined xs (l .call)) (take 256 m)) (sym left)
         (between h few sized (replicate 256 0) cleared xs r b l (f .registers) (f .samples) (tableAnswer (l .call)) told)
 
-    outputs-one : found (answered r l) r l .outputs ≡ due (saidOf h xs (l .call)) l .outputs
+    outputs-one : s .outputs ≡ due (saidOf h xs (l .call)) l .outputs
     outputs-one =
-        ap (λ (a : Answer (List ℤ)). runOutputs a (l .call .samples) (lent r l) (l .held)) same
+        ran .outputs ∙ ap (λ (a : Answer (List ℤ)). runOutputs a (l .call .samples) (lent r l) (l .held)) same
         ∙ outputs h few sized (replicate 256 0) cleared xs r b l (f .registers) (f .samples) (tableAnswer (l .call)) told
 
-    registers-one : found (answered r l) r l .registers ≡ due (saidOf h xs (l .call)) l .registers
-    registers-one = registers-are h few sized (replicate 256 0) cleared (joined xs (l .call)) (take 256 (after (answered r l) r l)) after-one
+    registers-one : found r s .registers ≡ due (saidOf h xs (l .call)) l .registers
+    registers-one = registers-are h few sized (replicate 256 0) cleared (joined xs (l .call)) (take 256 (after r s)) after-one
 
-    beyond-one : found (answered r l) r l .beyond ≡ due (saidOf h xs (l .call)) l .beyond
+    beyond-one : found r s .beyond ≡ due (saidOf h xs (l .call)) l .beyond
     beyond-one =
-        ap (λ (a : Answer (List ℤ)). drop 256 (after a r l)) same
+        ap (drop 256) left
         ∙ beyond h few sized (replicate 256 0) cleared xs r b l (f .registers) (f .samples) (tableAnswer (l .call)) told
 
-    found-one : found (answered r l) r l ≡ due (saidOf h xs (l .call)) l
-    found-one = λ t. record { answer = ap outcome same t; outputs = outputs-one t; registers = registers-one t; beyond = beyond-one t }
+    found-one : found r s ≡ due (saidOf h xs (l .call)) l
+    found-one = λ t. record { answer = (ran .answer ∙ ap outcome same) t; outputs = outputs-one t; registers = registers-one t; beyond = beyond-one t }
 
   -- ---- all calls
 
-  found-from : (ls : List Lending) (xs : List ℤ) (r : List ℕ) → Between h (replicate 256 0) xs r → EachFair net ls
-      → foundFrom r ls ≡ dueAll (saidFrom h xs (map (λ (l : Lending). l .call) ls)) ls
+  found-from : (ss : List Step) (xs : List ℤ) (r : List ℕ) → Between h (replicate 256 0) xs r → EachFair net ss → Trace r ss
+      → foundFrom r ss ≡ dueAll (saidFrom h xs (map (λ (s : Step). s .lending .call) ss)) (map (λ (s : Step). s .lending) ss)
   unfolding foundFrom dueAll saidFrom
-  found-from [] xs r b f = refl
-  found-from (l ∷ ls) xs r b f =
-      ap₂ _∷_ (found-one xs r b l (f .0)) (found-from ls (joined xs (l .call)) (take 256 (after (answered r l) r l)) (after-one xs r b l (f .0)) (f .1))
+  found-from [] xs r b f t = refl
+  found-from (s ∷ ss) xs r b f t =
+      ap₂ _∷_ (found-one xs r b s (f .0) (t .0)) (found-from ss (joined xs (s .lending .call)) (take 256 (after r s)) (after-one xs r b s (f .0) (t .0)) (f .1) (t .1))
 
   start : Between h (replicate 256 0) [] (replicate 256 0)
   start =
@@ -126,5 +137,5 @@ module _ (h : List ℤ) (rows : List ℕ) (n : ℕ) (taps : List ℕ) (m : ℕ) 
 
   -- for every list of calls: "Take any list of running calls, refused ones included, on one set of registers cleared at the start, each accepted call
   -- with that network"
-  pub running-sums : (ls : List Lending) → EachFair net ls → Demand h net ls
-  running-sums ls f = record { sums = found-from ls [] (replicate 256 0) start f; accepts = accepts }
+  pub running-sums : (ss : List Step) → Calls net ss → Demand h net ss
+  running-sums ss c = record { sums = found-from ss [] (replicate 256 0) start (c .fair) (c .ran); accepts = accepts }

@@ -10,7 +10,7 @@ use Rattle.refusal.specs.Answer.{given}
 use Rattle.convolution.specs.Bounds.{Within}
 use Rattle.network.specs.Rows.{Network, rowWords, tapWords}
 use Rattle.filter.specs.Call.{Call, networkIn, tableAnswer, said}
-use Rattle.filter.specs.Memory.{Lending, dueAll, foundAll}
+use Rattle.filter.specs.Memory.{Lending, Step, Trace, dueAll, foundFrom, cleared}
 
 -- a call of the list, where net is the network that was built
 pub record Fair (net : Network) (l : Lending) : Type 0 where
@@ -24,9 +24,9 @@ pub record Fair (net : Network) (l : Lending) : Type 0 where
   -- "every accepted call is handed the built network and no other"; a refused one may be handed anything
   pub network : (g : List ℤ) → tableAnswer (l .call) ≡ given g → networkIn (l .call) ≡ net
 
-abbrev pub EachFair : Network → List Lending → Type 0
+abbrev pub EachFair : Network → List Step → Type 0
 EachFair net [] = Unit {0}
-EachFair net (l ∷ ls) = Fair net l × EachFair net ls
+EachFair net (s ∷ ss) = Fair net (s .lending) × EachFair net ss
 
 -- no table that a call lends is under its length
 pub record FullLength (c : Call) : Type 0 where
@@ -35,9 +35,15 @@ pub record FullLength (c : Call) : Type 0 where
   pub registers : 256 ≤ c .registers
   pub outputs : length (c .samples) ≤ c .outputs
 
--- the demand on the calls ls with the network net, which was built for the coefficients h
-pub record Demand (h : List ℤ) (net : Network) (ls : List Lending) : Type 0 where
+-- "any list of running calls, refused ones included, on one set of registers cleared at the start, each accepted call with that network", and what they
+-- left
+pub record Calls (net : Network) (ss : List Step) : Type 0 where
+  pub ran : Trace cleared ss
+  pub fair : EachFair net ss
+
+-- the demand on such calls, where the network net was built for the coefficients h
+pub record Demand (h : List ℤ) (net : Network) (ss : List Step) : Type 0 where
   -- after each call is found what the sums say
-  pub sums : foundAll ls ≡ dueAll (said h (map (λ (l : Lending). l .call) ls)) ls
+  pub sums : foundFrom cleared ss ≡ dueAll (said h (map (λ (s : Step). s .lending .call) ss)) (map (λ (s : Step). s .lending) ss)
   -- and a call is not turned down that is handed the network in tables of full length
   pub accepts : (c : Call) → networkIn c ≡ net → FullLength c → tableAnswer c ≡ given h

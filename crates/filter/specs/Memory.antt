@@ -1,4 +1,4 @@
--- A list of running calls on one set of registers: what is in memory after each, by the contract of `run`. Definitions only.
+-- A list of running calls on one set of registers: what `run` may leave, and what is found in memory after each. Definitions only.
 use mathlib.Core.List.{List, [], _∷_, _++_, map}
 use Prim.Native.Nat.{ℕ, _+_}
 use lib.IntN.{ℤ}
@@ -6,8 +6,7 @@ use lib.ListN.{length, take, drop, replicate}
 use mir.Syntax.{w64}
 use mir.Val.{toZ}
 use Rattle.refusal.specs.Answer.{Answer, filled}
-use Rattle.network.specs.Check.{outcome}
-use Rattle.filter.specs.Run.{runAnswer, runRegisters, runOutputs}
+use Rattle.filter.specs.Run.{Ran}
 use Rattle.filter.specs.Call.{Call, Said}
 
 -- a call and the memory that it meets: where the part that is lent starts, what lies past the 256 registers, and what the lent outputs hold
@@ -34,7 +33,14 @@ dueAll [] ls = []
 dueAll (s ∷ ss) [] = []
 dueAll (s ∷ ss) (l ∷ ls) = due s l ∷ dueAll ss ls
 
--- ---- what is found, by the contract of `run`; "Each call gets the registers that the last one left"
+-- ---- a list of calls that were made: what each left
+
+-- a call with the memory that it met, its answer, and what it left in the part of the registers and in the outputs that were lent to it
+pub record Step : Type 0 where
+  pub lending : Lending
+  pub answer : Answer (Unit {0})
+  pub registers : List ℕ
+  pub outputs : List ℤ
 
 -- the registers r and what lies past them
 abbrev pub memory : List ℕ → Lending → List ℕ
@@ -44,30 +50,36 @@ memory r l = r ++ l .beyond
 abbrev pub lent : List ℕ → Lending → List ℕ
 lent r l = take (l .call .registers) (drop (l .start) (memory r l))
 
-abbrev pub answered : List ℕ → Lending → Answer (List ℤ)
-answered r l = runAnswer (l .call .rows) (l .call .rowCount) (l .call .taps) (l .call .tapCount) (l .call .samples) (length (lent r l)) (length (l .held))
-
 -- a table whose part from `start` on has become another
 abbrev pub overwritten : ℕ → List ℕ → List ℕ → List ℕ
 overwritten start part table = take start table ++ (part ++ drop (start + length part) table)
 
--- the memory after a call that was answered so
-abbrev pub after : Answer (List ℤ) → List ℕ → Lending → List ℕ
-after a r l = overwritten (l .start) (runRegisters a (l .call .samples) (lent r l)) (memory r l)
+-- the memory after a call that met the registers r
+abbrev pub after : List ℕ → Step → List ℕ
+after r s = overwritten (s .lending .start) (s .registers) (memory r (s .lending))
 
-abbrev pub found : Answer (List ℤ) → List ℕ → Lending → Found
-found a r l =
+-- the call answered and left what `run` may answer and leave
+abbrev pub RanFrom : List ℕ → Lending → Answer (Unit {0}) → List ℕ → List ℤ → Type 0
+RanFrom r l a r′ o′ = Ran (l .call .rows) (l .call .rowCount) (l .call .taps) (l .call .tapCount) (l .call .samples) (lent r l) (l .held) a r′ o′
+
+-- "Each call gets the registers that the last one left .. nobody else writes them meanwhile"
+abbrev pub Trace : List ℕ → List Step → Type 0
+Trace r [] = Unit {0}
+Trace r (s ∷ ss) = RanFrom r (s .lending) (s .answer) (s .registers) (s .outputs) × Trace (take 256 (after r s)) ss
+
+abbrev pub found : List ℕ → Step → Found
+found r s =
     record {
-      answer = outcome a;
-      outputs = runOutputs a (l .call .samples) (lent r l) (l .held);
-      registers = map (toZ w64) (take 256 (after a r l));
-      beyond = drop 256 (after a r l);
+      answer = s .answer;
+      outputs = s .outputs;
+      registers = map (toZ w64) (take 256 (after r s));
+      beyond = drop 256 (after r s);
     }
 
-unfoldable pub foundFrom : List ℕ → List Lending → List Found
+unfoldable pub foundFrom : List ℕ → List Step → List Found
 foundFrom r [] = []
-foundFrom r (l ∷ ls) = found (answered r l) r l ∷ foundFrom (take 256 (after (answered r l) r l)) ls
+foundFrom r (s ∷ ss) = found r s ∷ foundFrom (take 256 (after r s)) ss
 
 -- "when all 256 registers are 0"
-abbrev pub foundAll : List Lending → List Found
-foundAll ls = foundFrom (replicate 256 0) ls
+abbrev pub cleared : List ℕ
+cleared = replicate 256 0

@@ -1,9 +1,6 @@
 // Running samples through a network.
-ghost use mathlib.Core.Path.{_≡_};
-ghost use lib.ListN.{length};
-ghost use Rattle.network.specs.Check.{outcome};
 ghost use Rattle.network_check.specs.Checked.{answerOf};
-ghost use Rattle.filter.specs.Run.{runAnswer, runRegisters, runOutputs};
+ghost use Rattle.filter.specs.Run.{Ran};
 use network_check::Checked;
 
 // The outputs for the samples and the registers after them, where nothing is turned down. The
@@ -17,9 +14,8 @@ pub fn run(
     registers: &mut [u64],
     outputs: &mut [i64],
 ) -> Checked
-    ensures answer { λ r. ⌜ answerOf r ≡ outcome (runAnswer (now (rows .entry)) «row_count» (now (taps .entry)) «tap_count» (now (samples .entry)) (length (now (registers .entry))) (length (now (outputs .entry)))) ⌝ }
-    ensures moved { λ r. ⌜ now (registers .exit) ≡ runRegisters (runAnswer (now (rows .entry)) «row_count» (now (taps .entry)) «tap_count» (now (samples .entry)) (length (now (registers .entry))) (length (now (outputs .entry)))) (now (samples .entry)) (now (registers .entry)) ⌝ }
-    ensures written { λ r. ⌜ now (outputs .exit) ≡ runOutputs (runAnswer (now (rows .entry)) «row_count» (now (taps .entry)) «tap_count» (now (samples .entry)) (length (now (registers .entry))) (length (now (outputs .entry)))) (now (samples .entry)) (now (registers .entry)) (now (outputs .entry)) ⌝ }
+    ensures { λ r. ⌜ Ran (now (rows .entry)) «row_count» (now (taps .entry)) «tap_count» (now (samples .entry)) (now (registers .entry)) (now (outputs .entry))
+        (answerOf r) (now (registers .exit)) (now (outputs .exit)) ⌝ }
 {
     let mut h = [0i32; 256];
     let short = (registers.len() < 256) | (outputs.len() < samples.len());

@@ -1,13 +1,5 @@
 // Building a network: a function for C, declared in include/fir.h.
-ghost use mathlib.Core.Path.{_≡_};
-ghost use lib.ListN.{length};
-ghost use Rattle.refusal.specs.Answer.{filled, stored};
-ghost use Rattle.network.specs.Rows.{Network};
-ghost use Rattle.building.specs.Steps.{builtRows};
-ghost use Rattle.building.specs.TapRows.{built};
-ghost use Rattle.building.specs.Answer.{buildAnswer};
-ghost use Rattle.building.specs.Tables.{wordsOfRows, wordsOfTapRows};
-ghost use Rattle.fir_words.specs.Words.{refusalWord};
+ghost use Rattle.fir_build.specs.Built.{BuiltWord};
 use builder::Built;
 use fir_words::refusal_word;
 
@@ -20,10 +12,8 @@ pub extern "C" fn fir_build(
     taps: &mut [u32],
     row_count: &mut usize,
 ) -> u64
-    ensures answer { λ r. ⌜ r ≡ refusalWord (buildAnswer (now (coefficients .entry)) (now (choices .entry)) (now (rows .entry)) (now (taps .entry))) ⌝ }
-    ensures rows { λ r. ⌜ now (rows .exit) ≡ filled (buildAnswer (now (coefficients .entry)) (now (choices .entry)) (now (rows .entry)) (now (taps .entry))) (wordsOfRows (builtRows (now (coefficients .entry)) (now (choices .entry)))) (now (rows .entry)) ⌝ }
-    ensures taps { λ r. ⌜ now (taps .exit) ≡ filled (buildAnswer (now (coefficients .entry)) (now (choices .entry)) (now (rows .entry)) (now (taps .entry))) (wordsOfTapRows (built (now (coefficients .entry)) (now (choices .entry)) .taps)) (now (taps .entry)) ⌝ }
-    ensures count { λ r. ⌜ now («row_count» .exit) ≡ stored (buildAnswer (now (coefficients .entry)) (now (choices .entry)) (now (rows .entry)) (now (taps .entry))) (λ (net : Network). length (net .rows)) (now («row_count» .entry)) ⌝ }
+    ensures { λ r. ⌜ BuiltWord (now (coefficients .entry)) (now (choices .entry)) (now (rows .entry)) (now (taps .entry)) (now («row_count» .entry))
+        r (now (rows .exit)) (now (taps .exit)) (now («row_count» .exit)) ⌝ }
 {
     let answer = builder::build(coefficients, choices, rows, taps);
     match answer {

@@ -1,17 +1,16 @@
 // Minimal signed-digit forms: functions for C, declared in include/fir.h.
 ghost use mathlib.Core.Path.{_≡_};
-ghost use mathlib.Core.List.{map};
 ghost use Prim.Native.Nat.{ℕ};
 ghost use lib.IntN.{ℤ};
 ghost use lib.ListN.{length};
-ghost use Rattle.refusal.specs.Answer.{filled, stored};
+ghost use Rattle.refusal.specs.Answer.{stored};
 ghost use Rattle.signed_digit.specs.Masks.{plusMask, minusMask};
 ghost use Rattle.signed_digit.specs.CanonicalForm.{canonical};
 ghost use Rattle.signed_digit.specs.Forms.{listing};
 ghost use Rattle.form_masks.specs.Value.{valueOf};
 ghost use Rattle.form_masks.specs.Weight.{weightOf};
-ghost use Rattle.form_listing.specs.Listing.{formCount};
 ghost use Rattle.fir_words.specs.Words.{refusalWord, formOf};
+ghost use Rattle.fir_forms.specs.Listing.{AnsweredWord};
 use fir_words::refusal_word;
 use form_listing::Listing;
 use form_masks::Form;
@@ -71,10 +70,7 @@ pub extern "C" fn fir_minimal_forms(
     minus: &mut [u32],
     count: &mut u32,
 ) -> u64
-    ensures answer { λ r. ⌜ r ≡ refusalWord (formCount n (length (now (plus .entry))) (length (now (minus .entry)))) ⌝ }
-    ensures plus { λ r. ⌜ now (plus .exit) ≡ filled (formCount n (length (now (plus .entry))) (length (now (minus .entry)))) (map plusMask (listing 32 n)) (now (plus .entry)) ⌝ }
-    ensures minus { λ r. ⌜ now (minus .exit) ≡ filled (formCount n (length (now (plus .entry))) (length (now (minus .entry)))) (map minusMask (listing 32 n)) (now (minus .entry)) ⌝ }
-    ensures count { λ r. ⌜ now (count .exit) ≡ stored (formCount n (length (now (plus .entry))) (length (now (minus .entry)))) (λ (k : ℕ). k) (now (count .entry)) ⌝ }
+    ensures { λ r. ⌜ AnsweredWord n (now (plus .entry)) (now (minus .entry)) (now (count .entry)) r (now (plus .exit)) (now (minus .exit)) (now (count .exit)) ⌝ }
 {
     let answer = form_listing::minimal_forms(n, plus, minus);
     match answer {

@@ -8,8 +8,8 @@ ghost use Rattle.network.specs.Rows.{networkOf};
 ghost use Rattle.network.specs.Coefficients.{coefficients};
 ghost use Rattle.network.specs.Check.{networkAnswer};
 ghost use Rattle.network_check.specs.Checked.{answerOf};
-ghost use Rattle.filter.specs.Run.{runAnswer, runRegisters, runOutputs};
 ghost use Rattle.fir_words.specs.Words.{refusalWord};
+ghost use Rattle.fir_networks.specs.Run.{RanWord};
 use network_check::Checked;
 
 fn checked_word(answer: Checked) -> u64
@@ -55,9 +55,8 @@ pub extern "C" fn fir_run(
     registers: &mut [u64],
     outputs: &mut [i64],
 ) -> u64
-    ensures answer { λ r. ⌜ r ≡ refusalWord (runAnswer (now (rows .entry)) «row_count» (now (taps .entry)) «tap_count» (now (samples .entry)) (length (now (registers .entry))) (length (now (outputs .entry)))) ⌝ }
-    ensures moved { λ r. ⌜ now (registers .exit) ≡ runRegisters (runAnswer (now (rows .entry)) «row_count» (now (taps .entry)) «tap_count» (now (samples .entry)) (length (now (registers .entry))) (length (now (outputs .entry)))) (now (samples .entry)) (now (registers .entry)) ⌝ }
-    ensures written { λ r. ⌜ now (outputs .exit) ≡ runOutputs (runAnswer (now (rows .entry)) «row_count» (now (taps .entry)) «tap_count» (now (samples .entry)) (length (now (registers .entry))) (length (now (outputs .entry)))) (now (samples .entry)) (now (registers .entry)) (now (outputs .entry)) ⌝ }
+    ensures { λ r. ⌜ RanWord (now (rows .entry)) «row_count» (now (taps .entry)) «tap_count» (now (samples .entry)) (now (registers .entry)) (now (outputs .entry))
+        r (now (registers .exit)) (now (outputs .exit)) ⌝ }
 {
     checked_word(filter::run(
         rows,

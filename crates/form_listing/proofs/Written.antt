@@ -19,9 +19,7 @@ use Rattle.signed_digit.specs.Coefficient.{Coefficient}
 use Rattle.signed_digit.specs.Forms.{listing}
 use Rattle.signed_digit.proofs.Demand.{ListingComplete, listing-complete}
 use Rattle.signed_digit.proofs.Masks.{masks-string}
-use Rattle.form_listing.specs.declared.Listing.{Listing}
-use Rattle.form_listing.specs.declared.Listing.the-variants.{Count, Refused}
-use Rattle.form_listing.specs.Listing.{formCount, answerOf}
+use Rattle.form_listing.specs.Listing.{Answered}
 use Rattle.form_listing.proofs.Entry.{long-enough}
 
 -- two mask tables read as forms, element by element
@@ -29,12 +27,6 @@ abbrev pub readBack : List ℕ → List ℕ → List DigitString
 readBack [] ys = []
 readBack (x ∷ xs) [] = []
 readBack (x ∷ xs) (y ∷ ys) = fromMasks 32 x y ∷ readBack xs ys
-
--- `minimal_forms` of n answers, and leaves plus′ and minus′ in the tables plus and minus: its contract, as src/lib.rt has it
-pub record Answered (n : ℤ) (answer : Listing) (plus minus plus′ minus′ : List ℕ) : Type 0 where
-  pub count : answerOf answer ≡ formCount n (length plus) (length minus)
-  pub plus-table : plus′ ≡ filled (formCount n (length plus) (length minus)) (map plusMask (listing 32 n)) plus
-  pub minus-table : minus′ ≡ filled (formCount n (length plus) (length minus)) (map minusMask (listing 32 n)) minus
 
 -- The comments are the demand's words. l are the forms in the tables: as many as the entry returns, read back.
 pub record Complete (n : ℤ) (count : ℕ) (l : List DigitString) : Type 0 where
@@ -51,9 +43,9 @@ pub record Complete (n : ℤ) (count : ℕ) (l : List DigitString) : Type 0 wher
   pub held : length l ≡ count
   pub places : (s : DigitString) → List·Memᴰ s l → length s ≡ 32
 
-pub record Written (n : ℤ) (answer : Listing) (plus minus plus′ minus′ : List ℕ) : Type 0 where
+pub record Written (n : ℤ) (answer : Answer ℕ) (plus minus plus′ minus′ : List ℕ) : Type 0 where
   pub count : ℕ
-  pub returned : answer ≡ Count count
+  pub returned : answer ≡ given count
   pub is-listing : readBack (take count plus′) (take count minus′) ≡ listing 32 n
   pub complete : Complete n count (readBack (take count plus′) (take count minus′))
   -- "elements past those that the result fills are untouched"
@@ -66,10 +58,6 @@ read-masks [] h = refl
 read-masks (s ∷ l) h =
     ap₂ (λ (x : DigitString) (y : List DigitString). x ∷ y)
     (ap (λ (p : ℕ). fromMasks p (plusMask s) (minusMask s)) (sym (h s (List·Memᴰ·head refl))) ∙ masks-string s) (read-masks l (λ t m. h t (List·Memᴰ·tail m)))
-
-counted : (answer : Listing) (k : ℕ) → answerOf answer ≡ given k → answer ≡ Count k
-counted (Count c) k e = let q : c ≡ k = cc in ap Count q
-counted (Refused r) k e = let z : _≡_ {A = ℕ} 0 1 = cc in absurd (omega arith)
 
 of-listing : (n : ℤ) → Coefficient n → (l : List DigitString) → l ≡ listing 32 n → Complete n (length (listing 32 n)) l
 of-listing n c l e = subst (Complete n (length (listing 32 n))) (sym e) (record {
@@ -85,7 +73,7 @@ of-listing n c l e = subst (Complete n (length (listing 32 n))) (sym e) (record 
     w = listing-complete n c
 
 -- for every coefficient n, and all tables of 1,597 elements or more
-pub minimal-forms-written : (n : ℤ) → Coefficient n → (answer : Listing) (plus minus plus′ minus′ : List ℕ) → 1597 ≤ length plus → 1597 ≤ length minus
+pub minimal-forms-written : (n : ℤ) → Coefficient n → (answer : Answer ℕ) (plus minus plus′ minus′ : List ℕ) → 1597 ≤ length plus → 1597 ≤ length minus
     → Answered n answer plus minus plus′ minus′ → Written n answer plus minus plus′ minus′
 minimal-forms-written n c answer plus minus plus′ minus′ hp hm a =
     let l = listing 32 n in
@@ -95,7 +83,7 @@ minimal-forms-written n c answer plus minus plus′ minus′ hp hm a =
     let i = front plusMask plus plus′ P in
     let j = front minusMask minus minus′ M in
     let r = ap₂ readBack (i .0) (j .0) ∙ read-masks l (listing-complete n c .places) in
-    record { count = length l; returned = counted answer (length l) (a .count ∙ e); is-listing = r; complete = of-listing n c _ r; plus-past = i .1; minus-past = j .1 }
+    record { count = length l; returned = a .count ∙ e; is-listing = r; complete = of-listing n c _ r; plus-past = i .1; minus-past = j .1 }
   where
     front : (f : DigitString → ℕ) (t t′ : List ℕ) → t′ ≡ map f (listing 32 n) ++ drop (length (map f (listing 32 n))) t
         → (take (length (listing 32 n)) t′ ≡ map f (listing 32 n)) × (drop (length (listing 32 n)) t′ ≡ drop (length (listing 32 n)) t)

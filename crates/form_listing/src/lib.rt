@@ -3,11 +3,10 @@ ghost use mathlib.Core.Path.{_≡_};
 ghost use mathlib.Core.List.{_++_, map};
 ghost use Prim.Native.Nat.{_+_, _-_, _≤_, _<_, _/_, _%_, _^_};
 ghost use lib.ListN.{length, drop};
-ghost use Rattle.refusal.specs.Answer.{filled};
 ghost use Rattle.signed_digit.specs.Masks.{plusMask, minusMask};
 ghost use Rattle.signed_digit.specs.Forms.{listing};
 ghost use Rattle.form_links.specs.Growth.{grown};
-ghost use Rattle.form_listing.specs.Listing.{formCount, answerOf};
+ghost use Rattle.form_listing.specs.Listing.{answerOf, Answered};
 use form_walk::Walk;
 use form_walk::next;
 use form_walk::skip;
@@ -79,9 +78,7 @@ fn list(n: i32, plus: &mut [u32], minus: &mut [u32]) -> usize
 
 // The minimal forms of n, in order, in the front of the two tables.
 pub fn minimal_forms(n: i32, plus: &mut [u32], minus: &mut [u32]) -> Listing
-    ensures answer { λ r. ⌜ answerOf r ≡ formCount n (length (now (plus .entry))) (length (now (minus .entry))) ⌝ }
-    ensures plus { λ r. ⌜ now (plus .exit) ≡ filled (formCount n (length (now (plus .entry))) (length (now (minus .entry)))) (map plusMask (listing 32 n)) (now (plus .entry)) ⌝ }
-    ensures minus { λ r. ⌜ now (minus .exit) ≡ filled (formCount n (length (now (plus .entry))) (length (now (minus .entry)))) (map minusMask (listing 32 n)) (now (minus .entry)) ⌝ }
+    ensures { λ r. ⌜ Answered n (answerOf r) (now (plus .entry)) (now (minus .entry)) (now (plus .exit)) (now (minus .exit)) ⌝ }
 {
     if plus.len() < 1597 {
         return Listing::Refused(Refusal::ShortTable);

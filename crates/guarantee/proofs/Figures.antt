@@ -1,11 +1,11 @@
 -- The proved figures, one list.
-use mathlib.Core.Path.{_≡_, refl, ap, ap₂, _∙_}
+use mathlib.Core.Path.{_≡_, refl, sym, ap, ap₂, _∙_, subst}
 use mathlib.Core.List.{List, _∷_, _++_}
 use Prim.Native.Nat.{ℕ, zero, suc, _*_, _<_, _≤_}
 use native.Mathlib.Omega.{arith}
 use lib.Count.{trailingZeros}
 use lib.IntN.{ℤ, pos}
-use lib.ListN.{length, drop, replicate, getD, length-drop}
+use lib.ListN.{length, drop, replicate, getD, length-drop, length-replicate}
 use Rattle.refusal.specs.Answer.{Answer, given, filled}
 use Rattle.signed_digit.specs.Coefficient.{Coefficient}
 use Rattle.signed_digit.proofs.Figures.{figures}
@@ -13,14 +13,23 @@ use Rattle.coefficient.specs.Parts.{partsOf, oddPartOf, shiftOf}
 use Rattle.tap.proofs.Figures.{tap-figures}
 use Rattle.network.specs.Rows.{Network, rowWords, tapWords}
 use Rattle.building.specs.TapRows.{built}
-use Rattle.building.specs.Answer.{buildAnswer}
+use Rattle.building.specs.Answer.{buildAnswer, rowCount}
 use Rattle.building.specs.Tables.{wordsOfRows, wordsOfTapRows}
 use Rattle.building.proofs.Example.{example}
-use Rattle.filter.specs.Run.{runAnswer}
+use Rattle.builder.specs.Built.{BuiltInto}
+use Rattle.network.specs.Check.{outcome}
+use Rattle.sequence.specs.UpTo.{upTo}
+use Rattle.filter.specs.Run.{Ran, runAnswer, runOutputs}
+use Rattle.filter.specs.Memory.{cleared}
+use Rattle.filter.specs.Demand.{Calls}
+use Rattle.filter.specs.Example as Calling
+use Rattle.filter.specs.Example.{four}
+use Rattle.filter.proofs.Example as Called
+use Rattle.filter.proofs.Example.{stepsFrom}
 use Rattle.filter.proofs.Figures as Running
-use Rattle.guarantee.specs.Demand3.{Listed, Taken, rowsLeft, tapsLeft}
-use Rattle.guarantee.specs.Figures.{sheetTaps, noChoices, samples, SheetFilter, ProvedFigures}
-use Rattle.guarantee.proofs.Demand3.{demand-3}
+use Rattle.guarantee.specs.Demand3.{Listed, Taken}
+use Rattle.guarantee.specs.Figures.{sheetTaps, noChoices, samples, SheetFilter, SheetBuilt, SheetCalls, ProvedFigures}
+use Rattle.guarantee.proofs.Demand3.{can-build, demand-3}
 
 -- the sheet's taps and choices are such as demand 3 speaks of
 within : (tap : ℕ) → tap < length sheetTaps → Coefficient (getD sheetTaps tap (pos 0))
@@ -41,39 +50,100 @@ choices (suc (suc (suc (suc tap)))) h = absurd (omega arith)
 taken : Taken sheetTaps noChoices
 taken = record { from-1 = omega arith; to-256 = omega arith; within-bounds = within; one-per-tap = refl; listed = choices }
 
+abbrev rowsLeft : List ℕ → List ℕ → List ℕ
+rowsLeft rows taps = filled (buildAnswer sheetTaps noChoices rows taps) (wordsOfRows (built sheetTaps noChoices .rows)) rows
+
+abbrev tapsLeft : List ℕ → List ℕ → List ℕ
+tapsLeft rows taps = filled (buildAnswer sheetTaps noChoices rows taps) (wordsOfTapRows (built sheetTaps noChoices .taps)) taps
+
+-- there are tables that `build` leaves
+pub building : (cs : List ℤ) (ks rows taps : List ℕ) → BuiltInto cs ks rows taps (rowCount (buildAnswer cs ks rows taps))
+    (filled (buildAnswer cs ks rows taps) (wordsOfRows (built cs ks .rows)) rows) (filled (buildAnswer cs ks rows taps) (wordsOfTapRows (built cs ks .taps)) taps)
+building cs ks rows taps = record { answer = refl; rows-left = refl; taps-left = refl }
+
 module _ (rows taps : List ℕ) (lr : 4096 * rowWords ≤ length rows) (lt : 256 * tapWords ≤ length taps) where
   accepted : buildAnswer sheetTaps noChoices rows taps ≡ given (built sheetTaps noChoices)
-  accepted = demand-3 .networks sheetTaps noChoices rows taps taken lr lt .accepts
+  accepted = can-build sheetTaps noChoices rows taps taken lr lt
 
   -- the words in front of the tables
-  rows-left : rowsLeft sheetTaps noChoices rows taps ≡ 0 ∷ 0 ∷ 0 ∷ 43 ∷ 1 ∷ 0 ∷ 0 ∷ 1 ∷ 43 ∷ 3 ∷ 1 ∷ 1 ∷ 4 ∷ 45 ∷ 45 ∷ drop 15 rows
+  rows-left : rowsLeft rows taps ≡ 0 ∷ 0 ∷ 0 ∷ 43 ∷ 1 ∷ 0 ∷ 0 ∷ 1 ∷ 43 ∷ 3 ∷ 1 ∷ 1 ∷ 4 ∷ 45 ∷ 45 ∷ drop 15 rows
   unfolding wordsOfRows
   rows-left =
       ap₂ (λ (a : Answer Network) (net : Network). filled a (wordsOfRows (net .rows)) rows) accepted example
 
-  taps-left : tapsLeft sheetTaps noChoices rows taps ≡ 43 ∷ 1 ∷ 0 ∷ 45 ∷ 1 ∷ 1 ∷ 43 ∷ 2 ∷ 0 ∷ 0 ∷ 0 ∷ 0 ∷ drop 12 taps
+  taps-left : tapsLeft rows taps ≡ 43 ∷ 1 ∷ 0 ∷ 45 ∷ 1 ∷ 1 ∷ 43 ∷ 2 ∷ 0 ∷ 0 ∷ 0 ∷ 0 ∷ drop 12 taps
   unfolding wordsOfTapRows
   taps-left =
       ap₂ (λ (a : Answer Network) (net : Network). filled a (wordsOfTapRows (net .taps)) taps) accepted example
 
-  module _ (beyond : List ℕ) (a b c : ℤ) (rest : List ℤ) where
-    sheet-filter : SheetFilter rows taps beyond a b c rest
-    sheet-filter =
-        let f = Running.sheet-filter (drop 15 rows) (drop 12 taps) beyond a b c rest (omega (arith, length-drop 15 rows)) (omega (arith, length-drop 12 taps)) in
-        record {
-          answer =
-              ap (λ (n : ℕ). runAnswer (rowsLeft sheetTaps noChoices rows taps) n (tapsLeft sheetTaps noChoices rows taps) 4 samples size room)
-              (ap (λ (net : Network). length (net .rows)) example)
-              ∙ ap₂ (λ (r t : List ℕ). runAnswer r 3 t 4 samples size room) rows-left taps-left
-              ∙ f .answer;
-          given-outputs = f .outputs;
-        }
-      where
-        size : ℕ
-        size = length (replicate 256 0 ++ beyond)
+  three-rows : rowCount (buildAnswer sheetTaps noChoices rows taps) ≡ given 3
+  three-rows = ap rowCount accepted ∙ ap (λ (net : Network). given (length (net .rows))) example
 
-        room : ℕ
-        room = length (a ∷ b ∷ c ∷ rest)
+  module _ (beyond : List ℕ) (a b c : ℤ) (rest : List ℤ) (n : ℕ) (rows′ taps′ : List ℕ) (left : BuiltInto sheetTaps noChoices rows taps (given n) rows′ taps′)
+      (answer : Answer (Unit {0})) (r′ : List ℕ) (o′ : List ℤ) (ran : Ran rows′ n taps′ 4 samples (replicate 256 0 ++ beyond) (a ∷ b ∷ c ∷ rest) answer r′ o′) where
+    count-is : n ≡ 3
+    count-is = let e = left .answer ∙ three-rows in cc
+
+    answered : runAnswer rows′ n taps′ 4 samples (length (replicate 256 0 ++ beyond)) (length (a ∷ b ∷ c ∷ rest)) ≡ given sheetTaps
+    answered =
+        ap (λ (k : ℕ). runAnswer rows′ k taps′ 4 samples (length (replicate 256 0 ++ beyond)) (length (a ∷ b ∷ c ∷ rest))) count-is
+        ∙ ap₂ (λ (u v : List ℕ). runAnswer u 3 v 4 samples (length (replicate 256 0 ++ beyond)) (length (a ∷ b ∷ c ∷ rest)))
+        (left .rows-left ∙ rows-left) (left .taps-left ∙ taps-left)
+        ∙ Running.sheet-filter (drop 15 rows) (drop 12 taps) beyond a b c rest (omega (arith, length-drop 15 rows)) (omega (arith, length-drop 12 taps)) .answer
+
+    sheet-filter : SheetFilter rest answer o′
+    sheet-filter = record {
+      accepted = ran .answer ∙ ap outcome answered;
+      given-outputs =
+          ran .outputs ∙ ap (λ (x : Answer (List ℤ)). runOutputs x samples (replicate 256 0 ++ beyond) (a ∷ b ∷ c ∷ rest)) answered
+          ∙ Running.sheet-filter (drop 15 rows) (drop 12 taps) beyond a b c rest (omega (arith, length-drop 15 rows)) (omega (arith, length-drop 12 taps)) .outputs;
+    }
+
+long-rows : 4096 * rowWords ≤ length (replicate {A = ℕ} 20480 0)
+long-rows = omega (arith, length-replicate {A = ℕ} 20480 0)
+
+long-taps : 256 * tapWords ≤ length (replicate {A = ℕ} 768 0)
+long-taps = omega (arith, length-replicate {A = ℕ} 768 0)
+
+sheet-built : SheetBuilt
+sheet-built = record {
+  rows′ = rowsLeft (replicate 20480 0) (replicate 768 0);
+  taps′ = tapsLeft (replicate 20480 0) (replicate 768 0);
+  taken = taken;
+  into = subst (λ (a : Answer ℕ). BuiltInto sheetTaps noChoices (replicate 20480 0) (replicate 768 0) a (rowsLeft (replicate 20480 0) (replicate 768 0)) (tapsLeft (replicate 20480 0) (replicate 768 0)))
+      (three-rows (replicate 20480 0) (replicate 768 0) long-rows long-taps) (building sheetTaps noChoices (replicate 20480 0) (replicate 768 0));
+}
+
+same-network : (r t : List ℕ) → Calling.sheet r t ≡ built sheetTaps noChoices
+unfolding upTo
+same-network r t = sym example
+
+sheet-calls : SheetCalls
+sheet-calls =
+    let r : List ℕ = replicate 20465 0 in
+    let t : List ℕ = replicate 756 0 in
+    let calls = subst (λ (net : Network). Calls net (stepsFrom cleared (four r t))) (same-network r t) (Called.example .calls) in
+    record {
+      steps = stepsFrom cleared (four r t);
+      lendings = Called.example .lendings;
+      calls = calls;
+      demand = demand-3 .networks sheetTaps noChoices (replicate 20480 0) (replicate 768 0) (given 3) (sheet-built .rows′) (sheet-built .taps′) taken long-rows long-taps (sheet-built .into) .sums
+          (stepsFrom cleared (four r t)) calls;
+      answers = Called.example .answers;
+      full-length = record {
+        rows = omega (arith, length-replicate {A = ℕ} 20465 0);
+        taps = omega (arith, length-replicate {A = ℕ} 756 0);
+        registers = omega arith;
+        outputs = omega arith;
+      };
+    }
 
 pub proved-figures : ProvedFigures
-proved-figures = record { forms = figures; taps = tap-figures; rows-of-the-sheet = example; sheet-filter = λ rows taps beyond a b c rest lr lt. sheet-filter rows taps lr lt beyond a b c rest }
+proved-figures = record {
+  forms = figures;
+  taps = tap-figures;
+  rows-of-the-sheet = example;
+  sheet-filter = λ rows taps beyond a b c rest lr lt. sheet-filter rows taps lr lt beyond a b c rest;
+  sheet-built = sheet-built;
+  sheet-calls = sheet-calls;
+}

@@ -123,7 +123,7 @@ module _ (cs : List ℤ) (h : Coefficients cs) where
     same-count a b e = cc
 
     pub printable : (n : ℕ) (rows′ taps′ : List ℕ) → given n ≡ rowCount (buildAnswer cs choices rows taps)
-        → rows′ ≡ filled (buildAnswer cs choices rows taps) (wordsOfRows (builtRows cs choices)) rows
+        → rows′ ≡ filled (buildAnswer cs choices rows taps) (wordsOfRows (built cs choices .rows)) rows
         → taps′ ≡ filled (buildAnswer cs choices rows taps) (wordsOfTapRows (built cs choices .taps)) taps → Printable n rows′ taps′
     unfolding built
     printable n rows′ taps′ e f g =

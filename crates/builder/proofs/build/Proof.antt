@@ -8,13 +8,11 @@ use lib.ListN.{length}
 use Rattle.refusal.specs.Answer.{nowhere, placeOr, refused}
 use Rattle.refusal.proofs.Checks.{found, found-none}
 use Rattle.network.specs.Rows.{rowWords, tapWords}
-use Rattle.building.specs.Steps.{builtRows}
-use Rattle.building.specs.TapRows.{built}
 use Rattle.building.specs.Answer.{Choice, choicesOf, noSuchForm, buildAnswer}
-use Rattle.building.specs.Tables.{wordsOfRows, wordsOfTapRows}
 use Rattle.building.proofs.Answers.{short, length-choices, missingForm, no-taps, too-many, too-short, no-form, network-given}
 use Rattle.network_tables.specs.Plan.{Accepted}
-use Rattle.builder.proofs.Answers.{Says, turned-down, network-left, short-choices, short-rows, short-taps, none-short}
+use Rattle.builder.specs.Built.{BuiltInto}
+use Rattle.builder.proofs.Answers.{turned-down, network-left, short-choices, short-rows, short-taps, none-short}
 use Rattle.builder.proofs.build.Statement.{statement}
 use Rattle.builder.proofs.build.Tie as tie
 
@@ -75,8 +73,8 @@ accepted c =
 
 -- a refusal leaves the tables as they were
 refusal : (s : tie.Start) (number place : ℕ) → buildAnswer (s .args .coefficients .now) (s .args .choices .now) (s .args .rows .now) (s .args .taps .now) ≡ refused number place
-    → Says (refused number place) (buildAnswer (s .args .coefficients .now) (s .args .choices .now) (s .args .rows .now) (s .args .taps .now)) (wordsOfRows (builtRows (s .args .coefficients .now) (s .args .choices .now))) (wordsOfTapRows (built (s .args .coefficients .now) (s .args .choices .now) .taps)) (s .args .rows .now) (s .args .taps .now) (s .args .rows .now) (s .args .taps .now)
-refusal s number place e = turned-down _ number place _ _ (s .args .rows .now) (s .args .taps .now) e
+    → BuiltInto (s .args .coefficients .now) (s .args .choices .now) (s .args .rows .now) (s .args .taps .now) (refused number place) (s .args .rows .now) (s .args .taps .now)
+refusal s number place e = turned-down (s .args .coefficients .now) (s .args .choices .now) (s .args .rows .now) (s .args .taps .now) number place e
 
 returns : tie.Need-returns
 returns c = let s = c .before .before .before .before in let a = s .args in refusal s 1 0 (no-taps (a .coefficients .now) (a .choices .now) (a .rows .now) (a .taps .now) (omega (arith, c .if1 .taken)))

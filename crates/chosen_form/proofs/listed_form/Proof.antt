@@ -55,10 +55,10 @@ returns c =
     let l = listing 32 (pos v) in
     let e = ap (λ (z : ℤ). listing 32 z) (toZ-ofZ w32 (pos v) (record { sfits = s .pre .0 })) in
     let rest : (DigitString → ℕ) → List ℕ = λ (f : DigitString → ℕ). drop (length (map f l)) (replicate {A = ℕ} 1597 0) in
-    let tables = m .minimal-forms .ensures .1 in
+    let tables = m .minimal-forms .ensures in
     ap₂ (λ (x y : ℕ). record { plus = x; minus = y })
-    (listed plusMask l (rest plusMask) (m .minimal-forms .last .1 .0) k refl (s .pre .1) (tables .0 ∙ ap (λ (x : List DigitString). map plusMask x ++ drop (length (map plusMask x)) (replicate {A = ℕ} 1597 0)) e))
-    (listed minusMask l (rest minusMask) (m .minimal-forms .last .1 .1 .0) k refl (s .pre .1) (tables .1 ∙ ap (λ (x : List DigitString). map minusMask x ++ drop (length (map minusMask x)) (replicate {A = ℕ} 1597 0)) e))
+    (listed plusMask l (rest plusMask) (m .minimal-forms .last .1 .0) k refl (s .pre .1) (tables .plus-table ∙ ap (λ (x : List DigitString). map plusMask x ++ drop (length (map plusMask x)) (replicate {A = ℕ} 1597 0)) e))
+    (listed minusMask l (rest minusMask) (m .minimal-forms .last .1 .1 .0) k refl (s .pre .1) (tables .minus-table ∙ ap (λ (x : List DigitString). map minusMask x ++ drop (length (map minusMask x)) (replicate {A = ℕ} 1597 0)) e))
 
 pub listed-form-spec : {M : Type 1} → statement M
 listed-form-spec =

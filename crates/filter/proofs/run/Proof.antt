@@ -78,25 +78,23 @@ returns c =
     let fe = c .before .before .before .feed in
     let t = c .before .before .before .before .before .before .before in
     let x = t .before .before in
-    let a = start x .args in (
-      x .examine .ensures .0,
-      (
-        fe .ensures .0 ∙ moved (answer (start x)) (held t .h) (buffer x) (held t .given-h) (held t .held) (a .registers .now) (a .samples .now),
-        fe .ensures .1 ∙ written (answer (start x)) (held t .h) (buffer x) (held t .given-h) (held t .held) (a .registers .now) (a .samples .now) (a .outputs .now),
-      ),
-    )
+    let a = start x .args in
+    record {
+      answer = x .examine .ensures .0;
+      registers = fe .ensures .0 ∙ moved (answer (start x)) (held t .h) (buffer x) (held t .given-h) (held t .held) (a .registers .now) (a .samples .now);
+      outputs = fe .ensures .1 ∙ written (answer (start x)) (held t .h) (buffer x) (held t .given-h) (held t .held) (a .registers .now) (a .samples .now) (a .outputs .now);
+    }
 
 returns-2 : tie.Need-returns-2
 returns-2 c =
     let x = c .before .before in
     let a = start x .args in
-    let e = ap isGiven (sym (x .examine .ensures .0)) ∙ sym (c .before .passes .ensures) ∙ c .if1 .left in (
-      x .examine .ensures .0,
-      (
-        kept-registers (answer (start x)) (a .registers .now) (a .samples .now) e,
-        kept-outputs (answer (start x)) (a .registers .now) (a .samples .now) (a .outputs .now) e,
-      ),
-    )
+    let e = ap isGiven (sym (x .examine .ensures .0)) ∙ sym (c .before .passes .ensures) ∙ c .if1 .left in
+    record {
+      answer = x .examine .ensures .0;
+      registers = kept-registers (answer (start x)) (a .registers .now) (a .samples .now) e;
+      outputs = kept-outputs (answer (start x)) (a .registers .now) (a .samples .now) (a .outputs .now) e;
+    }
 
 pub run-spec : {M : Type 1} → statement M
 run-spec = tie.close (tie.spec examine-requires passes-requires feed-requires same-length same-length-2 returns returns-2)

@@ -1,28 +1,16 @@
 -- `fir_build::fir_build` meets its contract. Assumes nothing.
 use borrow.Author.Needs.{needs}
-use mathlib.Core.Path.{_≡_, refl, sym, ap, _∙_}
+use mathlib.Core.Path.{sym, ap, _∙_}
 use Prim.Native.Nat.{ℕ}
-use lib.ListN.{length}
-use Rattle.refusal.specs.Answer.{Answer, given, refused, stored}
-use Rattle.network.specs.Rows.{Network}
-use Rattle.building.specs.Answer.{buildAnswer, rowCount}
+use Rattle.refusal.specs.Answer.{Answer, stored}
 use Rattle.builder.specs.Answer.{answerOf}
 use Rattle.fir_words.specs.Words.{refusalWord}
 use Rattle.fir_build.proofs.fir_build.Statement.{statement}
 use Rattle.fir_build.proofs.fir_build.Tie as tie
 
--- the number of rows tells as much of an answer as the network
-counted : ℕ → Answer ℕ → ℕ
+-- the lent row count after an answer
+abbrev counted : ℕ → Answer ℕ → ℕ
 counted old r = stored r (λ (k : ℕ). k) old
-
-word-of-count : (a : Answer Network) → refusalWord (rowCount a) ≡ refusalWord a
-word-of-count (given net) = refl
-word-of-count (refused number place) = refl
-
-count-of : (old : ℕ) (a : Answer Network) → counted old (rowCount a) ≡ stored a (λ (net : Network). length (net .rows)) old
-unfolding counted
-count-of old (given net) = refl
-count-of old (refused number place) = refl
 
 build-requires : tie.Need-build-requires
 build-requires c κs = search needs
@@ -46,13 +34,10 @@ same-length-2 : tie.Need-same-length-2
 same-length-2 c = search needs
 
 returns : tie.Need-returns
-unfolding counted
 returns c =
     let k = c .before .before .before .before .before .before .before .before in
-    let a = k .before .before .before .before .before .before .args in
-    let A = buildAnswer (a .coefficients .now) (a .choices .now) (a .rows .now) (a .taps .now) in
-    let e = ap answerOf (sym (c .before .before .answer .given .1)) ∙ k .build .ensures .0 in
-    (c .refusal-word .ensures ∙ ap refusalWord e ∙ word-of-count A, (k .build .ensures .1 .0, (k .build .ensures .1 .1, ap (counted (a .row-count .now)) e ∙ count-of (a .row-count .now) A)))
+    let e = ap answerOf (c .before .before .answer .given .1) in
+    record { answer = answerOf (k .build .result); word = c .refusal-word .ensures ∙ sym (ap refusalWord e); row-count = sym (ap (counted (k .before .before .before .before .before .before .args .row-count .now)) e); built = k .build .ensures }
 
 same-length-3 : tie.Need-same-length-3
 same-length-3 c = search needs
@@ -61,13 +46,10 @@ same-length-4 : tie.Need-same-length-4
 same-length-4 c = search needs
 
 returns-2 : tie.Need-returns-2
-unfolding counted
 returns-2 c =
     let k = c .before .before .before .before .before .before .before in
-    let a = k .before .before .before .before .before .before .args in
-    let A = buildAnswer (a .coefficients .now) (a .choices .now) (a .rows .now) (a .taps .now) in
-    let e = ap answerOf (sym (c .before .answer2 .given .1)) ∙ k .build .ensures .0 in
-    (ap refusalWord e ∙ word-of-count A, (k .build .ensures .1 .0, (k .build .ensures .1 .1, ap (counted (a .row-count .now)) e ∙ count-of (a .row-count .now) A)))
+    let e = ap answerOf (c .before .answer2 .given .1) in
+    record { answer = answerOf (k .build .result); word = sym (ap refusalWord e); row-count = sym (ap (counted (k .before .before .before .before .before .before .args .row-count .now)) e); built = k .build .ensures }
 
 pub fir-build-spec : {M : Type 1} → statement M
 fir-build-spec =

@@ -19,13 +19,13 @@ returns : tie.Need-returns
 returns c =
     let s = c .before .before .before in
     let e = plus-short (s .args .n) (length (s .args .plus .now)) (length (s .args .minus .now)) (omega (arith, c .if1 .taken)) in
-    (sym e, (untouched _ 3 0 _ (s .args .plus .now) e, untouched _ 3 0 _ (s .args .minus .now) e))
+    record { count = sym e; plus-table = untouched _ 3 0 _ (s .args .plus .now) e; minus-table = untouched _ 3 0 _ (s .args .minus .now) e }
 
 returns-2 : tie.Need-returns-2
 returns-2 c =
     let s = c .before .before .before .before in
     let e = minus-short (s .args .n) (length (s .args .plus .now)) (length (s .args .minus .now)) (omega (arith, c .before .if1 .left)) (omega (arith, c .if2 .taken)) in
-    (sym e, (untouched _ 3 0 _ (s .args .plus .now) e, untouched _ 3 0 _ (s .args .minus .now) e))
+    record { count = sym e; plus-table = untouched _ 3 0 _ (s .args .plus .now) e; minus-table = untouched _ 3 0 _ (s .args .minus .now) e }
 
 list-requires : tie.Need-list-requires
 list-requires c κs = search needs
@@ -61,13 +61,12 @@ returns-3 c =
     let M = s .args .minus .now in
     let hp = c .before .before .before .before .before .before .before .before .if1 .left in
     let hm = c .before .before .before .before .before .before .before .if2 .left in
-    let k = read-once (s .args .n) (s .fits .n) in (
-      answered (s .args .n) P M hp hm (l .result) (counted c),
-      (
-        left (s .args .n) P M hp hm plusMask P (l .last .1 .0) (table s plusMask P (l .last .1 .0) _ k (l .ensures .1 .0)),
-        left (s .args .n) P M hp hm minusMask M (l .last .1 .1 .0) (table s minusMask M (l .last .1 .1 .0) _ k (l .ensures .1 .1)),
-      ),
-    )
+    let k = read-once (s .args .n) (s .fits .n) in
+    record {
+      count = answered (s .args .n) P M hp hm (l .result) (counted c);
+      plus-table = left (s .args .n) P M hp hm plusMask P (l .last .1 .0) (table s plusMask P (l .last .1 .0) _ k (l .ensures .1 .0));
+      minus-table = left (s .args .n) P M hp hm minusMask M (l .last .1 .1 .0) (table s minusMask M (l .last .1 .1 .0) _ k (l .ensures .1 .1));
+    }
 
 pub minimal-forms-spec : {M : Type 1} → statement M
 minimal-forms-spec =

@@ -18,7 +18,7 @@ printed c =
     let s = c .before .before .before .before .before .before .before .before .before in
     let b = c .before .before .before .before .build in
     let k = c .answer .given in
-    printable (s .args .coefficients .now) (s .pre .0) (zeros 20480) (zeros 768) (room 20480) (room 768) (k .0 .0) _ _ (ap answerOf (sym (k .1)) ∙ b .ensures .0) (b .ensures .1 .0) (b .ensures .1 .1)
+    printable (s .args .coefficients .now) (s .pre .0) (zeros 20480) (zeros 768) (room 20480) (room 768) (k .0 .0) _ _ (ap answerOf (sym (k .1)) ∙ b .ensures .answer) (b .ensures .rows-left) (b .ensures .taps-left)
 
 slice-aggregate-build : tie.Need-slice-aggregate-build
 slice-aggregate-build c = search needs
@@ -74,7 +74,7 @@ returns-2 c =
     let s = c .before .before .before .before .before .before .before .before .before .before .before .before .before .before in
     let a = s .args in
     let k = c .before .before .before .before .before .answer2 .given in
-    absurd (never-refused (a .coefficients .now) (s .pre .0) (zeros 20480) (zeros 768) (room 20480) (room 768) _ _ (ap answerOf (sym (k .1)) ∙ c .before .before .before .before .before .before .before .before .before .build .ensures .0))
+    absurd (never-refused (a .coefficients .now) (s .pre .0) (zeros 20480) (zeros 768) (room 20480) (room 768) _ _ (ap answerOf (sym (k .1)) ∙ c .before .before .before .before .before .before .before .before .before .build .ensures .answer))
 
 pub coefficient-sheet-spec : {M : Type 1} → statement M
 coefficient-sheet-spec =
