@@ -11,7 +11,7 @@ use lib.IntN.{ℤ, pos}
 use lib.ListN.{length, getD}
 use Rattle.refusal.specs.Answer.{given, refused, refuseIf, refuseAt, Place, nowhere, at-place, lowest}
 use Rattle.refusal.proofs.Checks.{check-applies, check-passes, given-if, given-at, lowest-none-at}
-use Rattle.signed_digit.specs.Coefficient.{Coefficient}
+use Rattle.word.specs.Bounds.{Coefficient}
 use Rattle.coefficient.specs.Parts.{partsOf}
 use Rattle.network.specs.Rows.{Network, rowWords, tapWords}
 use Rattle.network.specs.Check.{shortTables}

@@ -9,7 +9,7 @@ use lib.IntN.{ℤ, pos}
 use lib.ListN.{length, getD, drop, length-append, length-drop}
 use Rattle.refusal.specs.Answer.{given, filled}
 use Rattle.refusal.proofs.Tables.{length-map}
-use Rattle.signed_digit.specs.Coefficient.{Coefficient}
+use Rattle.word.specs.Bounds.{Coefficient}
 use Rattle.coefficient.specs.Parts.{partsOf}
 use Rattle.network.specs.declared.Row.{Row}
 use Rattle.network.specs.declared.TapRow.{TapRow}

@@ -4,9 +4,9 @@ use mathlib.Core.Path.{_≡_, refl, sym, ap, _∙_}
 use Prim.Native.Nat.{ℕ, zero, suc, _*_, _%_, _^_, _≤_, _<_}
 use native.Mathlib.Omega.{arith}
 use lib.IntN.{ℤ, pos, negsuc, negℤ, _*ℤ_}
-use Rattle.signed_digit.specs.Coefficient.{Coefficient}
+use Rattle.word.specs.Bounds.{Coefficient}
 use Rattle.signed_digit.specs.Reduction.{Sign, positive, negative, signValue, Reduction}
-use Rattle.signed_digit.proofs.Coefficients.{coefficient-magnitude}
+use Rattle.word.proofs.Bounds.{coefficient-magnitude}
 use Rattle.signed_digit.proofs.Reduction.{reduction}
 use Rattle.coefficient.specs.Parts.{no-odd-part, parts, partsOf, signOf, oddPartOf, shiftOf}
 use Rattle.coefficient.proofs.PartsOf.{reduction-parts, reduction-bounds}

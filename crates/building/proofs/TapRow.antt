@@ -7,7 +7,7 @@ use native.Mathlib.Omega.{arith}
 use lib.Dec.{T}
 use lib.IntN.{ℤ, pos, negℤ}
 use Rattle.refusal.specs.Answer.{placeOr}
-use Rattle.signed_digit.specs.Coefficient.{Coefficient}
+use Rattle.word.specs.Bounds.{Coefficient}
 use Rattle.signed_digit.specs.Reduction.{Sign, positive, negative}
 use Rattle.coefficient.specs.Parts.{Parts, no-odd-part, parts, partsOf}
 use Rattle.network.specs.declared.Row.{Row}
@@ -55,8 +55,7 @@ module _ (rows : List Row) (n : ℤ) (c : Coefficient n) where
         sign = sign-is s;
         row = omega (arith, ap (placeOr 0) (h .1), row-within rows v (h .0) (h .1));
         shift = parts-reduced n s v t c e .shift-to;
-        from-least = rw coefficient-is (c .from-least);
-        to-greatest = rw coefficient-is (c .to-greatest);
+        bounds = rw coefficient-is c;
       });
       product = coefficient-is;
     }

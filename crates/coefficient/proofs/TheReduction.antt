@@ -4,9 +4,9 @@ use mathlib.Core.Logic.{_≢_}
 use Prim.Native.Nat.{ℕ, zero, suc, _%_, _^_, _≤_, _<_}
 use native.Mathlib.Omega.{arith}
 use lib.IntN.{ℤ, pos, negsuc, _*ℤ_}
-use Rattle.signed_digit.specs.Coefficient.{Coefficient}
+use Rattle.word.specs.Bounds.{Coefficient}
 use Rattle.signed_digit.specs.Reduction.{Sign, signValue, Reduction}
-use Rattle.signed_digit.proofs.Coefficients.{coefficient-magnitude}
+use Rattle.word.proofs.Bounds.{coefficient-magnitude}
 use Rattle.signed_digit.proofs.Reduction.{reduction}
 use Rattle.coefficient.specs.declared.Reduced.{Reduced}
 use Rattle.coefficient.specs.declared.Reduced.the-variants.{Zero, Split}

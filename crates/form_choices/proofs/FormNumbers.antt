@@ -13,7 +13,8 @@ use mir.Syntax.{w32}
 use mir.Val.{SFits}
 use Rattle.signed_digit.specs.Reduction.{Sign}
 use Rattle.signed_digit.specs.Forms.{listing}
-use Rattle.signed_digit.proofs.Coefficients.{canonical-32, i32-coefficient}
+use Rattle.word.proofs.Bounds.{i32-coefficient}
+use Rattle.signed_digit.proofs.Coefficients.{canonical-32}
 use Rattle.signed_digit.proofs.Reduction.{reduction}
 use Rattle.coefficient.specs.declared.Reduction.{Reduction}
 use Rattle.coefficient.specs.declared.Reduced.the-variants.{Split}

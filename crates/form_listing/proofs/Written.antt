@@ -15,7 +15,7 @@ use Rattle.signed_digit.specs.Weight.{weight}
 use Rattle.signed_digit.specs.Minimal.{Minimal}
 use Rattle.signed_digit.specs.Masks.{plusMask, minusMask, fromMasks}
 use Rattle.signed_digit.specs.Listing.{Ordered, Once, StandsIn}
-use Rattle.signed_digit.specs.Coefficient.{Coefficient}
+use Rattle.word.specs.Bounds.{Coefficient}
 use Rattle.signed_digit.specs.Forms.{listing}
 use Rattle.signed_digit.proofs.Demand.{ListingComplete, listing-complete}
 use Rattle.signed_digit.proofs.Masks.{masks-string}

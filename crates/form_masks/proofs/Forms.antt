@@ -18,11 +18,11 @@ use Rattle.signed_digit.specs.Value.{value}
 use Rattle.signed_digit.specs.Weight.{weight}
 use Rattle.signed_digit.specs.Masks.{plusMask, minusMask, fromMasks}
 use Rattle.signed_digit.specs.CanonicalForm.{canonical}
-use Rattle.signed_digit.specs.Coefficient.{Coefficient}
+use Rattle.word.specs.Bounds.{Coefficient}
 use Rattle.signed_digit.proofs.Value.{value-masks}
 use Rattle.signed_digit.proofs.Masks.{masks-disjoint, masks-string, masks-weight, fromMasks-plus, fromMasks-minus}
 use Rattle.signed_digit.proofs.CanonicalForm.{canonical-places, canonical-value}
-use Rattle.signed_digit.proofs.Coefficients.{coefficient-magnitude}
+use Rattle.word.proofs.Bounds.{coefficient-magnitude}
 use Rattle.form_masks.specs.declared.Form.{Form}
 use Rattle.form_masks.specs.Form.{formOf, stringOf, lowestIn, overlapIn}
 use Rattle.form_masks.specs.Value.{valueOf}

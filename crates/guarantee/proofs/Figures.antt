@@ -7,7 +7,7 @@ use lib.Count.{trailingZeros}
 use lib.IntN.{ℤ, pos}
 use lib.ListN.{length, drop, replicate, getD, length-drop, length-replicate}
 use Rattle.refusal.specs.Answer.{Answer, given, filled}
-use Rattle.signed_digit.specs.Coefficient.{Coefficient}
+use Rattle.word.specs.Bounds.{Coefficient}
 use Rattle.signed_digit.proofs.Figures.{figures}
 use Rattle.coefficient.specs.Parts.{partsOf, oddPartOf, shiftOf}
 use Rattle.tap.proofs.Figures.{tap-figures}

@@ -6,7 +6,7 @@ use Prim.Native.Nat.{ℕ, _*_, _<_, _≤_}
 use lib.IntN.{ℤ, pos}
 use lib.ListN.{length, getD}
 use Rattle.refusal.specs.Answer.{Answer, given}
-use Rattle.signed_digit.specs.Coefficient.{Coefficient}
+use Rattle.word.specs.Bounds.{Coefficient}
 use Rattle.signed_digit.specs.Forms.{listing}
 use Rattle.coefficient.specs.Parts.{Parts, no-odd-part, parts, partsOf}
 use Rattle.form_listing.specs.Listing.{Answered}

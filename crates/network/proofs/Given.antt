@@ -5,12 +5,11 @@ use mathlib.Core.Bool.{Bool}
 use mathlib.Core.List.{List}
 use Prim.Native.Nat.{ℕ, _<_}
 use native.Mathlib.Omega.{arith}
-use lib.Dec.{leb→le}
 use lib.IntN.{ℤ, pos, negsuc, negℤ}
 use lib.ListN.{length, getD, List·getD-map}
-use lib.Signed.{_≤ℤ_}
 use mir.Syntax.{w32}
 use mir.Val.{SFits}
+use Rattle.word.proofs.Bounds.{coefficient-i32}
 use Rattle.refusal.specs.Answer.{given}
 use Rattle.refusal.proofs.Tables.{length-map}
 use Rattle.sequence.proofs.UpTo.{length-upTo}
@@ -31,13 +30,9 @@ empty-is : (rows : List Row) (t : TapRow) → t .sign ≡ none → coefficientOf
 unfolding coefficientOf
 empty-is rows t e = rw e
 
-bounds-fit : (z : ℤ) → negℤ (pos 2147483648) ≤ℤ z → z ≤ℤ pos 2147483647 → SFits w32 z
-bounds-fit (pos n) l g = record { sfits = omega (arith, leb→le n 2147483647 (g .le)) }
-bounds-fit (negsuc n) l g = record { sfits = omega (arith, leb→le n 2147483647 (l .le)) }
-
 tap-fits : (rows : List Row) (t : TapRow) → TapRowRule rows t → SFits w32 (coefficientOf rows t)
 tap-fits rows t (is-empty w) = subst (SFits w32) (sym (empty-is rows t (w .sign))) (record { sfits = omega arith })
-tap-fits rows t (is-product w) = bounds-fit (coefficientOf rows t) (w .from-least) (w .to-greatest)
+tap-fits rows t (is-product w) = coefficient-i32 (coefficientOf rows t) (w .bounds)
 
 -- the coefficient of tap j of a network that passes is the product of its tap row, and fits 32 bits
 pub coefficient-is : (net : Network) (h : List ℤ) → Passed net h → (j : ℕ) → getD h j (pos 0) ≡ coefficientOf (net .rows) (tapRowIn (net .taps) j)

@@ -7,13 +7,14 @@ use borrow.Author.Tests.{ltb-true, leb-true, eqb-true, lt-ltb, le-leb, eq-eqb}
 use lib.Dec.{eqb, leb, ltb}
 use lib.IntN.{ℤ, pos, negsuc, negℤ}
 use lib.ListN.{length}
-use lib.Signed.{leZ}
+use Rattle.word.specs.Bounds.{withinBounds}
+use Rattle.word.proofs.Bounds.{within-bounds, bounds-within}
 use Rattle.network.specs.declared.Row.{Row}
 use Rattle.network.specs.declared.TapRow.{TapRow}
 use Rattle.network.specs.Rows.{none, plus, rowIn}
 use Rattle.network.specs.RowRule.{combined, isRowSign, lifted, FirstRow, LaterRow, RowRule, isFirst, shiftWithin, isNatural, isWorked, valueWithin, isSum, isLater, keepsRowRule}
 use Rattle.network.specs.Coefficients.{coefficientOf}
-use Rattle.network.specs.TapRowRule.{isTapSign, EmptyTap, ProductTap, TapRowRule, is-empty, is-product, isEmpty, withinBounds, isProduct, keepsTapRowRule}
+use Rattle.network.specs.TapRowRule.{isTapSign, EmptyTap, ProductTap, TapRowRule, is-empty, is-product, isEmpty, isProduct, keepsTapRowRule}
 use Rattle.network.proofs.Booleans.{holds, is-true, both, three, four, five}
 
 -- ---- rows
@@ -104,13 +105,11 @@ product-tap : (rows : List Row) (t : TapRow) → isProduct rows t ≡ true → P
 product-tap rows t e =
     let c = coefficientOf rows t in
     let p = four (isTapSign (t .sign)) (ltb (t .row) (length rows)) (leb (t .shift) 31) (withinBounds c) e in
-    let q = both (leZ (negℤ (pos (2 ^ 31))) c) (leZ c (pos (2 ^ 31 - 1))) (p .3) in
     record {
       sign = holds (isTapSign (t .sign)) (p .0);
       row = ltb-true (t .row) (length rows) (p .1);
       shift = leb-true (t .shift) 31 (p .2);
-      from-least = record { le = holds (leZ (negℤ (pos (2 ^ 31))) c) (q .0) };
-      to-greatest = record { le = holds (leZ c (pos (2 ^ 31 - 1))) (q .1) };
+      bounds = bounds-within c (p .3);
     }
 
 pub tap-rule : (rows : List Row) (t : TapRow) → keepsTapRowRule rows t ≡ true → TapRowRule rows t
@@ -137,6 +136,5 @@ tap-kept rows t (is-product w) = or-right (isEmpty t) (isProduct rows t) (kept-p
           is-true (isTapSign (t .sign)) (w .sign),
           lt-ltb (t .row) (length rows) (w .row),
           le-leb (t .shift) 31 (w .shift),
-          is-true (leZ (negℤ (pos (2 ^ 31))) (coefficientOf rows t)) (w .from-least .le),
-          is-true (leZ (coefficientOf rows t) (pos (2 ^ 31 - 1))) (w .to-greatest .le),
+          within-bounds (coefficientOf rows t) (w .bounds),
         )

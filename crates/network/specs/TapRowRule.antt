@@ -1,13 +1,12 @@
 -- The tap row rule. Document 01, "The network" and "Bounds". `TapRowRule` says it in the document's words; `keepsTapRowRule` computes it, and
 -- proofs/Rules.antt shows that the two say the same. Definitions only.
-use Prim.Native.Nat.{ℕ, _-_, _^_, _≤_, _<_}
+use Prim.Native.Nat.{ℕ, _≤_, _<_}
 use mathlib.Core.Path.{_≡_}
 use mathlib.Core.Bool.{Bool, _&&_, _||_}
 use mathlib.Core.List.{List}
 use lib.Dec.{T, eqb, leb, ltb}
-use lib.IntN.{ℤ, pos, negℤ}
 use lib.ListN.{length}
-use lib.Signed.{leZ, _≤ℤ_}
+use Rattle.word.specs.Bounds.{Coefficient, withinBounds}
 use Rattle.network.specs.declared.Row.{Row}
 use Rattle.network.specs.declared.TapRow.{TapRow}
 use Rattle.network.specs.Rows.{none, plus, minus}
@@ -30,8 +29,7 @@ pub record ProductTap (rows : List Row) (t : TapRow) : Type 0 where
   pub sign : T (isTapSign (t .sign))
   pub row : t .row < length rows
   pub shift : t .shift ≤ 31
-  pub from-least : negℤ (pos (2 ^ 31)) ≤ℤ coefficientOf rows t
-  pub to-greatest : coefficientOf rows t ≤ℤ pos (2 ^ 31 - 1)
+  pub bounds : Coefficient (coefficientOf rows t)
 
 -- the tap row rule, over the rows of the network
 pub data TapRowRule (rows : List Row) (t : TapRow) : Type 0 where
@@ -42,10 +40,6 @@ pub data TapRowRule (rows : List Row) (t : TapRow) : Type 0 where
 
 abbrev pub isEmpty : TapRow → Bool
 isEmpty t = eqb (t .sign) none && eqb (t .row) 0 && eqb (t .shift) 0
-
--- "coefficients from -2^31 to 2^31 - 1"
-abbrev pub withinBounds : ℤ → Bool
-withinBounds z = leZ (negℤ (pos (2 ^ 31))) z && leZ z (pos (2 ^ 31 - 1))
 
 abbrev pub isProduct : List Row → TapRow → Bool
 isProduct rows t = isTapSign (t .sign) && ltb (t .row) (length rows) && leb (t .shift) 31 && withinBounds (coefficientOf rows t)

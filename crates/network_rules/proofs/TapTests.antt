@@ -16,7 +16,8 @@ use Rattle.network.specs.declared.TapRow.{TapRow}
 use Rattle.network_rules.specs.declared.tap_row_rule.TapProduct.the-variants.{Coefficient, Broken}
 use Rattle.network.specs.Rows.{none, plus, minus}
 use Rattle.network.specs.Coefficients.{signed, coefficientOf}
-use Rattle.network.specs.TapRowRule.{isTapSign, withinBounds, isProduct, keepsTapRowRule}
+use Rattle.network.specs.TapRowRule.{isTapSign, isProduct, keepsTapRowRule}
+use Rattle.word.specs.Bounds.{withinBounds}
 use Rattle.network_rules.specs.Products.{productIf, productOf}
 
 -- ---- a number p with a sign

@@ -6,7 +6,7 @@ use native.Mathlib.Omega.{arith}
 use lib.IntN.{ℤ, pos}
 use lib.ListN.{length, getD, take, length-map, List·getD-map}
 use lib.Seq.{getD-take, length-take-le}
-use Rattle.signed_digit.proofs.Coefficients.{i32-coefficient}
+use Rattle.word.proofs.Bounds.{i32-coefficient}
 use Rattle.network.specs.declared.Row.{Row}
 use Rattle.network.specs.Rows.{rowsOf}
 use Rattle.building.specs.Parts.{Part, partsToBuild}

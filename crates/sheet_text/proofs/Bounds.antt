@@ -14,7 +14,7 @@ use mir.Val.{SFits}
 use Rattle.refusal.specs.Answer.{given, lowest}
 use Rattle.refusal.proofs.Checks.{given-if, given-at, lowest-none-at}
 use Rattle.refusal.proofs.Tables.{length-map}
-use Rattle.signed_digit.proofs.Coefficients.{i32-coefficient}
+use Rattle.word.proofs.Bounds.{i32-coefficient}
 use Rattle.tap.specs.Rounding.{exact, rounded, leftover, finite, signed, most, split, sizeOf, outside, coefficientOf, wholeOf}
 use Rattle.normalise.specs.Normalised.{infinite, divisorOf}
 use Rattle.tap_set.specs.declared.Report.{Report}

@@ -11,7 +11,7 @@ use lib.IntN.{ℤ, pos}
 use lib.ListN.{length, getD, replicate, length-replicate, getD-replicate}
 use Rattle.refusal.specs.Answer.{given, refused, filled}
 use Rattle.sequence.proofs.UpTo.{getD-upTo}
-use Rattle.signed_digit.proofs.Coefficients.{coefficient-i32}
+use Rattle.word.proofs.Bounds.{coefficient-i32}
 use Rattle.coefficient.specs.Parts.{partsOf}
 use Rattle.network.specs.declared.Row.{Row}
 use Rattle.network.specs.declared.TapRow.{TapRow}

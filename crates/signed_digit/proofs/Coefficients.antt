@@ -3,37 +3,20 @@
 use mathlib.Core.Path.{_≡_}
 use mathlib.Core.List.{List}
 use mathlib.Core.Logic.{_↔_}
-use Prim.Native.Nat.{suc, _-_, _≤_, _^_}
+use Prim.Native.Nat.{suc, _≤_, _^_}
 use native.Mathlib.Omega.{arith}
-use lib.Dec.{leb→le, le→leb}
-use lib.IntN.{ℤ, pos, negsuc, natAbs}
+use lib.IntN.{ℤ, natAbs}
 use lib.ListN.{length}
-use lib.Signed.{natAbs-le}
-use mir.Syntax.{w32}
-use mir.Val.{SFits}
 use Rattle.signed_digit.specs.String.{DigitString}
 use Rattle.signed_digit.specs.Weight.{weight}
 use Rattle.signed_digit.specs.Minimal.{Minimal}
 use Rattle.signed_digit.specs.Listing.{Once, StandsIn}
 use Rattle.signed_digit.specs.Fibonacci.{fibonacci}
-use Rattle.signed_digit.specs.Coefficient.{Coefficient}
 use Rattle.signed_digit.specs.CanonicalForm.{canonical}
 use Rattle.signed_digit.specs.Forms.{listing}
 use Rattle.signed_digit.proofs.Canonical.{canonical-weight}
 use Rattle.signed_digit.proofs.Fibonacci.{fibonacci-monotone}
 use Rattle.signed_digit.proofs.Listing.{CanonicalForm, listing-stands, listing-count, listing-bound, canonical-form}
-
--- ---- a coefficient is a number that an i32 holds
-pub coefficient-i32 : (n : ℤ) → Coefficient n → SFits w32 n
-coefficient-i32 (pos n) c = record { sfits = omega (arith, leb→le n (2 ^ 31 - 1) (c .to-greatest .le)) }
-coefficient-i32 (negsuc n) c = record { sfits = omega (arith, leb→le n (2 ^ 31 - 1) (c .from-least .le)) }
-
-pub i32-coefficient : (n : ℤ) → SFits w32 n → Coefficient n
-i32-coefficient (pos n) h = record { from-least = record { le = tt }; to-greatest = record { le = le→leb n (2 ^ 31 - 1) (omega (arith, h .sfits)) } }
-i32-coefficient (negsuc n) h = record { from-least = record { le = le→leb n (2 ^ 31 - 1) (omega (arith, h .sfits)) }; to-greatest = record { le = tt } }
-
-pub coefficient-magnitude : (n : ℤ) → Coefficient n → natAbs n ≤ 2 ^ 31
-coefficient-magnitude n c = natAbs-le n (coefficient-i32 n c .sfits)
 
 -- ---- 32 places
 module _ (n : ℤ) (h : natAbs n ≤ 2 ^ 31) where

@@ -10,10 +10,11 @@ use Rattle.signed_digit.specs.Value.{value}
 use Rattle.signed_digit.specs.Weight.{weight}
 use Rattle.signed_digit.specs.Minimal.{Minimal}
 use Rattle.signed_digit.specs.Listing.{Ordered, Once, StandsIn}
-use Rattle.signed_digit.specs.Coefficient.{Coefficient}
+use Rattle.word.specs.Bounds.{Coefficient}
 use Rattle.signed_digit.specs.Forms.{listing}
 use Rattle.signed_digit.proofs.Listing.{listing-is}
-use Rattle.signed_digit.proofs.Coefficients.{coefficient-magnitude, stands-32, count-32}
+use Rattle.word.proofs.Bounds.{coefficient-magnitude}
+use Rattle.signed_digit.proofs.Coefficients.{stands-32, count-32}
 
 pub record ListingComplete (n : ℤ) : Type 0 where
   -- a signed-digit string of any length stands in the listing, leading zeros aside, exactly when it has the coefficient's value and

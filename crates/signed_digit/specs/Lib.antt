@@ -10,7 +10,6 @@ pub mod Order
 pub mod Listing
 pub mod Masks
 pub mod Reduction
-pub mod Coefficient
 pub mod Fibonacci
 -- What contracts cite besides, and the theorems vouch for:
 pub mod CanonicalForm

@@ -7,7 +7,8 @@ use lib.ListN.{length}
 use mir.Syntax.{w32}
 use mir.Val.{toZ, ofZ}
 use Rattle.signed_digit.specs.Forms.{listing}
-use Rattle.signed_digit.proofs.Coefficients.{i32-coefficient, coefficient-magnitude, at-most-1597}
+use Rattle.word.proofs.Bounds.{i32-coefficient, coefficient-magnitude}
+use Rattle.signed_digit.proofs.Coefficients.{at-most-1597}
 use Rattle.form_listing.proofs.Machine.{read-once}
 use Rattle.form_walk.proofs.Stands.{at-link, skip-fits, next-fits}
 use Rattle.form_walk.proofs.Counted.{OnWay, itself, over-nought, over-digit, Counting, count-start, counting-next, count-end, fewer}

@@ -9,7 +9,7 @@ use mir.Syntax.{w32}
 use mir.Val.{toZ, ofZ}
 use Rattle.signed_digit.specs.Masks.{plusMask, minusMask}
 use Rattle.signed_digit.specs.Forms.{listing}
-use Rattle.signed_digit.proofs.Coefficients.{i32-coefficient, coefficient-magnitude}
+use Rattle.word.proofs.Bounds.{i32-coefficient, coefficient-magnitude}
 use Rattle.form_listing.proofs.Machine.{read-once}
 use Rattle.form_walk.proofs.Counted.{fewer}
 use Rattle.form_listing.proofs.Listed.{Ready, ready, Listing, list-start, list-skip, list-link, widen-fits, link-fits, list-next, same-lengths, list-end, past-front}

@@ -8,7 +8,8 @@ use lib.ListN.{length, drop}
 use Rattle.signed_digit.specs.String.{DigitString}
 use Rattle.signed_digit.specs.Masks.{plusMask, minusMask}
 use Rattle.signed_digit.specs.Forms.{listing}
-use Rattle.signed_digit.proofs.Coefficients.{i32-coefficient, coefficient-magnitude, at-most-1597}
+use Rattle.word.proofs.Bounds.{i32-coefficient, coefficient-magnitude}
+use Rattle.signed_digit.proofs.Coefficients.{at-most-1597}
 use Rattle.form_listing.proofs.Machine.{read-once}
 use Rattle.form_listing.proofs.Entry.{plus-short, minus-short, untouched, answered, left}
 use borrow.Author.Needs.{needs}

@@ -10,7 +10,7 @@ use mir.Syntax.{w32}
 use mir.Val.{toZ, ofZ}
 use mir.ValLaws.{toZ-ofZ}
 use Rattle.signed_digit.specs.CanonicalForm.{canonicalNat}
-use Rattle.signed_digit.proofs.Coefficients.{i32-coefficient, coefficient-magnitude}
+use Rattle.word.proofs.Bounds.{i32-coefficient, coefficient-magnitude}
 use Rattle.form_masks.specs.Form.{formOf}
 use Rattle.form_masks.proofs.Sign.{exchanged, canonical-negative, canonical-not-negative}
 use Rattle.form_masks.proofs.canonical.Statement.{statement}

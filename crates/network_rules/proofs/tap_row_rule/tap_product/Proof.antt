@@ -6,7 +6,8 @@ use Rattle.network.specs.declared.Row.{Row}
 use Rattle.network.specs.Rows.{rowAt, rowsOf, rowIn, noRow}
 use Rattle.network.specs.RowRule.{lifted}
 use Rattle.network.specs.Coefficients.{signed, coefficientOf}
-use Rattle.network.specs.TapRowRule.{isTapSign, withinBounds}
+use Rattle.network.specs.TapRowRule.{isTapSign}
+use Rattle.word.specs.Bounds.{withinBounds}
 use Rattle.network_rules.specs.Products.{productIf, productOf}
 use Rattle.network_rules.proofs.TapTests.{tap-empty, tap-row, tap-shift, tap-signed}
 use Prim.Native.Nat.{ℕ, _<_}
