@@ -1,6 +1,6 @@
 -- What a running call leaves, by its answer. Assumes nothing.
 use mathlib.Core.Path.{_≡_, refl, sym, ap, _∙_}
-use mathlib.Core.Bool.{Bool, true, false, _||_, true≢false}
+use mathlib.Core.Bool.{true, false, true≢false}
 use mathlib.Core.List.{List, _++_}
 use Prim.Native.Nat.{ℕ}
 use lib.IntN.{ℤ}
@@ -11,7 +11,7 @@ use Rattle.convolution.proofs.Trailing.{same-registers, same-outputs}
 use Rattle.network.specs.Check.{outcome}
 use Rattle.network_check.specs.Steps.{isGiven, padded}
 use Rattle.network_check.proofs.Padded.{padded-at}
-use Rattle.filter.specs.Run.{runRegisters, runOutputs}
+use Rattle.running.specs.Run.{runRegisters, runOutputs}
 
 -- ---- accepted
 
@@ -33,13 +33,3 @@ kept-registers (refused number place) r xs e = refl
 pub kept-outputs : (a : Answer (List ℤ)) (r : List ℕ) (xs outs : List ℤ) → isGiven (outcome a) ≡ false → outs ≡ runOutputs a xs r outs
 kept-outputs (given h) r xs outs e = absurd (true≢false e)
 kept-outputs (refused number place) r xs outs e = refl
-
--- ---- the lengths of what an accepted call lends
-
-pub or-first : (a b : Bool) → (a || b) ≡ false → a ≡ false
-or-first true b p = p
-or-first false b p = refl
-
-pub or-second : (a b : Bool) → (a || b) ≡ false → b ≡ false
-or-second true b p = absurd (true≢false p)
-or-second false b p = p

@@ -1,6 +1,6 @@
 // Running samples through a network.
 ghost use Rattle.network_check.specs.Checked.{answerOf};
-ghost use Rattle.filter.specs.Run.{Ran};
+ghost use Rattle.running.specs.Run.{Ran};
 use network_check::Checked;
 
 // The outputs for the samples and the registers after them, where nothing is turned down. The

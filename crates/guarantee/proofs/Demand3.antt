@@ -18,9 +18,9 @@ use Rattle.building.proofs.Answers.{exist-forms, network-given, not-short}
 use Rattle.building.proofs.BuiltTables.{network-left, built-accepted}
 use Rattle.network.specs.Check.{networkAnswer}
 use Rattle.builder.specs.Built.{BuiltInto}
-use Rattle.filter.specs.Memory.{Step}
-use Rattle.filter.specs.Demand.{Calls, Demand}
-use Rattle.filter.proofs.Theorem.{running-sums}
+use Rattle.running.specs.Memory.{Step}
+use Rattle.running.specs.Demand.{Calls, Demand}
+use Rattle.running.proofs.Theorem.{running-sums}
 use Rattle.guarantee.specs.Demand3.{Listed, Taken, Guaranteed, Demand3}
 
 -- a choice that is listed is one of the forms

@@ -19,14 +19,14 @@ use Rattle.building.proofs.Example.{example}
 use Rattle.builder.specs.Built.{BuiltInto}
 use Rattle.network.specs.Check.{outcome}
 use Rattle.sequence.specs.UpTo.{upTo}
-use Rattle.filter.specs.Run.{Ran, runAnswer, runOutputs}
-use Rattle.filter.specs.Memory.{cleared}
-use Rattle.filter.specs.Demand.{Calls}
-use Rattle.filter.specs.Example as Calling
-use Rattle.filter.specs.Example.{four}
-use Rattle.filter.proofs.Example as Called
-use Rattle.filter.proofs.Example.{stepsFrom}
-use Rattle.filter.proofs.Figures as Running
+use Rattle.running.specs.Run.{Ran, runAnswer, runOutputs}
+use Rattle.running.specs.Memory.{cleared}
+use Rattle.running.specs.Demand.{Calls}
+use Rattle.guarantee.specs.Example as Calling
+use Rattle.guarantee.specs.Example.{four}
+use Rattle.guarantee.proofs.Example as Called
+use Rattle.guarantee.proofs.Example.{stepsFrom}
+use Rattle.guarantee.proofs.SheetFilter as Running
 use Rattle.guarantee.specs.Demand3.{Listed, Taken}
 use Rattle.guarantee.specs.Figures.{sheetTaps, noChoices, samples, SheetFilter, SheetBuilt, SheetCalls, ProvedFigures}
 use Rattle.guarantee.proofs.Demand3.{can-build, demand-3}

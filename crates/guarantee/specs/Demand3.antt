@@ -14,8 +14,8 @@ use Rattle.form_listing.proofs.Written.{Written}
 use Rattle.network.specs.Rows.{networkOf, rowWords, tapWords}
 use Rattle.building.specs.TapRows.{built}
 use Rattle.builder.specs.Built.{BuiltInto}
-use Rattle.filter.specs.Memory.{Step}
-use Rattle.filter.specs.Demand.{Calls, Demand}
+use Rattle.running.specs.Memory.{Step}
+use Rattle.running.specs.Demand.{Calls, Demand}
 
 -- "any choice of one listed form per tap": its number is below the form count of the tap's odd part; a zero tap has none, and its choice is 0
 abbrev pub Listed : Parts → ℕ → Type 0

@@ -11,10 +11,10 @@ use Rattle.network.specs.Rows.{Network, rowWords, tapWords, plus, minus, noTap}
 use Rattle.building.specs.Steps.{firstRow}
 use Rattle.building.specs.TapRows.{built}
 use Rattle.builder.specs.Built.{BuiltInto}
-use Rattle.filter.specs.Run.{Ran}
-use Rattle.filter.specs.Memory.{Step}
-use Rattle.filter.specs.Demand.{Calls, FullLength, Demand}
-use Rattle.filter.specs.Example.{four, smoothing}
+use Rattle.running.specs.Run.{Ran}
+use Rattle.running.specs.Memory.{Step}
+use Rattle.running.specs.Demand.{Calls, FullLength, Demand}
+use Rattle.guarantee.specs.Example.{four, smoothing}
 use Rattle.guarantee.specs.Demand3.{Taken}
 
 -- the sheet's filter: 3, -6, 45, 0 with choices 0

@@ -1,6 +1,6 @@
 -- Laws on the checks of specs/Answer.antt, for the proofs of the crates above. Assumes nothing.
 use mathlib.Core.Path.{_≡_, refl, sym, ap, _∙_}
-use mathlib.Core.Bool.{Bool, true, false, cond, true≢false, false≢true}
+use mathlib.Core.Bool.{Bool, true, false, cond, _||_, true≢false, false≢true}
 use mathlib.Core.List.{List, [], _∷_}
 use Prim.Native.Nat.{ℕ, zero, suc, _+_, _≤_, _<_}
 use native.Mathlib.Nat.{le-of-suc-le-suc, not-suc-le-zero}
@@ -12,6 +12,11 @@ use Rattle.refusal.specs.Answer.{Answer, given, refused, refuseIf, refus
 
 no-one : _≡_ {A = ℕ} 0 1 → ⊥
 no-one z = omega arith
+
+-- two tests of one check: neither applies
+pub neither : (a b : Bool) → (a || b) ≡ false → (a ≡ false) × (b ≡ false)
+neither true b e = absurd (true≢false e)
+neither false b e = (refl, e)
 
 -- a check that applies, and one that does not
 pub check-applies : {A : Type 0} (b : Bool) (number : ℕ) (rest : Answer A) → b ≡ true → refuseIf b number rest ≡ refused number 0

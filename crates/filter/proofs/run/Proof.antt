@@ -9,13 +9,14 @@ use lib.Dec.{ltb}
 use lib.IntN.{ℤ}
 use lib.ListN.{length}
 use Rattle.refusal.specs.Answer.{Answer}
+use Rattle.refusal.proofs.Checks.{neither}
 use Rattle.network.proofs.Passed.{Accepted, given-accepted}
 use Rattle.network_check.specs.Steps.{isGiven}
 use Rattle.network.proofs.Given.{length-coefficients}
 use Rattle.network_check.proofs.Answers.{Result, result}
 use Rattle.network_check.proofs.Padded.{length-padded}
-use Rattle.filter.specs.Run.{runAnswer}
-use Rattle.filter.proofs.Answers.{moved, written, kept-registers, kept-outputs, or-first, or-second}
+use Rattle.running.specs.Run.{runAnswer}
+use Rattle.filter.proofs.Answers.{moved, written, kept-registers, kept-outputs}
 use Rattle.filter.proofs.run.Statement.{statement}
 use Rattle.filter.proofs.run.Tie as tie
 
@@ -59,13 +60,8 @@ feed-requires : tie.Need-feed-requires
 feed-requires c κs =
     let t = c .before .before .before in
     let a = start (t .before .before) .args in
-    let long = accepted t .others-long in (
-      length-buffer t,
-      (
-        ltb-false (length (a .registers .now)) 256 (or-first (ltb (length (a .registers .now)) 256) (ltb (length (a .outputs .now)) (length (a .samples .now))) long),
-        ltb-false (length (a .outputs .now)) (length (a .samples .now)) (or-second (ltb (length (a .registers .now)) 256) (ltb (length (a .outputs .now)) (length (a .samples .now))) long),
-      ),
-    )
+    let long = neither (ltb (length (a .registers .now)) 256) (ltb (length (a .outputs .now)) (length (a .samples .now))) (accepted t .others-long) in
+    (length-buffer t, (ltb-false (length (a .registers .now)) 256 (long .0), ltb-false (length (a .outputs .now)) (length (a .samples .now)) (long .1)))
 
 same-length : tie.Need-same-length
 same-length c = search needs

@@ -17,7 +17,7 @@ use Rattle.convolution.proofs.Theorems.{Cleared, holds-start, outputs-exact}
 use Rattle.network.specs.Rows.{rowWords, tapWords}
 use Rattle.network.specs.Check.{networkAnswer}
 use Rattle.network.proofs.Figures.{sheet-network}
-use Rattle.filter.specs.Run.{runAnswer, runOutputs}
+use Rattle.running.specs.Run.{runAnswer, runOutputs}
 
 -- the sheet's tables, whatever stands past its three rows and four taps; `+` is 43 and `-` is 45
 abbrev rows : List ℕ → List ℕ

@@ -17,9 +17,9 @@ use Rattle.convolution.specs.Sums.{outputSums, registerSum, held}
 use Rattle.convolution.proofs.Steps.{length-registers, drop-registers, length-sums}
 use Rattle.convolution.proofs.Theorems.{Holds, Cleared, holds-after, within-after, register-exact, outputs-exact}
 use Rattle.network.specs.Check.{outcome}
-use Rattle.filter.specs.Run.{runRegisters, runOutputs}
-use Rattle.filter.specs.Memory.{Lending, lent, overwritten, memory}
-use Rattle.filter.proofs.Stretches.{length-lent, same-memory, first-256, past-256, held-lent, beyond-stays, registers-new, held-first, length-first}
+use Rattle.running.specs.Run.{runRegisters, runOutputs}
+use Rattle.running.specs.Memory.{Lending, lent, overwritten, memory}
+use Rattle.running.proofs.Stretches.{length-lent, same-memory, first-256, past-256, held-lent, beyond-stays, registers-new, held-first, length-first}
 
 -- the memory after a call that was answered so, by what `run` leaves
 abbrev pub afterBy : Answer (List ℤ) → List ℕ → Lending → List ℕ

@@ -18,12 +18,12 @@ use Rattle.network.specs.Rows.{rowWords, tapWords, networkOf}
 use Rattle.network.specs.RowRule.{keepsRowRule}
 use Rattle.network.specs.Check.{outcome, checked, shortTables, networkAnswer}
 use Rattle.network.proofs.Figures.{sheet-network}
-use Rattle.filter.specs.Run.{Ran, runAnswer, runRegisters, runOutputs}
-use Rattle.filter.specs.Call.{Call, Said, tableAnswer, saidFrom}
-use Rattle.filter.specs.Memory.{Lending, Step, Found, Trace, lent, after, foundFrom, due, dueAll, cleared}
-use Rattle.filter.specs.Demand.{Fair, EachFair, Calls, Demand}
-use Rattle.filter.specs.Example.{rows, taps, others, h, sheet, smoothing, silent, short, strange, four, Taken}
-use Rattle.filter.proofs.Theorem.{running-sums}
+use Rattle.running.specs.Run.{Ran, runAnswer, runRegisters, runOutputs}
+use Rattle.running.specs.Call.{Call, Said, tableAnswer, saidFrom}
+use Rattle.running.specs.Memory.{Lending, Step, Found, Trace, lent, after, foundFrom, due, dueAll, cleared}
+use Rattle.running.specs.Demand.{Fair, EachFair, Calls, Demand}
+use Rattle.guarantee.specs.Example.{rows, taps, others, h, sheet, smoothing, silent, short, strange, four, Taken}
+use Rattle.running.proofs.Theorem.{running-sums}
 
 -- ---- every list of calls has a trace
 

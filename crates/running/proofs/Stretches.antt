@@ -10,7 +10,7 @@ use lib.Dec.{ltb}
 use lib.ListN.{length, getD, take, drop, length-append, length-take, length-drop, take-append-drop, List·getD-append}
 use lib.Seq.{getD-take, take-at, drop-at, drop-drop, drop-append-le, length-take-le, take-append-le}
 use Rattle.convolution.specs.Sums.{held}
-use Rattle.filter.specs.Memory.{overwritten}
+use Rattle.running.specs.Memory.{overwritten}
 
 module _ (r beyond : List ℕ) (e : length r ≡ 256) where
   pub first-256 : take 256 (r ++ beyond) ≡ r

@@ -9,8 +9,8 @@ use mir.Syntax.{w16}
 use Rattle.refusal.specs.Answer.{given}
 use Rattle.convolution.specs.Bounds.{Within}
 use Rattle.network.specs.Rows.{Network, rowWords, tapWords}
-use Rattle.filter.specs.Call.{Call, networkIn, tableAnswer, said}
-use Rattle.filter.specs.Memory.{Lending, Step, Trace, dueAll, foundFrom, cleared}
+use Rattle.running.specs.Call.{Call, networkIn, tableAnswer, said}
+use Rattle.running.specs.Memory.{Lending, Step, Trace, dueAll, foundFrom, cleared}
 
 -- a call of the list, where net is the network that was built
 pub record Fair (net : Network) (l : Lending) : Type 0 where

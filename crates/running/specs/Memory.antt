@@ -6,8 +6,8 @@ use lib.ListN.{length, take, drop, replicate}
 use mir.Syntax.{w64}
 use mir.Val.{toZ}
 use Rattle.refusal.specs.Answer.{Answer, filled}
-use Rattle.filter.specs.Run.{Ran}
-use Rattle.filter.specs.Call.{Call, Said}
+use Rattle.running.specs.Run.{Ran}
+use Rattle.running.specs.Call.{Call, Said}
 
 -- a call and the memory that it meets: where the part that is lent starts, what lies past the 256 registers, and what the lent outputs hold
 pub record Lending : Type 0 where

@@ -8,7 +8,7 @@ use Rattle.sequence.specs.UpTo.{upTo}
 use Rattle.convolution.specs.Sums.{outputSums, registerSum}
 use Rattle.network.specs.Check.{outcome}
 use Rattle.network.specs.Rows.{Network, networkOf}
-use Rattle.filter.specs.Run.{runAnswer}
+use Rattle.running.specs.Run.{runAnswer}
 
 -- "the arguments of each running call (of the lent registers and outputs, only the lengths)"
 pub record Call : Type 0 where

@@ -6,8 +6,8 @@ use Prim.Native.Nat.{ℕ}
 use lib.IntN.{ℤ, pos, negℤ}
 use Rattle.refusal.specs.Answer.{Answer, given, refused}
 use Rattle.network.specs.Rows.{Network, networkOf}
-use Rattle.filter.specs.Memory.{Lending, Step}
-use Rattle.filter.specs.Demand.{Calls, Demand}
+use Rattle.running.specs.Memory.{Lending, Step}
+use Rattle.running.specs.Demand.{Calls, Demand}
 
 -- the sheet's tables, whatever stands past its three rows and four taps; `+` is 43 and `-` is 45
 abbrev pub rows : List ℕ → List ℕ

@@ -11,6 +11,7 @@ use lib.ListN.{length, getD, take, drop, replicate, length-replicate, getD-repli
 use mir.Syntax.{w32}
 use mir.Val.{SFits}
 use Rattle.refusal.specs.Answer.{Answer, given}
+use Rattle.refusal.proofs.Checks.{neither}
 use Rattle.sequence.proofs.UpTo.{length-upTo}
 use Rattle.convolution.specs.Bounds.{Within}
 use Rattle.convolution.specs.Sums.{held}
@@ -20,13 +21,12 @@ use Rattle.network.specs.Rows.{Network, networkOf, tapRowAt}
 use Rattle.network.specs.Check.{networkAnswer, outcome}
 use Rattle.network.proofs.Passed.{Passed, Accepted, given-accepted, accepted-given}
 use Rattle.network.proofs.Given.{given-length, given-fits, same-coefficients}
-use Rattle.filter.specs.Run.{runAnswer, runRegisters, runOutputs}
-use Rattle.filter.specs.Call.{Call, networkIn, tableAnswer, joined, saidOf, saidFrom}
-use Rattle.filter.specs.Memory.{Lending, Step, RanFrom, Trace, due, dueAll, lent, after, found, foundFrom, overwritten, memory}
-use Rattle.filter.specs.Demand.{Fair, EachFair, FullLength, Calls, Demand}
-use Rattle.filter.proofs.Answers.{or-first}
-use Rattle.filter.proofs.Stretches.{length-lent}
-use Rattle.filter.proofs.Calls.{afterBy, Between, between, outputs, beyond, registers-are}
+use Rattle.running.specs.Run.{runAnswer, runRegisters, runOutputs}
+use Rattle.running.specs.Call.{Call, networkIn, tableAnswer, joined, saidOf, saidFrom}
+use Rattle.running.specs.Memory.{Lending, Step, RanFrom, Trace, due, dueAll, lent, after, found, foundFrom, overwritten, memory}
+use Rattle.running.specs.Demand.{Fair, EachFair, FullLength, Calls, Demand}
+use Rattle.running.proofs.Stretches.{length-lent}
+use Rattle.running.proofs.Calls.{afterBy, Between, between, outputs, beyond, registers-are}
 
 cleared : Cleared (replicate 256 0)
 cleared k = by k (ltb k 256) refl
@@ -71,7 +71,7 @@ module _ (h : List ℤ) (rows : List ℕ) (n : ℕ) (taps : List ℕ) (m : ℕ) 
         let c = l .call in
         let short = ltb (c .registers) 256 || ltb (c .outputs) (length (c .samples)) in
         let a = given-accepted short (c .rows) (c .rowCount) (c .taps) (c .tapCount) g e in (
-          (ltb-false (c .registers) 256 (or-first (ltb (c .registers) 256) (ltb (c .outputs) (length (c .samples))) (a .others-long)), f .whole g e),
+          (ltb-false (c .registers) 256 (neither (ltb (c .registers) 256) (ltb (c .outputs) (length (c .samples))) (a .others-long) .0), f .whole g e),
           same-coefficients short false (c .rows) rows (c .rowCount) n (c .taps) taps (c .tapCount) m g h (f .network g e) e built,
         )
 

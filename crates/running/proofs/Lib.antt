@@ -1,0 +1,4 @@
+pub mod Stretches
+pub mod Calls
+pub mod Theorem
+pub mod Claims

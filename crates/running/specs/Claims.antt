@@ -1,0 +1,33 @@
+-- What is claimed of running calls. Definitions only; proofs/Claims.antt proves it.
+use mathlib.Core.Path.{_≡_}
+use mathlib.Core.Bool.{false}
+use mathlib.Core.List.{List}
+use Prim.Native.Nat.{ℕ, suc, _+_, _<_}
+use lib.IntN.{ℤ, pos, _+ℤ_}
+use lib.ListN.{length, getD, take}
+use mir.Syntax.{w64}
+use mir.Val.{toZ}
+use Rattle.refusal.specs.Answer.{given}
+use Rattle.convolution.specs.Words.{wrapped}
+use Rattle.convolution.specs.Sums.{outputSum, registerSum, held}
+use Rattle.convolution.specs.Bounds.{Words}
+use Rattle.network.specs.Rows.{networkOf}
+use Rattle.network.specs.Coefficients.{coefficients}
+use Rattle.network.specs.Check.{networkAnswer}
+use Rattle.running.specs.Run.{Ran}
+use Rattle.running.specs.Memory.{Step}
+use Rattle.running.specs.Demand.{Calls, Demand}
+
+-- "Sums wrap modulo 2^64 and are read as signed, so any register content is legal": a call with the coefficients h met the registers r and left r′ and o′. Each is the sum
+-- over the call's own samples and what the old content adds, which moves down one register a sample
+pub record AnyContent (h samples : List ℤ) (r r′ : List ℕ) (o′ : List ℤ) : Type 0 where
+  pub registers : (k : ℕ) → k < 256 → getD r′ k 0 ≡ wrapped (pos (held r (length samples + k)) +ℤ registerSum h samples k)
+  pub outputs : (i : ℕ) → i < length samples → getD o′ i (pos 0) ≡ toZ w64 (wrapped (pos (held r i) +ℤ outputSum h (take (suc i) samples)))
+
+pub record RunningClaims : Type 0 where
+  -- demand 3 of running calls, for every network that passes the check
+  pub running-sums : (h : List ℤ) (rows : List ℕ) (rowCount : ℕ) (taps : List ℕ) (tapCount : ℕ) → networkAnswer false rows rowCount taps tapCount ≡ given h
+      → (calls : List Step) → Calls (networkOf rows rowCount taps tapCount) calls → Demand h (networkOf rows rowCount taps tapCount) calls
+  -- a call that is accepted, whatever the registers hold
+  pub any-content : (rows : List ℕ) (rowCount : ℕ) (taps : List ℕ) (tapCount : ℕ) (samples : List ℤ) (r : List ℕ) (o : List ℤ) (r′ : List ℕ) (o′ : List ℤ) → Words r
+      → Ran rows rowCount taps tapCount samples r o (given tt) r′ o′ → AnyContent (coefficients (networkOf rows rowCount taps tapCount)) samples r r′ o′
