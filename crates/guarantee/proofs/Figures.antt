@@ -1,7 +1,7 @@
 -- The proved figures, one list.
 use mathlib.Core.Path.{_≡_, refl, sym, ap, ap₂, _∙_, subst}
 use mathlib.Core.List.{List, _∷_, _++_}
-use Prim.Native.Nat.{ℕ, zero, suc, _*_, _<_, _≤_}
+use Prim.Native.Nat.{ℕ, zero, suc, _+_, _*_, _<_, _≤_}
 use native.Mathlib.Omega.{arith}
 use lib.Count.{trailingZeros}
 use lib.IntN.{ℤ, pos}
@@ -22,24 +22,22 @@ use Rattle.sequence.specs.UpTo.{upTo}
 use Rattle.running.specs.Run.{Ran, runAnswer, runOutputs}
 use Rattle.running.specs.Memory.{cleared}
 use Rattle.running.specs.Demand.{Calls}
-use Rattle.guarantee.specs.Example as Calling
-use Rattle.guarantee.specs.Example.{four}
-use Rattle.guarantee.proofs.Example as Called
-use Rattle.guarantee.proofs.Example.{stepsFrom}
+use Rattle.guarantee.proofs.SheetCalls as Called
 use Rattle.guarantee.proofs.SheetFilter as Running
 use Rattle.guarantee.specs.Demand3.{Listed, Taken}
-use Rattle.guarantee.specs.Figures.{sheetTaps, noChoices, samples, SheetFilter, SheetBuilt, SheetCalls, ProvedFigures}
+use Rattle.guarantee.specs.Sheet.{sheetCoefficients, sheetChoices, sheetSamples, storedNetwork, fourCalls}
+use Rattle.guarantee.specs.Figures.{SheetFilter, SheetBuilt, SheetCalls, ProvedFigures}
 use Rattle.guarantee.proofs.Demand3.{can-build, demand-3}
 
 -- the sheet's taps and choices are such as demand 3 speaks of
-within : (tap : ℕ) → tap < length sheetTaps → Coefficient (getD sheetTaps tap (pos 0))
+within : (tap : ℕ) → tap < length sheetCoefficients → Coefficient (getD sheetCoefficients tap (pos 0))
 within zero h = record { from-least = record { le = tt }; to-greatest = record { le = tt } }
 within (suc zero) h = record { from-least = record { le = tt }; to-greatest = record { le = tt } }
 within (suc (suc zero)) h = record { from-least = record { le = tt }; to-greatest = record { le = tt } }
 within (suc (suc (suc zero))) h = record { from-least = record { le = tt }; to-greatest = record { le = tt } }
 within (suc (suc (suc (suc tap)))) h = absurd (omega arith)
 
-choices : (tap : ℕ) → tap < length sheetTaps → Listed (partsOf (getD sheetTaps tap (pos 0))) (getD noChoices tap 0)
+choices : (tap : ℕ) → tap < length sheetCoefficients → Listed (partsOf (getD sheetCoefficients tap (pos 0))) (getD sheetChoices tap 0)
 unfolding partsOf oddPartOf shiftOf trailingZeros
 choices zero h = omega (arith, ap length (figures .of-3))
 choices (suc zero) h = omega (arith, ap length (figures .of-3))
@@ -47,14 +45,14 @@ choices (suc (suc zero)) h = omega (arith, ap length (figures .of-45))
 choices (suc (suc (suc zero))) h = refl
 choices (suc (suc (suc (suc tap)))) h = absurd (omega arith)
 
-taken : Taken sheetTaps noChoices
+taken : Taken sheetCoefficients sheetChoices
 taken = record { from-1 = omega arith; to-256 = omega arith; within-bounds = within; one-per-tap = refl; listed = choices }
 
 abbrev rowsLeft : List ℕ → List ℕ → List ℕ
-rowsLeft rows taps = filled (buildAnswer sheetTaps noChoices rows taps) (wordsOfRows (built sheetTaps noChoices .rows)) rows
+rowsLeft rows taps = filled (buildAnswer sheetCoefficients sheetChoices rows taps) (wordsOfRows (built sheetCoefficients sheetChoices .rows)) rows
 
 abbrev tapsLeft : List ℕ → List ℕ → List ℕ
-tapsLeft rows taps = filled (buildAnswer sheetTaps noChoices rows taps) (wordsOfTapRows (built sheetTaps noChoices .taps)) taps
+tapsLeft rows taps = filled (buildAnswer sheetCoefficients sheetChoices rows taps) (wordsOfTapRows (built sheetCoefficients sheetChoices .taps)) taps
 
 -- there are tables that `build` leaves
 pub building : (cs : List ℤ) (ks rows taps : List ℕ) → BuiltInto cs ks rows taps (rowCount (buildAnswer cs ks rows taps))
@@ -62,8 +60,8 @@ pub building : (cs : List ℤ) (ks rows taps : List ℕ) → BuiltInto cs ks row
 building cs ks rows taps = record { answer = refl; rows-left = refl; taps-left = refl }
 
 module _ (rows taps : List ℕ) (lr : 4096 * rowWords ≤ length rows) (lt : 256 * tapWords ≤ length taps) where
-  accepted : buildAnswer sheetTaps noChoices rows taps ≡ given (built sheetTaps noChoices)
-  accepted = can-build sheetTaps noChoices rows taps taken lr lt
+  accepted : buildAnswer sheetCoefficients sheetChoices rows taps ≡ given (built sheetCoefficients sheetChoices)
+  accepted = can-build sheetCoefficients sheetChoices rows taps taken lr lt
 
   -- the words in front of the tables
   rows-left : rowsLeft rows taps ≡ 0 ∷ 0 ∷ 0 ∷ 43 ∷ 1 ∷ 0 ∷ 0 ∷ 1 ∷ 43 ∷ 3 ∷ 1 ∷ 1 ∷ 4 ∷ 45 ∷ 45 ∷ drop 15 rows
@@ -76,18 +74,18 @@ module _ (rows taps : List ℕ) (lr : 4096 * rowWords ≤ length rows) (lt : 256
   taps-left =
       ap₂ (λ (a : Answer Network) (net : Network). filled a (wordsOfTapRows (net .taps)) taps) accepted example
 
-  three-rows : rowCount (buildAnswer sheetTaps noChoices rows taps) ≡ given 3
+  three-rows : rowCount (buildAnswer sheetCoefficients sheetChoices rows taps) ≡ given 3
   three-rows = ap rowCount accepted ∙ ap (λ (net : Network). given (length (net .rows))) example
 
-  module _ (beyond : List ℕ) (a b c : ℤ) (rest : List ℤ) (n : ℕ) (rows′ taps′ : List ℕ) (left : BuiltInto sheetTaps noChoices rows taps (given n) rows′ taps′)
-      (answer : Answer (Unit {0})) (r′ : List ℕ) (o′ : List ℤ) (ran : Ran rows′ n taps′ 4 samples (replicate 256 0 ++ beyond) (a ∷ b ∷ c ∷ rest) answer r′ o′) where
+  module _ (beyond : List ℕ) (a b c : ℤ) (rest : List ℤ) (n : ℕ) (rows′ taps′ : List ℕ) (left : BuiltInto sheetCoefficients sheetChoices rows taps (given n) rows′ taps′)
+      (answer : Answer (Unit {0})) (r′ : List ℕ) (o′ : List ℤ) (ran : Ran rows′ n taps′ 4 sheetSamples (replicate 256 0 ++ beyond) (a ∷ b ∷ c ∷ rest) answer r′ o′) where
     count-is : n ≡ 3
     count-is = let e = left .answer ∙ three-rows in cc
 
-    answered : runAnswer rows′ n taps′ 4 samples (length (replicate 256 0 ++ beyond)) (length (a ∷ b ∷ c ∷ rest)) ≡ given sheetTaps
+    answered : runAnswer rows′ n taps′ 4 sheetSamples (length (replicate 256 0 ++ beyond)) (length (a ∷ b ∷ c ∷ rest)) ≡ given sheetCoefficients
     answered =
-        ap (λ (k : ℕ). runAnswer rows′ k taps′ 4 samples (length (replicate 256 0 ++ beyond)) (length (a ∷ b ∷ c ∷ rest))) count-is
-        ∙ ap₂ (λ (u v : List ℕ). runAnswer u 3 v 4 samples (length (replicate 256 0 ++ beyond)) (length (a ∷ b ∷ c ∷ rest)))
+        ap (λ (k : ℕ). runAnswer rows′ k taps′ 4 sheetSamples (length (replicate 256 0 ++ beyond)) (length (a ∷ b ∷ c ∷ rest))) count-is
+        ∙ ap₂ (λ (u v : List ℕ). runAnswer u 3 v 4 sheetSamples (length (replicate 256 0 ++ beyond)) (length (a ∷ b ∷ c ∷ rest)))
         (left .rows-left ∙ rows-left) (left .taps-left ∙ taps-left)
         ∙ Running.sheet-filter (drop 15 rows) (drop 12 taps) beyond a b c rest (omega (arith, length-drop 15 rows)) (omega (arith, length-drop 12 taps)) .answer
 
@@ -95,7 +93,7 @@ module _ (rows taps : List ℕ) (lr : 4096 * rowWords ≤ length rows) (lt : 256
     sheet-filter = record {
       accepted = ran .answer ∙ ap outcome answered;
       given-outputs =
-          ran .outputs ∙ ap (λ (x : Answer (List ℤ)). runOutputs x samples (replicate 256 0 ++ beyond) (a ∷ b ∷ c ∷ rest)) answered
+          ran .outputs ∙ ap (λ (x : Answer (List ℤ)). runOutputs x sheetSamples (replicate 256 0 ++ beyond) (a ∷ b ∷ c ∷ rest)) answered
           ∙ Running.sheet-filter (drop 15 rows) (drop 12 taps) beyond a b c rest (omega (arith, length-drop 15 rows)) (omega (arith, length-drop 12 taps)) .outputs;
     }
 
@@ -110,32 +108,34 @@ sheet-built = record {
   rows′ = rowsLeft (replicate 20480 0) (replicate 768 0);
   taps′ = tapsLeft (replicate 20480 0) (replicate 768 0);
   taken = taken;
-  into = subst (λ (a : Answer ℕ). BuiltInto sheetTaps noChoices (replicate 20480 0) (replicate 768 0) a (rowsLeft (replicate 20480 0) (replicate 768 0)) (tapsLeft (replicate 20480 0) (replicate 768 0)))
-      (three-rows (replicate 20480 0) (replicate 768 0) long-rows long-taps) (building sheetTaps noChoices (replicate 20480 0) (replicate 768 0));
+  into = subst (λ (a : Answer ℕ). BuiltInto sheetCoefficients sheetChoices (replicate 20480 0) (replicate 768 0) a (rowsLeft (replicate 20480 0) (replicate 768 0)) (tapsLeft (replicate 20480 0) (replicate 768 0)))
+      (three-rows (replicate 20480 0) (replicate 768 0) long-rows long-taps) (building sheetCoefficients sheetChoices (replicate 20480 0) (replicate 768 0));
 }
 
-same-network : (r t : List ℕ) → Calling.sheet r t ≡ built sheetTaps noChoices
+same-network : (r t : List ℕ) → storedNetwork r t ≡ built sheetCoefficients sheetChoices
 unfolding upTo
 same-network r t = sym example
+
+rest-of-rows : 4096 * rowWords ≤ 15 + length (replicate {A = ℕ} 20465 0)
+rest-of-rows = omega (arith, length-replicate {A = ℕ} 20465 0)
+
+rest-of-taps : 256 * tapWords ≤ 12 + length (replicate {A = ℕ} 756 0)
+rest-of-taps = omega (arith, length-replicate {A = ℕ} 756 0)
 
 sheet-calls : SheetCalls
 sheet-calls =
     let r : List ℕ = replicate 20465 0 in
     let t : List ℕ = replicate 756 0 in
-    let calls = subst (λ (net : Network). Calls net (stepsFrom cleared (four r t))) (same-network r t) (Called.example .calls) in
+    let calls = subst (λ (net : Network). Calls net (Called.steps r t rest-of-rows rest-of-taps)) (same-network r t) (Called.calls r t rest-of-rows rest-of-taps) in
     record {
-      steps = stepsFrom cleared (four r t);
-      lendings = Called.example .lendings;
+      steps = Called.steps r t rest-of-rows rest-of-taps;
+      lendings = Called.same-lendings cleared (fourCalls r t);
       calls = calls;
-      demand = demand-3 .networks sheetTaps noChoices (replicate 20480 0) (replicate 768 0) (given 3) (sheet-built .rows′) (sheet-built .taps′) taken long-rows long-taps (sheet-built .into) .sums
-          (stepsFrom cleared (four r t)) calls;
-      answers = Called.example .answers;
-      full-length = record {
-        rows = omega (arith, length-replicate {A = ℕ} 20465 0);
-        taps = omega (arith, length-replicate {A = ℕ} 756 0);
-        registers = omega arith;
-        outputs = omega arith;
-      };
+      demand = demand-3 .networks sheetCoefficients sheetChoices (replicate 20480 0) (replicate 768 0) (given 3) (sheet-built .rows′) (sheet-built .taps′) taken long-rows long-taps (sheet-built .into) .sums
+          (Called.steps r t rest-of-rows rest-of-taps) calls;
+      answers = Called.answers r t rest-of-rows rest-of-taps;
+      outputs = Called.outputs r t rest-of-rows rest-of-taps;
+      full-length = record { rows = rest-of-rows; taps = rest-of-taps; registers = omega arith; outputs = omega arith };
     }
 
 pub proved-figures : ProvedFigures

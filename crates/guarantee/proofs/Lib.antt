@@ -1,4 +1,4 @@
 pub mod Demand3
-pub mod Example
+pub mod SheetCalls
 pub mod SheetFilter
 pub mod Figures

@@ -1,3 +1,3 @@
 pub mod Demand3
-pub mod Example
+pub mod Sheet
 pub mod Figures

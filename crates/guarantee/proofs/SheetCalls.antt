@@ -1,4 +1,4 @@
--- Every list of calls has a trace, and the calls of specs/Example.antt are such as demand 3 speaks of. Assumes nothing.
+-- Every list of calls has a trace, and the four calls of specs/Sheet.antt are such as demand 3 speaks of. Assumes nothing.
 use mathlib.Core.Path.{_≡_, refl, sym, ap, ap₂, _∙_}
 use mathlib.Core.Bool.{Bool, true, false, _||_}
 use mathlib.Core.List.{List, [], _∷_, _++_, map}
@@ -22,7 +22,7 @@ use Rattle.running.specs.Run.{Ran, runAnswer, runRegisters, runOutputs}
 use Rattle.running.specs.Call.{Call, Said, tableAnswer, saidFrom}
 use Rattle.running.specs.Memory.{Lending, Step, Found, Trace, lent, after, foundFrom, due, dueAll, cleared}
 use Rattle.running.specs.Demand.{Fair, EachFair, Calls, Demand}
-use Rattle.guarantee.specs.Example.{rows, taps, others, h, sheet, smoothing, silent, short, strange, four, Taken}
+use Rattle.guarantee.specs.Sheet.{sheetCoefficients, sheetSamples, sheetRows, sheetTaps, brokenRows, storedNetwork, acceptedCall, silentCall, shortCall, brokenCall, fourCalls}
 use Rattle.running.proofs.Theorem.{running-sums}
 
 -- ---- every list of calls has a trace
@@ -62,11 +62,11 @@ or-true false = refl
 given-not : (number place : ℕ) (a : Answer (List ℤ)) (g : List ℤ) (B : Type 0) → a ≡ refused number place → a ≡ given g → B
 given-not number place a g B p q = let z : _≡_ {A = ℕ} 0 1 = cc in absurd (omega arith)
 
-row-rule : (r t : List ℕ) → checked (networkOf (others r) 3 (taps t) 4) ≡ refused 10 2
+row-rule : (r t : List ℕ) → checked (networkOf (brokenRows r) 3 (sheetTaps t) 4) ≡ refused 10 2
 unfolding checked upTo lowestFrom keepsRowRule
 row-rule r t = refl
 
-three-fit : Within w16 (pos 1 ∷ pos 2 ∷ negℤ (pos 32768) ∷ [])
+three-fit : Within w16 sheetSamples
 three-fit zero = record { sfits = lit≤ tt }
 three-fit (suc zero) = record { sfits = lit≤ tt }
 three-fit (suc (suc zero)) = record { sfits = lit≤ tt }
@@ -76,90 +76,79 @@ one-fits : Within w16 (pos 5 ∷ [])
 one-fits zero = record { sfits = lit≤ tt }
 one-fits (suc k) = record { sfits = lit≤ tt }
 
-module _ (r t : List ℕ) (lr : 4096 * rowWords ≤ length (rows r)) (lt : 256 * tapWords ≤ length (taps t)) where
-  smoothing-given : tableAnswer (smoothing r t .call) ≡ given h
-  smoothing-given = sheet-network r t lr lt
+module _ (r t : List ℕ) (lr : 4096 * rowWords ≤ length (sheetRows r)) (lt : 256 * tapWords ≤ length (sheetTaps t)) where
+  accepted-given : tableAnswer (acceptedCall r t .call) ≡ given sheetCoefficients
+  accepted-given = sheet-network r t lr lt
 
-  silent-given : tableAnswer (silent r t .call) ≡ given h
+  silent-given : tableAnswer (silentCall r t .call) ≡ given sheetCoefficients
   silent-given = sheet-network r t lr lt
 
-  short-refused : tableAnswer (short r t .call) ≡ refused 3 0
+  short-refused : tableAnswer (shortCall r t .call) ≡ refused 3 0
   unfolding networkAnswer
-  short-refused = check-applies (shortTables (rows r) (taps t) || true) 3 (checked (networkOf (rows r) 3 (taps t) 4)) (or-true (shortTables (rows r) (taps t)))
+  short-refused = check-applies (shortTables (sheetRows r) (sheetTaps t) || true) 3 (checked (networkOf (sheetRows r) 3 (sheetTaps t) 4)) (or-true (shortTables (sheetRows r) (sheetTaps t)))
 
-  strange-refused : tableAnswer (strange r t .call) ≡ refused 10 2
+  broken-refused : tableAnswer (brokenCall r t .call) ≡ refused 10 2
   unfolding networkAnswer
-  strange-refused =
-      check-passes (shortTables (others r) (taps t) || false) 3 (checked (networkOf (others r) 3 (taps t) 4))
-      (rw (le-ltb (length (others r)) (4096 * rowWords) lr, le-ltb (length (taps t)) (256 * tapWords) lt))
+  broken-refused =
+      check-passes (shortTables (brokenRows r) (sheetTaps t) || false) 3 (checked (networkOf (brokenRows r) 3 (sheetTaps t) 4))
+      (rw (le-ltb (length (brokenRows r)) (4096 * rowWords) lr, le-ltb (length (sheetTaps t)) (256 * tapWords) lt))
       ∙ row-rule r t
 
-  fair-smoothing : Fair (sheet r t) (smoothing r t)
-  fair-smoothing = record { registers = lit≤ tt; outputs = refl; samples = three-fit; whole = λ g e. refl; network = λ g e. refl }
+  fair-accepted : Fair (storedNetwork r t) (acceptedCall r t)
+  fair-accepted = record { registers = lit≤ tt; outputs = refl; samples = three-fit; whole = λ g e. refl; network = λ g e. refl }
 
-  fair-silent : Fair (sheet r t) (silent r t)
+  fair-silent : Fair (storedNetwork r t) (silentCall r t)
   fair-silent = record { registers = lit≤ tt; outputs = refl; samples = λ k. record { sfits = lit≤ tt }; whole = λ g e. refl; network = λ g e. refl }
 
-  fair-short : Fair (sheet r t) (short r t)
+  fair-short : Fair (storedNetwork r t) (shortCall r t)
   fair-short = record {
     registers = lit≤ tt;
     outputs = refl;
     samples = one-fits;
-    whole = λ g e. given-not 3 0 (tableAnswer (short r t .call)) g (10 ≡ 0) short-refused e;
+    whole = λ g e. given-not 3 0 (tableAnswer (shortCall r t .call)) g (10 ≡ 0) short-refused e;
     network = λ g e. refl;
   }
 
-  fair-strange : Fair (sheet r t) (strange r t)
-  fair-strange = record {
+  fair-broken : Fair (storedNetwork r t) (brokenCall r t)
+  fair-broken = record {
     registers = lit≤ tt;
     outputs = refl;
     samples = one-fits;
     whole = λ g e. refl;
-    network = λ g e. given-not 10 2 (tableAnswer (strange r t .call)) g (networkOf (others r) 3 (taps t) 4 ≡ sheet r t) strange-refused e;
+    network = λ g e. given-not 10 2 (tableAnswer (brokenCall r t .call)) g (networkOf (brokenRows r) 3 (sheetTaps t) 4 ≡ storedNetwork r t) broken-refused e;
   }
 
-  abbrev steps : List Step
-  steps = stepsFrom cleared (four r t)
+  abbrev pub steps : List Step
+  steps = stepsFrom cleared (fourCalls r t)
 
-  each-fair : EachFair (sheet r t) steps
+  each-fair : EachFair (storedNetwork r t) steps
   unfolding stepsFrom
-  each-fair = (fair-smoothing, (fair-silent, (fair-short, (fair-strange, tt))))
+  each-fair = (fair-accepted, (fair-silent, (fair-short, (fair-broken, tt))))
 
-  calls : Calls (sheet r t) steps
-  calls = record { ran = has-trace cleared (four r t); fair = each-fair }
+  pub calls : Calls (storedNetwork r t) steps
+  calls = record { ran = has-trace cleared (fourCalls r t); fair = each-fair }
 
-  demand : Demand h (sheet r t) steps
-  demand = running-sums h (rows r) 3 (taps t) 4 (sheet-network r t lr lt) steps calls
+  demand : Demand sheetCoefficients (storedNetwork r t) steps
+  demand = running-sums sheetCoefficients (sheetRows r) 3 (sheetTaps t) 4 (sheet-network r t lr lt) steps calls
 
-  answers : map (λ (s : Step). s .answer) steps ≡ given tt ∷ given tt ∷ refused 3 0 ∷ refused 10 2 ∷ []
+  pub answers : map (λ (s : Step). s .answer) steps ≡ given tt ∷ given tt ∷ refused 3 0 ∷ refused 10 2 ∷ []
   unfolding stepsFrom foundFrom dueAll saidFrom
   answers =
       ap (map (λ (f : Found). f .answer)) (demand .sums)
-      ∙ (λ i. outcome (smoothing-given i) ∷ outcome (silent-given i) ∷ outcome (short-refused i) ∷ outcome (strange-refused i) ∷ [])
+      ∙ (λ i. outcome (accepted-given i) ∷ outcome (silent-given i) ∷ outcome (short-refused i) ∷ outcome (broken-refused i) ∷ [])
 
-  outputs : map (λ (s : Step). s .outputs) steps ≡ (pos 3 ∷ pos 0 ∷ negℤ (pos 98271) ∷ pos 9 ∷ []) ∷ [] ∷ (pos 8 ∷ []) ∷ (pos 8 ∷ []) ∷ []
+  pub outputs : map (λ (s : Step). s .outputs) steps ≡ (pos 3 ∷ pos 0 ∷ negℤ (pos 98271) ∷ pos 9 ∷ []) ∷ [] ∷ (pos 8 ∷ []) ∷ (pos 8 ∷ []) ∷ []
   unfolding stepsFrom foundFrom dueAll saidFrom outputSums outputSum
   outputs =
       ap (map (λ (f : Found). f .outputs)) (demand .sums)
-      ∙ (λ i. filled (outcome (smoothing-given i)) (stored (smoothing-given i) (λ (g : List ℤ). outputSums h [] three) []) (smoothing r t .held)
+      ∙ (λ i. filled (outcome (accepted-given i)) (stored (accepted-given i) (λ (g : List ℤ). outputSums sheetCoefficients [] sheetSamples) []) (acceptedCall r t .held)
       ∷ filled (outcome (silent-given i)) (stored (silent-given i) (λ (g : List ℤ). []) []) []
-      ∷ filled (outcome (short-refused i)) (stored (short-refused i) (λ (g : List ℤ). outputSums h (two i) (pos 5 ∷ [])) []) (pos 8 ∷ [])
-      ∷ filled (outcome (strange-refused i)) (stored (strange-refused i) (λ (g : List ℤ). outputSums h (stored (short-refused i) (λ (g : List ℤ). two i ++ (pos 5 ∷ [])) (two i)) (pos 5 ∷ [])) []) (pos 8 ∷ [])
+      ∷ filled (outcome (short-refused i)) (stored (short-refused i) (λ (g : List ℤ). outputSums sheetCoefficients (two i) (pos 5 ∷ [])) []) (pos 8 ∷ [])
+      ∷ filled (outcome (broken-refused i)) (stored (broken-refused i) (λ (g : List ℤ). outputSums sheetCoefficients (stored (short-refused i) (λ (g : List ℤ). two i ++ (pos 5 ∷ [])) (two i)) (pos 5 ∷ [])) []) (pos 8 ∷ [])
       ∷ [])
     where
-      three : List ℤ
-      three = pos 1 ∷ pos 2 ∷ negℤ (pos 32768) ∷ []
+      one : stored (tableAnswer (acceptedCall r t .call)) (λ (g : List ℤ). [] ++ sheetSamples) [] ≡ sheetSamples
+      one = ap (λ (a : Answer (List ℤ)). stored a (λ (g : List ℤ). [] ++ sheetSamples) []) accepted-given
 
-      one : stored (tableAnswer (smoothing r t .call)) (λ (g : List ℤ). [] ++ three) [] ≡ three
-      one = ap (λ (a : Answer (List ℤ)). stored a (λ (g : List ℤ). [] ++ three) []) smoothing-given
-
-      two : stored (tableAnswer (silent r t .call)) (λ (g : List ℤ). stored (tableAnswer (smoothing r t .call)) (λ (g : List ℤ). [] ++ three) [] ++ []) (stored (tableAnswer (smoothing r t .call)) (λ (g : List ℤ). [] ++ three) []) ≡ three
+      two : stored (tableAnswer (silentCall r t .call)) (λ (g : List ℤ). stored (tableAnswer (acceptedCall r t .call)) (λ (g : List ℤ). [] ++ sheetSamples) [] ++ []) (stored (tableAnswer (acceptedCall r t .call)) (λ (g : List ℤ). [] ++ sheetSamples) []) ≡ sheetSamples
       two = λ i. stored (silent-given i) (λ (g : List ℤ). one i ++ []) (one i)
-
-  pub taken : Taken r t steps
-  taken = record { lendings = same-lendings cleared (four r t); calls = calls; demand = demand; answers = answers; outputs = outputs }
-
--- ---- with tables of full length there are such steps
-
-pub example : Taken (replicate 20465 0) (replicate 756 0) (stepsFrom cleared (four (replicate 20465 0) (replicate 756 0)))
-example = taken (replicate 20465 0) (replicate 756 0) (omega (arith, length-replicate {A = ℕ} 20465 0)) (omega (arith, length-replicate {A = ℕ} 756 0))
