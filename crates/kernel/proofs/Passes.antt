@@ -13,11 +13,10 @@ use Rattle.convolution.specs.Sums.{held}
 use Rattle.convolution.specs.Bounds.{Words}
 use Rattle.convolution.proofs.Words.{wrapped-lt}
 use Rattle.convolution.proofs.Steps.{held-next, next-drop, length-next, length-outputs}
-use Rattle.kernel_tables.specs.Tables.{Raised, after4}
-use Rattle.kernel_tables.specs.Quiet.{Quiet}
+use Rattle.kernel_tables.specs.Inner.{Raised, after4, Quiet}
 use Rattle.kernel_tables.proofs.Quiets.{quiet-four}
 use Rattle.kernel_moves.proofs.Moves.{moved-all}
-use Rattle.kernel.specs.Passed.{Passed}
+use Rattle.kernel.specs.Inner.{Passed}
 
 -- ---- four samples
 

@@ -7,9 +7,8 @@ ghost use Prim.Native.Nat.{ℕ, _≤_};
 ghost use lib.ListN.{length, drop};
 ghost use lib.Seq.{sets};
 ghost use Rattle.convolution.specs.Running.{outputsOf, registersOf};
-ghost use Rattle.kernel_tables.specs.Tables.{coefficientsIn, Padded, Levelled, Raised};
-ghost use Rattle.kernel_tables.specs.Quiet.{Quiet};
-ghost use Rattle.kernel.specs.Passed.{fourfold, Passed};
+ghost use Rattle.kernel_tables.specs.Inner.{coefficientsIn, Padded, Levelled, Raised, Quiet};
+ghost use Rattle.kernel.specs.Inner.{fourfold, Passed};
 use kernel_singly::singly;
 
 // The samples four by four, as far as that goes; returns the gain after them.

@@ -10,7 +10,7 @@ use Rattle.sequence.proofs.Front.{front-next}
 use Rattle.convolution.specs.Running.{next}
 use Rattle.convolution.specs.Sums.{held}
 use Rattle.convolution.proofs.Steps.{held-low, next-last, next-drop, length-next}
-use Rattle.kernel_tables.specs.Quiet.{Quiet}
+use Rattle.kernel_tables.specs.Inner.{Quiet}
 use Rattle.kernel_moves.proofs.Fronts.{front-rest, front-all}
 use Rattle.kernel_tables.proofs.Quiets.{quiet-next, quiet-same}
 

@@ -14,8 +14,8 @@ use Rattle.convolution.specs.Running.{sumAt, next}
 use Rattle.convolution.specs.Sums.{held}
 use Rattle.convolution.proofs.Words.{wrapped-none, wrapped-lt}
 use Rattle.convolution.proofs.Steps.{held-next, sum-step}
-use Rattle.kernel_products.specs.Offset.{coefficientIn, plus, fourSums}
-use Rattle.kernel_tables.specs.Tables.{coefficientsIn, Padded, after4}
+use Rattle.kernel_products.specs.Inner.{coefficientIn, plus, fourSums}
+use Rattle.kernel_tables.specs.Inner.{coefficientsIn, Padded, after4}
 
 pub length-in : (c : List ℕ) → length (coefficientsIn c) ≡ 256
 unfolding coefficientsIn

@@ -7,10 +7,10 @@ use lib.ListN.{getD}
 use Rattle.sequence.specs.UpTo.{front}
 use Rattle.sequence.proofs.Front.{front-done}
 use Rattle.convolution.specs.Sums.{held}
-use Rattle.kernel_products.specs.Offset.{coefficientIn, sampleIn, fourSums, levelBelow, gainAfter, raisedBy}
+use Rattle.kernel_products.specs.Inner.{coefficientIn, sampleIn, fourSums, levelBelow, gainAfter, raisedBy}
 use Rattle.kernel_products.proofs.FourSums.{four-raised}
-use Rattle.kernel_tables.specs.Tables.{coefficientsIn, Padded, Levelled, Raised, after4}
-use Rattle.kernel_moves.specs.Places.{placed}
+use Rattle.kernel_tables.specs.Inner.{coefficientsIn, Padded, Levelled, Raised, after4}
+use Rattle.kernel_moves.specs.Inner.{placed}
 use Rattle.kernel_moves.proofs.Places.{register-place}
 
 module _ (c v : List ℕ) (q : Levelled c v) where

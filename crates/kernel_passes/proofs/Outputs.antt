@@ -10,8 +10,8 @@ use mir.Syntax.{w64}
 use mir.Val.{toZ}
 use Rattle.convolution.specs.Running.{sumAt, next, outputsOf}
 use Rattle.convolution.specs.Sums.{held}
-use Rattle.kernel_products.specs.Offset.{raisedBy}
-use Rattle.kernel_tables.specs.Tables.{Raised, after4}
+use Rattle.kernel_products.specs.Inner.{raisedBy}
+use Rattle.kernel_tables.specs.Inner.{Raised, after4}
 
 pub four-outputs : (h : List ℤ) (r : List ℕ) (x0 x1 x2 x3 : ℤ) (outs : List ℤ) (i : ℕ) (o0 o1 o2 o3 : ℤ) → o0 ≡ toZ w64 (sumAt h x0 r 0)
     → o1 ≡ toZ w64 (sumAt h x1 (next h x0 r) 0) → o2 ≡ toZ w64 (sumAt h x2 (next h x1 (next h x0 r)) 0)

@@ -9,8 +9,8 @@ use lib.Dec.{ltb}
 use lib.ListN.{length, getD, set}
 use lib.Seq.{getD-set-same, getD-set-other}
 use Rattle.convolution.specs.Sums.{held}
-use Rattle.kernel_products.specs.Offset.{raisedBy}
-use Rattle.kernel_tables.specs.Tables.{Raised}
+use Rattle.kernel_products.specs.Inner.{raisedBy}
+use Rattle.kernel_tables.specs.Inner.{Raised}
 
 module _ (v : List ℕ) (gain : ℕ) (r words : List ℕ) (k n : ℕ) (l : k < length words) (z : held r k ≡ 0) (e : n ≡ raisedBy (getD v (k + 5) 0) gain 0) (f : Raised k v gain r words) where
   at-by : (i : ℕ) → i < k + 1 → (t : Bool) → ltb i k ≡ t → getD (set words k n) i 0 ≡ raisedBy (getD v (i + 5) 0) gain (held r i)

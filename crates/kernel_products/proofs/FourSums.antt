@@ -4,7 +4,7 @@ use Prim.Native.Nat.{ℕ, _+_, _*_, _%_, _<_}
 use native.Mathlib.Omega.{arith}
 use lib.IntN.{ℤ, pos, subℕ, _+ℤ_, _*ℤ_}
 use Rattle.convolution.proofs.Words.{wrapped-lt}
-use Rattle.kernel_products.specs.Offset.{coefficientIn, sampleIn, plus, fourSums, fourProducts, levelBelow, gainAfter, raisedBy}
+use Rattle.kernel_products.specs.Inner.{coefficientIn, sampleIn, plus, fourSums, fourProducts, levelBelow, gainAfter, raisedBy}
 use Rattle.kernel_products.proofs.Products.{cost, sum-first, sum-next}
 
 cost-exact : (a y : ℕ) → a < 4294967296 → y < 65536 → cost a y + (32768 * a + 2147483648 * y) ≡ 18446814442453729280

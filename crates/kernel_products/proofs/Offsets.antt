@@ -11,7 +11,7 @@ use lib.Signed.{mag, ltZ}
 use mir.Syntax.{w16, w32, w64}
 use mir.Val.{SFits}
 use Rattle.convolution.proofs.Words.{sub-less, sub-more}
-use Rattle.kernel_products.specs.Offset.{coefficientIn, sampleIn}
+use Rattle.kernel_products.specs.Inner.{coefficientIn, sampleIn}
 
 -- n with half the range added
 abbrev pub stored : ℕ → ℤ → ℕ

@@ -1,1 +1,1 @@
-pub mod Offset
+pub mod Inner

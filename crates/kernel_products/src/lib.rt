@@ -9,7 +9,7 @@ ghost use lib.IntN.{pos, _+ℤ_, _*ℤ_};
 ghost use mir.Syntax.{w64};
 ghost use mir.Val.{ofZ, toZ};
 ghost use Rattle.convolution.specs.Words.{wrapped};
-ghost use Rattle.kernel_products.specs.Offset.{coefficientIn, sampleIn, fourProducts, levelBelow, gainAfter, raisedBy};
+ghost use Rattle.kernel_products.specs.Inner.{coefficientIn, sampleIn, fourProducts, levelBelow, gainAfter, raisedBy};
 
 // The 64-bit pattern of n in two's complement.
 fn pattern(n: i64) -> u64

@@ -5,7 +5,7 @@ ghost use Prim.Native.Nat.{_≤_, min};
 ghost use lib.ListN.{length, drop};
 ghost use lib.Seq.{sets};
 ghost use Rattle.convolution.specs.Running.{next, outputsOf, registersOf};
-ghost use Rattle.kernel_tables.specs.Quiet.{Quiet};
+ghost use Rattle.kernel_tables.specs.Inner.{Quiet};
 use kernel_products::signed;
 use kernel_products::sum;
 

@@ -8,8 +8,8 @@ use borrow.Author.Tests.{ltb-true, ltb-false}
 use lib.Dec.{ltb}
 use lib.ListN.{length, getD, set, replicate, length-set, length-replicate, getD-replicate}
 use lib.Seq.{getD-set-same, getD-set-other}
-use Rattle.kernel_products.specs.Offset.{levelBelow}
-use Rattle.kernel_tables.specs.Tables.{Blank, Levelled}
+use Rattle.kernel_products.specs.Inner.{levelBelow}
+use Rattle.kernel_tables.specs.Inner.{Blank, Levelled}
 
 -- from place j on, v holds the levels
 pub record From (c v : List ℕ) (j : ℕ) : Type 0 where

@@ -12,8 +12,8 @@ use lib.ListN.{length, getD, set, replicate, length-set, getD-replicate, length-
 use lib.Seq.{getD-set-same, getD-set-other, ext-getD}
 use Rattle.sequence.specs.UpTo.{upTo}
 use Rattle.sequence.proofs.UpTo.{length-upTo, getD-upTo}
-use Rattle.kernel_products.specs.Offset.{coefficientIn}
-use Rattle.kernel_tables.specs.Tables.{coefficientsIn, Padded, Blank}
+use Rattle.kernel_products.specs.Inner.{coefficientIn}
+use Rattle.kernel_tables.specs.Inner.{coefficientsIn, Padded, Blank}
 
 -- c holds the first k coefficients, and 0 at every other place
 pub record Filled (h : List ℤ) (c : List ℕ) (k : ℕ) : Type 0 where

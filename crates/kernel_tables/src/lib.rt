@@ -5,7 +5,7 @@ ghost use mathlib.Core.Path.{_≡_};
 ghost use Prim.Native.Nat.{ℕ, _≤_};
 ghost use lib.IntN.{pos};
 ghost use lib.ListN.{length, getD, replicate};
-ghost use Rattle.kernel_tables.specs.Tables.{coefficientsIn, Padded, Blank, Levelled};
+ghost use Rattle.kernel_tables.specs.Inner.{coefficientsIn, Padded, Blank, Levelled};
 
 mod width;
 

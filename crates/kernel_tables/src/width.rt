@@ -2,7 +2,7 @@
 ghost use mathlib.Core.Path.{_≡_};
 ghost use Prim.Native.Nat.{_≤_};
 ghost use lib.ListN.{length};
-ghost use Rattle.kernel_tables.specs.Quiet.{Quiet};
+ghost use Rattle.kernel_tables.specs.Inner.{Quiet};
 
 // From the number returned on, registers and coefficients are 0. Internal: the crate `kernel` brings
 // tables that are long enough.

@@ -1,25 +1,23 @@
 -- What the decimal digits of a number say, read back: they give the number, and none of them is idle. No function's proof cites this. Assumes nothing.
-use borrow.Author.Tests.{lt-ltb, le-ltb}
+use borrow.Author.Tests.{lt-ltb, le-ltb, le-leb}
 use mathlib.Core.Path.{_≡_, refl, _∙_}
+use mathlib.Core.Bool.{Bool, true, false, _&&_, false≢true}
 use mathlib.Core.List.{List, [], _∷_, _++_}
 use mathlib.Core.Logic.{⊎-elim}
 use Prim.Native.Nat.{ℕ, zero, suc, _+_, _-_, _*_, _/_, _%_, _^_, _≤_, _<_}
 use native.Mathlib.Omega.{arith}
 use lib.ListN.{length, length-append}
-use Rattle.sheet_fields.specs.Numbers.{decimalBy, decimal}
-use Rattle.sheet_fields.proofs.Decimals.{lt-or-le, pow-suc, ten-pos}
-
--- the number whose digits follow those of a
-abbrev pub numberFrom : ℕ → List ℕ → ℕ
-numberFrom a [] = a
-numberFrom a (b ∷ bs) = numberFrom (10 * a + (b - 48)) bs
+use Rattle.sheet_fields.specs.Numbers.{decimalBy, decimal, isDigit, areDigits, numberFrom}
+use Rattle.sheet_fields.specs.Claims.{NumberClaims}
+use Rattle.sheet_fields.proofs.Decimals.{lt-or-le, pow-suc, ten-pos, decimal-le}
 
 number-snoc : (xs : List ℕ) (a d : ℕ) → numberFrom a (xs ++ (d ∷ [])) ≡ 10 * numberFrom a xs + (d - 48)
+unfolding numberFrom
 number-snoc [] a d = refl
 number-snoc (x ∷ xs) a d = number-snoc xs (10 * a + (x - 48)) d
 
 back-by : (f n : ℕ) → n ≤ f → numberFrom 0 (decimalBy f n) ≡ n
-unfolding decimalBy
+unfolding decimalBy numberFrom
 back-by zero n h = omega arith
 back-by (suc f) n h =
     ⊎-elim (λ a. rw (lt-ltb n 10 a) (omega arith))
@@ -35,23 +33,28 @@ unfolding decimal
 decimal-back n = back-by n n (omega arith)
 
 -- every byte is an ASCII digit
-pub data AllDigits : List ℕ → Type 0 where
-  no-more : AllDigits []
-  a-digit : (b : ℕ) {bs : List ℕ} → 48 ≤ b → b ≤ 57 → AllDigits bs → AllDigits (b ∷ bs)
+one-digit : (d : ℕ) → 48 ≤ d → d ≤ 57 → areDigits (d ∷ []) ≡ true
+unfolding areDigits
+one-digit d h k = rw (le-leb 48 d h, le-leb d 57 k)
 
-digits-snoc : {xs : List ℕ} (d : ℕ) → AllDigits xs → 48 ≤ d → d ≤ 57 → AllDigits (xs ++ (d ∷ []))
-digits-snoc d no-more h k = a-digit d h k no-more
-digits-snoc d (a-digit b l m xs) h k = a-digit b l m (digits-snoc d xs h k)
+digits-snoc : (xs ys : List ℕ) → areDigits xs ≡ true → areDigits ys ≡ true → areDigits (xs ++ ys) ≡ true
+unfolding areDigits
+digits-snoc [] ys h k = k
+digits-snoc (x ∷ xs) ys h k = go (isDigit x) h (λ e. digits-snoc xs ys e k)
+  where
+    go : (b : Bool) → (b && areDigits xs) ≡ true → (areDigits xs ≡ true → areDigits (xs ++ ys) ≡ true) → (b && areDigits (xs ++ ys)) ≡ true
+    go true e f = f e
+    go false e f = absurd (false≢true e)
 
-all-by : (f n : ℕ) → n ≤ f → AllDigits (decimalBy f n)
+all-by : (f n : ℕ) → n ≤ f → areDigits (decimalBy f n) ≡ true
 unfolding decimalBy
-all-by zero n h = a-digit (48 + n) (omega arith) (omega arith) no-more
+all-by zero n h = one-digit (48 + n) (omega arith) (omega arith)
 all-by (suc f) n h =
-    ⊎-elim (λ a. rw (lt-ltb n 10 a) (a-digit (48 + n) (omega arith) (omega arith) no-more))
-    (λ a. rw (le-ltb n 10 a) (digits-snoc (48 + n % 10) (all-by f (n / 10) (omega arith)) (omega arith) (omega arith)))
+    ⊎-elim (λ a. rw (lt-ltb n 10 a) (one-digit (48 + n) (omega arith) (omega arith)))
+    (λ a. rw (le-ltb n 10 a) (digits-snoc (decimalBy f (n / 10)) ((48 + n % 10) ∷ []) (all-by f (n / 10) (omega arith)) (one-digit (48 + n % 10) (omega arith) (omega arith))))
     (lt-or-le n 10)
 
-pub decimal-digits : (n : ℕ) → AllDigits (decimal n)
+pub decimal-digits : (n : ℕ) → areDigits (decimal n) ≡ true
 unfolding decimal
 decimal-digits n = all-by n n (omega arith)
 
@@ -75,3 +78,6 @@ long-by (suc f) (suc k) n h g =
 pub decimal-long : (k n : ℕ) → 10 ^ k ≤ n → k < length (decimal n)
 unfolding decimal
 decimal-long k n g = long-by n k n (omega arith) g
+
+pub number-claims : NumberClaims
+number-claims = record { back = decimal-back; digits = decimal-digits; enough = decimal-long; no-more = decimal-le }

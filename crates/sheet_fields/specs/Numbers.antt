@@ -1,8 +1,8 @@
--- Numbers in decimal digits, as ASCII bytes. proofs/Readback.antt shows that the digits give the number back and that none is idle. Definitions only.
-use mathlib.Core.Bool.{Bool, true, false}
+-- Numbers in decimal digits, as ASCII bytes, written and read. Definitions only.
+use mathlib.Core.Bool.{Bool, true, false, _&&_}
 use mathlib.Core.List.{List, [], _∷_, _++_}
-use Prim.Native.Nat.{ℕ, zero, suc, _+_, _/_, _%_}
-use lib.Dec.{ltb}
+use Prim.Native.Nat.{ℕ, zero, suc, _+_, _-_, _*_, _/_, _%_}
+use lib.Dec.{leb, ltb}
 use lib.IntN.{ℤ, pos, negsuc}
 
 -- one digit, or those of n / 10, which `rest` gives, and the last digit
@@ -23,3 +23,16 @@ decimal n = decimalBy n n
 unfoldable pub integer : ℤ → List ℕ
 integer (pos n) = decimal n
 integer (negsuc n) = 45 ∷ decimal (suc n)
+
+-- an ASCII digit
+abbrev pub isDigit : ℕ → Bool
+isDigit b = leb 48 b && leb b 57
+
+unfoldable pub areDigits : List ℕ → Bool
+areDigits [] = true
+areDigits (b ∷ bs) = isDigit b && areDigits bs
+
+-- the decimal number whose digits follow those of a
+unfoldable pub numberFrom : ℕ → List ℕ → ℕ
+numberFrom a [] = a
+numberFrom a (b ∷ bs) = numberFrom (10 * a + (b - 48)) bs

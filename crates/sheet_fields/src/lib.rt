@@ -4,7 +4,7 @@ ghost use mathlib.Core.List.{_++_, _∷_, []};
 ghost use Prim.Native.Nat.{_+_, _≤_};
 ghost use lib.ListN.{length};
 ghost use Rattle.sheet_fields.specs.Numbers.{decimal, integer};
-ghost use Rattle.sheet_fields.specs.Put.{Put};
+ghost use Rattle.sheet_fields.specs.Inner.{Put};
 
 // Puts the bytes of text at index `at`, and answers the index past them. So do the writers below.
 pub fn put(out: &mut [u8], at: usize, text: &[u8]) -> usize

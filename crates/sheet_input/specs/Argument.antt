@@ -1,10 +1,11 @@
 -- The first argument of the program. Document 01, "The sheet". Definitions only.
 use mathlib.Core.Bool.{Bool, true, false, not, _&&_}
-use mathlib.Core.List.{List, [], _∷_}
-use Prim.Native.Nat.{ℕ, _+_, _-_, _*_}
+use mathlib.Core.List.{List}
+use Prim.Native.Nat.{ℕ}
 use lib.Dec.{leb, ltb}
 use lib.ListN.{length}
 use Rattle.refusal.specs.Answer.{Answer, given, refuseIf}
+use Rattle.sheet_fields.specs.Numbers.{areDigits, numberFrom}
 
 -- missing, or its bytes
 pub data Argument : Type 0 where
@@ -15,19 +16,6 @@ pub data Argument : Type 0 where
 abbrev pub argumentOf : Bool → List ℕ → Argument
 argumentOf false bytes = missing
 argumentOf true bytes = text bytes
-
--- an ASCII digit
-abbrev pub isDigit : ℕ → Bool
-isDigit b = leb 48 b && leb b 57
-
-unfoldable pub areDigits : List ℕ → Bool
-areDigits [] = true
-areDigits (b ∷ bs) = isDigit b && areDigits bs
-
--- the decimal number whose digits follow those of a
-unfoldable pub numberFrom : ℕ → List ℕ → ℕ
-numberFrom a [] = a
-numberFrom a (b ∷ bs) = numberFrom (10 * a + (b - 48)) bs
 
 -- "the digits of a decimal number up to 31, leading zeros allowed": one digit at least
 unfoldable pub isFraction : List ℕ → Bool

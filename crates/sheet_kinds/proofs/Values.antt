@@ -11,9 +11,9 @@ use Rattle.network.specs.declared.TapRow.{TapRow}
 use Rattle.network.specs.Rows.{rowAt, rowsOf, tapRowsOf, networkOf, noTap}
 use Rattle.network.specs.Coefficients.{coefficientOf}
 use Rattle.sheet_lines.specs.Lines.{header, nodeLine, tapLine, totalLine, linesFrom}
-use Rattle.sheet_taps.specs.Tables.{tapLineOf}
+use Rattle.sheet_taps.specs.Inner.{tapLineOf}
 use Rattle.sheet_kinds.specs.Text.{tapLineIn, networkText}
-use Rattle.sheet_kinds.specs.Tables.{NetworkIn}
+use Rattle.sheet_kinds.specs.Inner.{NetworkIn}
 
 none-tap : (rows : List Row) → coefficientOf rows noTap ≡ pos 0
 unfolding coefficientOf

@@ -1,3 +1,2 @@
 pub mod Text
--- What an internal writer asks:
-pub mod Tables
+pub mod Inner

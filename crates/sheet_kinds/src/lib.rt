@@ -3,10 +3,10 @@
 ghost use Prim.Native.Nat.{_+_, _≤_};
 ghost use lib.ListN.{length};
 ghost use Rattle.network.specs.Rows.{networkOf};
-ghost use Rattle.sheet_fields.specs.Put.{Put};
+ghost use Rattle.sheet_fields.specs.Inner.{Put};
 ghost use Rattle.sheet_lines.specs.Lines.{header, totalLine};
 ghost use Rattle.sheet_kinds.specs.Text.{networkText, refusedText};
-ghost use Rattle.sheet_kinds.specs.Tables.{NetworkIn};
+ghost use Rattle.sheet_kinds.specs.Inner.{NetworkIn};
 use sheet_fields::put;
 use sheet_fields::put_last;
 use sheet_fields::put_number;

@@ -13,10 +13,10 @@ use Rattle.network.specs.declared.Row.{Row}
 use Rattle.network.specs.declared.TapRow.{TapRow}
 use Rattle.sheet_fields.specs.Ascii.{ascii}
 use Rattle.sheet_fields.specs.Numbers.{decimalBy, decimal, integer}
-use Rattle.sheet_fields.specs.Put.{Put}
+use Rattle.sheet_fields.specs.Inner.{Put}
 use Rattle.sheet_fields.proofs.Puts.{then}
 use Rattle.sheet_lines.specs.Lines.{line, columns, nodeLine, laterLine, tapLine, emptyTapLine, productLine, linesFrom}
-use Rattle.sheet_lines.specs.Shared.{shared}
+use Rattle.sheet_lines.specs.Inner.{shared}
 
 -- the shared fields, and what comes after them
 shared-append : (i left shift sign : ℕ) (b : List ℕ) → shared i left shift sign [] ++ b ≡ shared i left shift sign b

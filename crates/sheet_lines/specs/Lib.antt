@@ -1,3 +1,2 @@
 pub mod Lines
--- For the contract of an internal writer:
-pub mod Shared
+pub mod Inner

@@ -3,8 +3,8 @@
 ghost use mathlib.Core.List.{[]};
 ghost use Prim.Native.Nat.{_+_, _≤_, _<_};
 ghost use lib.ListN.{length};
-ghost use Rattle.sheet_fields.specs.Put.{Put};
-ghost use Rattle.sheet_lines.specs.Shared.{shared};
+ghost use Rattle.sheet_fields.specs.Inner.{Put};
+ghost use Rattle.sheet_lines.specs.Inner.{shared};
 use sheet_fields::put_byte;
 use sheet_fields::put_field;
 

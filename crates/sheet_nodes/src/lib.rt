@@ -2,9 +2,9 @@
 ghost use Prim.Native.Nat.{_+_, _*_, _≤_, _<_};
 ghost use lib.ListN.{length};
 ghost use Rattle.network.specs.Rows.{rowWords, rowAt, rowsOf};
-ghost use Rattle.sheet_fields.specs.Put.{Put};
+ghost use Rattle.sheet_fields.specs.Inner.{Put};
 ghost use Rattle.sheet_lines.specs.Lines.{laterLine, nodeLine, linesFrom};
-ghost use Rattle.sheet_nodes.specs.Tables.{RowsIn};
+ghost use Rattle.sheet_nodes.specs.Inner.{RowsIn};
 use network::Row;
 use sheet_fields::put;
 use sheet_fields::put_field;

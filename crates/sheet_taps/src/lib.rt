@@ -2,9 +2,9 @@
 ghost use Prim.Native.Nat.{_+_, _*_, _≤_, _<_};
 ghost use lib.ListN.{length};
 ghost use Rattle.network.specs.Rows.{tapRowsOf};
-ghost use Rattle.sheet_fields.specs.Put.{Put};
+ghost use Rattle.sheet_fields.specs.Inner.{Put};
 ghost use Rattle.sheet_lines.specs.Lines.{emptyTapLine, productLine, tapLine, linesFrom};
-ghost use Rattle.sheet_taps.specs.Tables.{TapsIn, tapLineOf};
+ghost use Rattle.sheet_taps.specs.Inner.{TapsIn, tapLineOf};
 use network::TapRow;
 use sheet_fields::put;
 use sheet_fields::put_byte;

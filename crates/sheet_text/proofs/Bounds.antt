@@ -19,7 +19,7 @@ use Rattle.tap.specs.Rounding.{exact, rounded, leftover, finite, signed, most, 
 use Rattle.normalise.specs.Normalised.{infinite, divisorOf}
 use Rattle.tap_set.specs.declared.Report.{Report}
 use Rattle.tap_set.specs.Set.{bounded, reportOf, roundedTaps, coefficientsOf}
-use Rattle.sheet_text.specs.Coefficients.{Coefficients}
+use Rattle.sheet_text.specs.Inner.{Coefficients}
 
 -- ---- one tap
 signed-fits : (s : Bool) (n : ℕ) → n ≤ most s → SFits w32 (signed s n)

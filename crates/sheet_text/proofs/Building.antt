@@ -27,9 +27,9 @@ use Rattle.building.proofs.Answers.{exist-forms, not-short, network-given}
 use Rattle.building.proofs.Passes.{CanBuild, built-few, built-passed}
 use Rattle.building.proofs.BuiltTables.{network-left, length-rows-left, length-taps-left, length-built-taps}
 use Rattle.form_choices.proofs.FormNumbers.{choice-zero}
-use Rattle.sheet_kinds.specs.Tables.{NetworkIn}
+use Rattle.sheet_kinds.specs.Inner.{NetworkIn}
 use Rattle.sheet_text.specs.Sheet.{choices}
-use Rattle.sheet_text.specs.Coefficients.{Coefficients}
+use Rattle.sheet_text.specs.Inner.{Coefficients}
 
 -- ---- signs are characters
 char : (s k : ℕ) (b : Bool) → eqb s k ≡ b → k < 256 → T b → s < 256

@@ -2,4 +2,4 @@ pub mod Bounds
 pub mod Building
 pub mod Sheets
 pub mod Example
-pub mod Theorems
+pub mod Claims

@@ -17,12 +17,12 @@ use Rattle.network.specs.Rows.{Network}
 use Rattle.building.specs.TapRows.{built}
 use Rattle.tap_set.specs.declared.Report.{Report}
 use Rattle.tap_set.specs.Set.{roundedTaps, coefficientsOf}
-use Rattle.sheet_fields.specs.Put.{Put}
+use Rattle.sheet_fields.specs.Inner.{Put}
 use Rattle.sheet_kinds.specs.Text.{networkText, refusedText}
 use Rattle.sheet_input.specs.Argument.{Argument}
 use Rattle.sheet_input.specs.Taps.{tapsOf}
 use Rattle.sheet_input.specs.Input.{inputAnswer}
-use Rattle.sheet_text.specs.Sheet.{andThen, choices, tapsAnswer, textOf, sheetOf, sheetAnswer}
+use Rattle.sheet_text.specs.Sheet.{andThen, choices, tapsAnswer, textOf, sheetOf, sheetAnswer, SheetWritten}
 
 module _ (F : ℕ) (taps : List Float) where
   abbrev after : Report → Answer Network
@@ -46,13 +46,16 @@ module _ (input : List ℕ) (argument : Argument) where
   sheet-refused number place e = ap (λ (a : Answer ℕ). textOf (andThen a (λ (f : ℕ). tapsAnswer f (tapsOf input)))) e
 
 -- a text at the start of an area
-pub put-whole : {l b e : List ℕ} {m r : ℕ} → Put l 0 b m e r → m ≤ length l → (r ≡ length b) × ((e ≡ b ++ drop r l) × ((r ≤ length e) × (r ≡ length (take r e))))
-put-whole {l} {b} {e} {m} {r} p h =
-    let n : r ≡ length b = omega (arith, p .next) in
+pub put-sheet : {l b e : List ℕ} {m r : ℕ} (input : List ℕ) (argument : Argument) → sheetOf input argument ≡ b → Put l 0 b m e r → m ≤ length l → SheetWritten input argument l r e
+put-sheet {l} {b} {e} {m} {r} input argument q p h =
     let z : 0 + length b ≡ r = omega (arith, p .next) in
     let s : length e ≡ length l = ap length (p .text) ∙ length-sets l 0 b in
     let k : r ≤ length e = omega (arith, p .within) in
-    (n, (p .text ∙ sets-eq b l 0 (omega (arith, p .within)) ∙ ap (λ j. b ++ drop j l) z, (k, sym (length-take-le r e k))))
+    record {
+      size = omega (arith, p .next, ap length q);
+      text = p .text ∙ sets-eq b l 0 (omega (arith, p .within)) ∙ ap (λ j. b ++ drop j l) z ∙ ap (λ t. t ++ drop r l) (sym q);
+      within = (k, sym (length-take-le r e k));
+    }
 
 -- ---- what the local tables hold
 -- the taps that were read

@@ -1,3 +1,3 @@
 pub mod Sheet
--- For the contract of an internal function:
-pub mod Coefficients
+pub mod Claims
+pub mod Inner

@@ -1,9 +1,10 @@
 -- The sheet of an input and an argument. Document 01, "The sheet". Definitions only.
+use mathlib.Core.Path.{_≡_}
 use mathlib.Core.Bool.{false}
-use mathlib.Core.List.{List}
-use Prim.Native.Nat.{ℕ}
+use mathlib.Core.List.{List, _++_}
+use Prim.Native.Nat.{ℕ, _≤_}
 use lib.Ieee.{Float}
-use lib.ListN.{replicate}
+use lib.ListN.{length, take, drop, replicate}
 use Rattle.refusal.specs.Answer.{Answer, given, refused}
 use Rattle.tap_set.specs.declared.Report.{Report}
 use Rattle.tap_set.specs.Set.{roundedTaps, coefficientsOf}
@@ -40,3 +41,10 @@ textOf (refused number place) = refusedText number place
 -- "a program that prints the sheet": its bytes, for an input and a first argument
 unfoldable pub sheetOf : List ℕ → Argument → List ℕ
 sheetOf input argument = textOf (sheetAnswer input argument)
+
+-- the sheet of an input and an argument stands at the start of the area, which was `area` and is now area′, and its length is n: the contract of `sheet`, and what
+-- every claim about it speaks of
+pub record SheetWritten (input : List ℕ) (argument : Argument) (area : List ℕ) (n : ℕ) (area′ : List ℕ) : Type 0 where
+  pub size : n ≡ length (sheetOf input argument)
+  pub text : area′ ≡ sheetOf input argument ++ drop n area
+  pub within : (n ≤ length area′) × (n ≡ length (take n area′))

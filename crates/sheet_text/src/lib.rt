@@ -5,12 +5,12 @@ ghost use Prim.Native.Nat.{_≤_};
 ghost use lib.ListN.{length, take, drop};
 ghost use Rattle.refusal.specs.Table.{numberOf, placeOf};
 ghost use Rattle.building.specs.TapRows.{built};
-ghost use Rattle.sheet_fields.specs.Put.{Put};
+ghost use Rattle.sheet_fields.specs.Inner.{Put};
 ghost use Rattle.sheet_kinds.specs.Text.{networkText, refusedText};
 ghost use Rattle.sheet_input.specs.Argument.{argumentOf};
 ghost use Rattle.sheet_input.specs.Taps.{wholeTaps, tapsOf};
-ghost use Rattle.sheet_text.specs.Sheet.{choices, tapsAnswer, textOf, sheetOf};
-ghost use Rattle.sheet_text.specs.Coefficients.{Coefficients};
+ghost use Rattle.sheet_text.specs.Sheet.{choices, tapsAnswer, textOf, SheetWritten};
+ghost use Rattle.sheet_text.specs.Inner.{Coefficients};
 use builder::Built;
 use refusal::Refusal;
 use sheet_input::Fraction;
@@ -57,9 +57,7 @@ fn tap_sheet(out: &mut [u8], input: &[u8], fraction_bits: u32) -> usize
 // The sheet of an input and the program's first argument, at the start of the area, and its length.
 // Whether there is an argument is said by `given`.
 pub fn sheet(out: &mut [u8; 262144], input: &[u8], given: bool, argument: &[u8]) -> usize
-    ensures length { λ r. ⌜ r ≡ length (sheetOf (now (input .entry)) (argumentOf given (now (argument .entry)))) ⌝ }
-    ensures text { λ r. ⌜ now (out .exit) ≡ sheetOf (now (input .entry)) (argumentOf given (now (argument .entry))) ++ drop r (now (out .entry)) ⌝ }
-    ensures within { λ r. ⌜ (r ≤ length (now (out .exit))) × (r ≡ length (take r (now (out .exit)))) ⌝ }
+    ensures { λ r. ⌜ SheetWritten (now (input .entry)) (argumentOf given (now (argument .entry))) (now (out .entry)) r (now (out .exit)) ⌝ }
 {
     let fraction = sheet_input::fraction_bits(input, given, argument);
     match fraction {

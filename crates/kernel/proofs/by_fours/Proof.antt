@@ -2,7 +2,7 @@
 use mathlib.Core.Path.{sym, subst}
 use native.Mathlib.Omega.{arith}
 use borrow.Author.Needs.{needs}
-use Rattle.kernel_tables.specs.Quiet.{Quiet}
+use Rattle.kernel_tables.specs.Inner.{Quiet}
 use Rattle.kernel.proofs.Passes.{passed-same, lowered-to, passed-quiet, passed-registers, passed-outputs}
 use Rattle.kernel.proofs.by_fours.Statement.{statement}
 use Rattle.kernel.proofs.by_fours.Tie as tie

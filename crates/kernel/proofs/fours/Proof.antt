@@ -5,10 +5,9 @@ use mathlib.Core.List.{List}
 use native.Mathlib.Omega.{arith}
 use lib.ListN.{length}
 use borrow.Author.Needs.{needs}
-use Rattle.kernel_tables.specs.Tables.{coefficientsIn, Raised}
-use Rattle.kernel_tables.specs.Quiet.{Quiet}
+use Rattle.kernel_tables.specs.Inner.{coefficientsIn, Raised, Quiet}
 use Rattle.kernel_moves.proofs.Places.{length-in}
-use Rattle.kernel.specs.Passed.{Passed}
+use Rattle.kernel.specs.Inner.{Passed}
 use Rattle.kernel.proofs.Passes.{passed-none, passed-four}
 use Rattle.kernel.proofs.fours.Statement.{statement}
 use Rattle.kernel.proofs.fours.Tie as tie

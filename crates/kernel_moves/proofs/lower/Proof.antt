@@ -10,7 +10,7 @@ use Rattle.sequence.proofs.Front.{front-start, front-next}
 use Rattle.convolution.specs.Sums.{held}
 use Rattle.convolution.specs.Bounds.{Words}
 use Rattle.kernel_products.proofs.FourSums.{raised-one}
-use Rattle.kernel_tables.specs.Tables.{Raised}
+use Rattle.kernel_tables.specs.Inner.{Raised}
 use Rattle.kernel_moves.proofs.lower.Statement.{statement}
 use Rattle.kernel_moves.proofs.lower.Tie as tie
 

@@ -7,7 +7,7 @@ use borrow.Author.Needs.{needs}
 use Rattle.sequence.specs.UpTo.{front}
 use Rattle.sequence.proofs.Front.{front-start, front-next, front-done}
 use Rattle.convolution.proofs.Steps.{held-low}
-use Rattle.kernel_products.specs.Offset.{raisedBy}
+use Rattle.kernel_products.specs.Inner.{raisedBy}
 use Rattle.kernel_moves.proofs.raise.Statement.{statement}
 use Rattle.kernel_moves.proofs.raise.Tie as tie
 

@@ -6,7 +6,7 @@ use lib.ListN.{length, length-set, set, getD}
 use borrow.Author.Needs.{needs}
 use Rattle.sequence.specs.UpTo.{front}
 use Rattle.sequence.proofs.Front.{front-start, front-read, front-next}
-use Rattle.kernel_moves.specs.Places.{placed}
+use Rattle.kernel_moves.specs.Inner.{placed}
 use Rattle.kernel_moves.proofs.slide.Statement.{statement}
 use Rattle.kernel_moves.proofs.slide.Tie as tie
 

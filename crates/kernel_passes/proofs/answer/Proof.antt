@@ -7,8 +7,8 @@ use mir.Syntax.{w64}
 use mir.Val.{toZ}
 use mir.ValLaws.{toZ-ofZ}
 use Rattle.convolution.specs.Sums.{held}
-use Rattle.kernel_products.specs.Offset.{sampleIn}
-use Rattle.kernel_tables.specs.Tables.{coefficientsIn}
+use Rattle.kernel_products.specs.Inner.{sampleIn}
+use Rattle.kernel_tables.specs.Inner.{coefficientsIn}
 use Rattle.kernel_moves.proofs.Places.{output-place0, output-place1, output-place2, output-place3}
 use Rattle.kernel_passes.proofs.Outputs.{four-outputs}
 use Rattle.kernel_passes.proofs.answer.Statement.{statement}

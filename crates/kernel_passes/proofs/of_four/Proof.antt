@@ -7,7 +7,7 @@ use borrow.Author.Needs.{needs}
 use lib.IntN.{pos}
 use mir.Syntax.{w16}
 use mir.ValLaws.{toZ-ofZ}
-use Rattle.kernel_tables.specs.Tables.{coefficientsIn, Raised}
+use Rattle.kernel_tables.specs.Inner.{coefficientsIn, Raised}
 use Rattle.kernel_moves.proofs.Fronts.{front-length}
 use Rattle.kernel_moves.proofs.Raising.{slide-raised}
 use Rattle.kernel_passes.proofs.Outputs.{same-outputs, same-raised}

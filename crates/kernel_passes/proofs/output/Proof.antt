@@ -8,9 +8,9 @@ use mir.Syntax.{w64}
 use mir.Val.{toZ}
 use mir.ValLaws.{toZ-ofZ}
 use Rattle.convolution.specs.Sums.{held}
-use Rattle.kernel_products.specs.Offset.{coefficientIn, sampleIn, fourSums, gainAfter, raisedBy}
+use Rattle.kernel_products.specs.Inner.{coefficientIn, sampleIn, fourSums, gainAfter, raisedBy}
 use Rattle.kernel_products.proofs.FourSums.{four-word, raised-one}
-use Rattle.kernel_moves.specs.Places.{placed}
+use Rattle.kernel_moves.specs.Inner.{placed}
 use Rattle.kernel_moves.proofs.Raising.{place-raised}
 use Rattle.kernel_passes.proofs.output.Statement.{statement}
 use Rattle.kernel_passes.proofs.output.Tie as tie

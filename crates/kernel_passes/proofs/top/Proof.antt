@@ -6,7 +6,7 @@ use native.Mathlib.Omega.{arith}
 use lib.ListN.{length, length-set}
 use borrow.Author.Needs.{needs}
 use Rattle.convolution.specs.Sums.{held}
-use Rattle.kernel_tables.specs.Tables.{Raised}
+use Rattle.kernel_tables.specs.Inner.{Raised}
 use Rattle.kernel_passes.proofs.Tops.{raised-more}
 use Rattle.kernel_passes.proofs.top.Statement.{statement}
 use Rattle.kernel_passes.proofs.top.Tie as tie

@@ -5,7 +5,7 @@ use native.Mathlib.Omega.{arith}
 use lib.Dec.{lit≤}
 use mir.Syntax.{w32, w64}
 use Rattle.word.proofs.Signed.{neg-cast, pos-cast, neg-mag, pos-mag, low, high}
-use Rattle.kernel_products.specs.Offset.{coefficientIn}
+use Rattle.kernel_products.specs.Inner.{coefficientIn}
 use Rattle.kernel_products.proofs.Offsets.{stored-neg, stored-pos, coefficient-back}
 use Rattle.kernel_products.proofs.offset_coefficient.Statement.{statement}
 use Rattle.kernel_products.proofs.offset_coefficient.Tie as tie

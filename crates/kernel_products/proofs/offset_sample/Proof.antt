@@ -5,7 +5,7 @@ use native.Mathlib.Omega.{arith}
 use lib.Dec.{lit≤}
 use mir.Syntax.{w16}
 use Rattle.word.proofs.Signed.{neg-cast, pos-cast, neg-mag, pos-mag, low, high}
-use Rattle.kernel_products.specs.Offset.{sampleIn}
+use Rattle.kernel_products.specs.Inner.{sampleIn}
 use Rattle.kernel_products.proofs.Offsets.{stored-neg, stored-pos, sample-back}
 use Rattle.kernel_products.proofs.offset_sample.Statement.{statement}
 use Rattle.kernel_products.proofs.offset_sample.Tie as tie

@@ -12,7 +12,7 @@ use mir.Val.{toZ, ofZ}
 use mir.ValLaws.{toZ-ofZ}
 use Rattle.convolution.specs.Words.{wrapped}
 use Rattle.convolution.specs.Running.{sumAt, next, registersOf, outputsOf}
-use Rattle.kernel_tables.specs.Quiet.{Quiet}
+use Rattle.kernel_tables.specs.Inner.{Quiet}
 use Rattle.kernel_tables.proofs.Quiets.{quiet-next}
 use Rattle.kernel_singly.proofs.Single.{one-registers, one-outputs, end-registers, end-outputs}
 use Rattle.kernel_singly.proofs.singly.Statement.{statement}

@@ -7,7 +7,7 @@ use lib.Dec.{lit≤}
 use mir.ValLaws.{toZ-ofZ}
 use mir.Syntax.{w32}
 use Rattle.word.proofs.Signed.{low, high}
-use Rattle.sheet_fields.specs.Put.{Put}
+use Rattle.sheet_fields.specs.Inner.{Put}
 use Rattle.sheet_fields.specs.Numbers.{decimal}
 use Rattle.sheet_fields.proofs.Integers.{negative, not-negative}
 use Rattle.sheet_fields.proofs.Puts.{then, widen}

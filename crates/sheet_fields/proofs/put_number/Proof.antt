@@ -4,7 +4,7 @@ use mathlib.Core.Path.{subst, _∙_}
 use native.Mathlib.Omega.{arith}
 use lib.Dec.{lit≤}
 use lib.ListN.{length}
-use Rattle.sheet_fields.specs.Put.{Put}
+use Rattle.sheet_fields.specs.Inner.{Put}
 use Rattle.sheet_fields.proofs.Decimals.{digits-decimal, decimal-le}
 use Rattle.sheet_fields.proofs.Puts.{widen}
 use Rattle.sheet_fields.proofs.put_number.Statement.{statement}

@@ -5,7 +5,7 @@ use mathlib.Core.Path.{subst}
 use Prim.Native.Nat.{ℕ}
 use native.Mathlib.Omega.{arith}
 use Rattle.sheet_fields.proofs.Puts.{then, widen}
-use Rattle.sheet_fields.specs.Put.{Put}
+use Rattle.sheet_fields.specs.Inner.{Put}
 use Rattle.sheet_kinds.proofs.Values.{network-written}
 use Rattle.sheet_kinds.proofs.network_sheet.Statement.{statement}
 use Rattle.sheet_kinds.proofs.network_sheet.Tie as tie

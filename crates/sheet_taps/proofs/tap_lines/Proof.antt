@@ -10,8 +10,8 @@ use mir.ValLaws.{toZ-ofZ}
 use Rattle.network.specs.Rows.{tapRowAt, tapRowsOf}
 use Rattle.network.specs.declared.TapRow.{TapRow}
 use Rattle.sheet_fields.proofs.Puts.{then, widen}
-use Rattle.sheet_fields.specs.Put.{Put}
-use Rattle.sheet_taps.specs.Tables.{tapLineOf}
+use Rattle.sheet_fields.specs.Inner.{Put}
+use Rattle.sheet_taps.specs.Inner.{tapLineOf}
 use Rattle.sheet_lines.specs.Lines.{tapLine, linesFrom}
 use Rattle.sheet_lines.proofs.Lines.{lines-next, nothing-put}
 use Rattle.sheet_taps.proofs.tap_lines.Statement.{statement}

@@ -3,7 +3,7 @@ use borrow.Author.Needs.{needs}
 use mathlib.Core.Path.{sym, ap, subst, _∙_}
 use Rattle.builder.specs.Answer.{answerOf}
 use Rattle.sheet_kinds.specs.Text.{networkText}
-use Rattle.sheet_fields.specs.Put.{Put}
+use Rattle.sheet_fields.specs.Inner.{Put}
 use Rattle.network.specs.Rows.{Network}
 use Rattle.sheet_text.specs.Sheet.{choices}
 use Rattle.sheet_text.proofs.Building.{zeros, room, Printable, printable, never-refused}

@@ -7,7 +7,7 @@ use borrow.Author.Needs.{needs}
 use lib.IntN.{pos}
 use mir.Syntax.{w32}
 use mir.ValLaws.{toZ-ofZ}
-use Rattle.kernel_tables.specs.Quiet.{Quiet}
+use Rattle.kernel_tables.specs.Inner.{Quiet}
 use Rattle.kernel_tables.proofs.Quiets.{quiet-end, quiet-less}
 use mir.Val.{toZ}
 use Rattle.kernel_tables.proofs.width.used.Statement.{statement}

@@ -7,8 +7,7 @@ use lib.ListN.{length, drop}
 use lib.Seq.{sets}
 use Rattle.convolution.specs.Running.{outputsOf, registersOf}
 use Rattle.convolution.specs.Bounds.{Words}
-use Rattle.kernel_tables.specs.Tables.{Raised}
-use Rattle.kernel_tables.specs.Quiet.{Quiet}
+use Rattle.kernel_tables.specs.Inner.{Raised, Quiet}
 
 -- how many of n samples go by fours
 abbrev pub fourfold : ℕ → ℕ

@@ -2,7 +2,7 @@
 use mathlib.Core.List.{List}
 use Prim.Native.Nat.{ℕ, _+_}
 use lib.ListN.{getD}
-use Rattle.kernel_products.specs.Offset.{fourProducts}
+use Rattle.kernel_products.specs.Inner.{fourProducts}
 
 -- what place j comes to from n: the coefficients stored in c, for four stored samples, the first of which has the highest
 abbrev pub placed : List ℕ → (y0 y1 y2 y3 j n : ℕ) → ℕ

@@ -6,8 +6,8 @@ use lib.IntN.{ℤ}
 use lib.ListN.{length}
 use Rattle.network.specs.Rows.{networkOf}
 use Rattle.network.specs.Coefficients.{coefficients}
-use Rattle.sheet_nodes.specs.Tables.{RowsIn}
-use Rattle.sheet_taps.specs.Tables.{TapsIn}
+use Rattle.sheet_nodes.specs.Inner.{RowsIn}
+use Rattle.sheet_taps.specs.Inner.{TapsIn}
 
 -- two tables hold n rows and as many tap rows as there are coefficients, and these are the network's
 pub record NetworkIn (rows : List ℕ) (n : ℕ) (taps : List ℕ) (values : List ℤ) : Type 0 where

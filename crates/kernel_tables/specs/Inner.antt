@@ -7,7 +7,7 @@ use lib.ListN.{getD}
 use Rattle.sequence.specs.UpTo.{upTo}
 use Rattle.convolution.specs.Running.{next}
 use Rattle.convolution.specs.Sums.{held}
-use Rattle.kernel_products.specs.Offset.{coefficientIn, levelBelow, raisedBy}
+use Rattle.kernel_products.specs.Inner.{coefficientIn, levelBelow, raisedBy}
 
 -- the 256 coefficients that the table c holds in offset binary, from word 4 on
 unfoldable pub coefficientsIn : List ℕ → List ℤ
@@ -33,3 +33,9 @@ pub record Raised (n : ℕ) (v : List ℕ) (gain : ℕ) (r words : List ℕ) : T
 -- the registers after four samples
 abbrev pub after4 : List ℤ → ℤ → ℤ → ℤ → ℤ → List ℕ → List ℕ
 after4 h x0 x1 x2 x3 r = next h x3 (next h x2 (next h x1 (next h x0 r)))
+
+-- ---- Registers that are out of use, for the contracts of inner functions. Definitions only.
+
+-- from w on, registers and coefficients are 0
+abbrev pub Quiet : ℕ → List ℤ → List ℕ → Type 0
+Quiet w h r = (k : ℕ) → w ≤ k → (held r k ≡ 0) × (getD h k (pos 0) ≡ pos 0)

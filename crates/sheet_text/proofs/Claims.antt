@@ -1,0 +1,41 @@
+-- The claims about the sheet, proved: nothing past 257 taps changes it, so that the program reads no more, and document 01's example. Assumes nothing.
+use mathlib.Core.Path.{_≡_, sym, ap, _∙_}
+use mathlib.Core.List.{List, _++_}
+use mathlib.Core.Logic.{⊎-elim}
+use Prim.Native.Nat.{ℕ, _≤_}
+use native.Mathlib.Omega.{arith}
+use lib.ListN.{length, take, drop}
+use lib.Seq.{take-all, take-at, length-take-le}
+use Rattle.sheet_fields.proofs.Decimals.{lt-or-le}
+use Rattle.sheet_kinds.specs.Text.{refusedText}
+use Rattle.sheet_input.specs.Argument.{Argument, missing}
+use Rattle.sheet_input.proofs.Answers.{too-many}
+use Rattle.sheet_text.specs.Sheet.{sheetOf, SheetWritten}
+use Rattle.sheet_text.specs.Claims.{exampleInput, SheetClaims}
+use Rattle.sheet_text.proofs.Sheets.{sheet-refused}
+use Rattle.sheet_text.proofs.Example.{example-sheet}
+
+from-257 : (input : List ℕ) (argument : Argument) → 2056 ≤ length input → sheetOf input argument ≡ refusedText 2 0
+from-257 input argument h = sheet-refused input argument 2 0 (too-many input argument (λ e. omega arith) (omega arith))
+
+-- the first 2,056 bytes settle it
+pub first-2056 : (input : List ℕ) (argument : Argument) → sheetOf (take 2056 input) argument ≡ sheetOf input argument
+first-2056 input argument =
+    ⊎-elim (λ a. ap (λ (l : List ℕ). sheetOf l argument) (take-all 2056 input (omega arith)))
+    (λ a. from-257 (take 2056 input) argument (omega (arith, length-take-le 2056 input a)) ∙ sym (from-257 input argument a))
+    (lt-or-le (length input) 2056)
+
+-- ---- the claims
+
+same-sheet : (u v : List ℕ) (argument : Argument) (area : List ℕ) (n : ℕ) (area′ : List ℕ) → sheetOf u argument ≡ sheetOf v argument → SheetWritten u argument area n area′
+    → SheetWritten v argument area n area′
+same-sheet u v argument area n area′ e w = record { size = w .size ∙ ap length e; text = w .text ∙ ap (λ (t : List ℕ). t ++ drop n area) e; within = w .within }
+
+text-of : (input : List ℕ) (argument : Argument) (area : List ℕ) (n : ℕ) (area′ : List ℕ) → SheetWritten input argument area n area′ → take n area′ ≡ sheetOf input argument
+text-of input argument area n area′ w = ap (take n) (w .text) ∙ take-at (sheetOf input argument) (drop n area) n (sym (w .size))
+
+pub sheet-claims : SheetClaims
+sheet-claims = record {
+  first-2056 = λ input argument area n area′ w. same-sheet (take 2056 input) input argument area n area′ (first-2056 input argument) w;
+  example-sheet = λ area n area′ w. text-of exampleInput missing area n area′ w ∙ example-sheet;
+}

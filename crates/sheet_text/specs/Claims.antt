@@ -1,0 +1,36 @@
+-- What is claimed of the sheet. Definitions only; proofs/Claims.antt proves it.
+use mathlib.Core.Path.{_≡_}
+use mathlib.Core.List.{List, [], _∷_, _++_}
+use Prim.Native.Nat.{ℕ}
+use lib.ListN.{take}
+use Rattle.sheet_fields.specs.Ascii.{ascii}
+use Rattle.sheet_input.specs.Argument.{Argument, missing}
+use Rattle.sheet_text.specs.Sheet.{SheetWritten}
+
+-- "Taps 3, -6, 45, 0 over 32768": 8 bytes each, low byte first
+abbrev pub exampleInput : List ℕ
+exampleInput =
+    0 ∷ 0 ∷ 0 ∷ 0 ∷ 0 ∷ 0 ∷ 24 ∷ 63 ∷
+    0 ∷ 0 ∷ 0 ∷ 0 ∷ 0 ∷ 0 ∷ 40 ∷ 191 ∷
+    0 ∷ 0 ∷ 0 ∷ 0 ∷ 0 ∷ 128 ∷ 86 ∷ 63 ∷
+    0 ∷ 0 ∷ 0 ∷ 0 ∷ 0 ∷ 0 ∷ 0 ∷ 0 ∷ []
+
+-- and what they give
+abbrev pub exampleText : List ℕ
+exampleText =
+    ascii "kind,number,left,shift,sign,right,value\r\n"
+    ++ ascii "node,0,,,,,1\r\n"
+    ++ ascii "node,1,0,1,+,0,3\r\n"
+    ++ ascii "node,2,1,4,-,1,45\r\n"
+    ++ ascii "tap,0,1,0,+,,3\r\n"
+    ++ ascii "tap,1,1,1,-,,-6\r\n"
+    ++ ascii "tap,2,2,0,+,,45\r\n"
+    ++ ascii "tap,3,,,,,0\r\n"
+    ++ ascii "total,2,,,,,\r\n"
+
+pub record SheetClaims : Type 0 where
+  -- the first 2,056 bytes, 257 taps, settle the sheet
+  pub first-2056 : (input : List ℕ) (argument : Argument) (area : List ℕ) (n : ℕ) (area′ : List ℕ) → SheetWritten (take 2056 input) argument area n area′
+      → SheetWritten input argument area n area′
+  -- document 01's example
+  pub example-sheet : (area : List ℕ) (n : ℕ) (area′ : List ℕ) → SheetWritten exampleInput missing area n area′ → take n area′ ≡ exampleText
