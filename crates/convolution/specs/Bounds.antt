@@ -1,4 +1,4 @@
--- What fits where. Document 01, "The product": "coefficients from -2^31 to 2^31 - 1", "samples 16-bit signed"; "256 registers r, each 64 bits". Definitions only.
+-- What fits where. Document 01, "The product": "samples 16-bit signed"; "256 registers r, each 64 bits". Definitions only.
 use mathlib.Core.List.{List}
 use Prim.Native.Nat.{ℕ, _<_}
 use lib.IntN.{ℤ, pos}

@@ -7,7 +7,7 @@ use native.Mathlib.Omega.{arith}
 use lib.IntN.{ℤ, pos, _+ℤ_, _*ℤ_}
 use lib.ListN.{length, getD, drop}
 use lib.Seq.{drop-cons, sets, sets-eq}
-use Rattle.sequence.specs.UpTo.{front}
+use Rattle.sequence.specs.Inner.{front}
 use Rattle.convolution.specs.Running.{next, outputsOf, registersOf}
 use Rattle.convolution.specs.Sums.{held}
 use Rattle.convolution.specs.Bounds.{Words}

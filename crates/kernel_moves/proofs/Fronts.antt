@@ -5,7 +5,8 @@ use Prim.Native.Nat.{ℕ, zero, suc, _+_, _-_, _<_, _≤_}
 use native.Mathlib.Omega.{arith}
 use lib.ListN.{length, getD, take, drop, set, take-append-drop, length-append, length-drop}
 use lib.Seq.{set-getD, ext-getD, getD-take, length-take-le}
-use Rattle.sequence.specs.UpTo.{upTo, front}
+use Rattle.sequence.specs.UpTo.{upTo}
+use Rattle.sequence.specs.Inner.{front}
 use Rattle.sequence.proofs.UpTo.{length-upTo, getD-upTo}
 use Rattle.sequence.proofs.Front.{front-read, front-next}
 use Rattle.convolution.specs.Sums.{held}

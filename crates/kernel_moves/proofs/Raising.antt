@@ -4,7 +4,7 @@ use mathlib.Core.List.{List}
 use Prim.Native.Nat.{ℕ, _+_, _<_, _≤_}
 use native.Mathlib.Omega.{arith}
 use lib.ListN.{getD}
-use Rattle.sequence.specs.UpTo.{front}
+use Rattle.sequence.specs.Inner.{front}
 use Rattle.sequence.proofs.Front.{front-done}
 use Rattle.convolution.specs.Sums.{held}
 use Rattle.kernel_products.specs.Inner.{coefficientIn, sampleIn, fourSums, levelBelow, gainAfter, raisedBy}

@@ -5,7 +5,7 @@ ghost use mathlib.Core.Path.{_≡_};
 ghost use mathlib.Core.List.{List};
 ghost use Prim.Native.Nat.{ℕ, _≤_, _<_, _+_};
 ghost use lib.ListN.{length, getD};
-ghost use Rattle.sequence.specs.UpTo.{front};
+ghost use Rattle.sequence.specs.Inner.{front};
 ghost use Rattle.convolution.specs.Sums.{held};
 ghost use Rattle.convolution.specs.Bounds.{Words};
 ghost use Rattle.kernel_tables.specs.Inner.{Raised};

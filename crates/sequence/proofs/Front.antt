@@ -6,7 +6,8 @@ use native.Mathlib.Numerals.{add-one}
 use native.Mathlib.Omega.{arith}
 use lib.ListN.{length, getD, drop, set, List·getD-append}
 use lib.Seq.{drop-cons, set-at, append-snoc, getD-append-add, getD-drop}
-use Rattle.sequence.specs.UpTo.{upTo, front}
+use Rattle.sequence.specs.UpTo.{upTo}
+use Rattle.sequence.specs.Inner.{front}
 use Rattle.sequence.proofs.UpTo.{length-upTo, getD-upTo}
 
 module _ {ℓ} {A : Type ℓ} (f : ℕ → A) (r : List A) where

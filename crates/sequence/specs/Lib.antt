@@ -1,2 +1,3 @@
 pub mod Sum
 pub mod UpTo
+pub mod Inner

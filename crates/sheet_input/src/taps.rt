@@ -2,7 +2,7 @@
 ghost use mathlib.Core.Path.{_≡_};
 ghost use Prim.Native.Nat.{_+_, _*_, _≤_, _<_};
 ghost use lib.ListN.{length, take, drop};
-ghost use Rattle.sequence.specs.UpTo.{front};
+ghost use Rattle.sequence.specs.Inner.{front};
 ghost use Rattle.sheet_input.specs.Taps.{lowFirst, tapAt, wholeTaps};
 
 fn byte(b: u8) -> u64

@@ -10,7 +10,8 @@ use lib.Seq.{sets-eq, length-sets, length-take-le, take-at}
 use lib.IntN.{ℤ}
 use Rattle.refusal.specs.Answer.{Answer, given, refused, filled}
 use Rattle.refusal.proofs.Tables.{length-map}
-use Rattle.sequence.specs.UpTo.{upTo, front}
+use Rattle.sequence.specs.UpTo.{upTo}
+use Rattle.sequence.specs.Inner.{front}
 use Rattle.sequence.proofs.UpTo.{length-upTo}
 use Rattle.tap.specs.Rounding.{coefficientOf, wholeOf}
 use Rattle.network.specs.Rows.{Network}

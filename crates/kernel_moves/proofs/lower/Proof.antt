@@ -5,7 +5,7 @@ use mathlib.Core.List.{List}
 use native.Mathlib.Omega.{arith}
 use lib.ListN.{length, length-set, set, getD}
 use borrow.Author.Needs.{needs}
-use Rattle.sequence.specs.UpTo.{front}
+use Rattle.sequence.specs.Inner.{front}
 use Rattle.sequence.proofs.Front.{front-start, front-next}
 use Rattle.convolution.specs.Sums.{held}
 use Rattle.convolution.specs.Bounds.{Words}

@@ -4,7 +4,7 @@ use mathlib.Core.Path.{_≡_, sym, ap, _∙_}
 use native.Mathlib.Omega.{arith}
 use lib.ListN.{length, length-set, set, getD}
 use borrow.Author.Needs.{needs}
-use Rattle.sequence.specs.UpTo.{front}
+use Rattle.sequence.specs.Inner.{front}
 use Rattle.sequence.proofs.Front.{front-start, front-next, front-done}
 use Rattle.convolution.proofs.Steps.{held-low}
 use Rattle.kernel_products.specs.Inner.{raisedBy}

@@ -11,7 +11,7 @@ use mir.Syntax.{w16, w32}
 use mir.Val.{toZ, ofZ}
 use mir.ValLaws.{toZ-ofZ}
 use native.Mathlib.Numerals.{add-one}
-use Rattle.sequence.specs.UpTo.{front}
+use Rattle.sequence.specs.Inner.{front}
 use Rattle.sequence.proofs.Front.{front-start, front-read, front-next}
 use Rattle.convolution.specs.Words.{wrapped}
 use Rattle.convolution.specs.Running.{next}

@@ -8,7 +8,7 @@ use lib.IntN.{ℤ, pos}
 use lib.ListN.{length, length-set, drop, set, getD}
 use mir.Syntax.{w32}
 use mir.ValLaws.{toZ-ofZ}
-use Rattle.sequence.specs.UpTo.{front}
+use Rattle.sequence.specs.Inner.{front}
 use Rattle.sequence.proofs.UpTo.{upTo-take}
 use Rattle.sequence.proofs.Front.{front-start, front-next}
 use Rattle.sequence.proofs.copy.Statement.{statement}

@@ -6,7 +6,7 @@ use native.Mathlib.Omega.{arith}
 use lib.Ieee.{nan}
 use lib.ListN.{length, length-set, set}
 use Rattle.sequence.proofs.Front.{front-start, front-next}
-use Rattle.sequence.specs.UpTo.{front}
+use Rattle.sequence.specs.Inner.{front}
 use Rattle.sheet_input.specs.Taps.{tapAt}
 use Rattle.sheet_input.proofs.taps.read_taps.Statement.{statement}
 use Rattle.sheet_input.proofs.taps.read_taps.Tie as tie
