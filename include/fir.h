@@ -104,8 +104,9 @@ uint64_t fir_coefficients(const uint32_t *rows, size_t rows_length, size_t row_c
 /* Samples run through such a network, one after the other. With h(k) the coefficient of tap k, 0 past
  * the last, the output for a sample x is r(0) + h(0) * x; then each r(k) becomes
  * r(k + 1) + h(k + 1) * x, and r(255) becomes 0. Sums wrap modulo 2^64 and are read as signed. From
- * 256 registers of 0 the outputs are the exact sums over all samples so far, over any number of
- * calls.
+ * 256 registers of 0, over any number of calls, the outputs are the exact sums over all samples
+ * accepted so far, where each accepted call has the same network; calls that are turned down in
+ * between change nothing.
  *   samples[sample_count]      the samples; none are accepted too
  *   registers[register_count]  at least 256, of which the first 256 move on
  *   outputs[output_count]      sample_count outputs are written, from the start; untouched past them
