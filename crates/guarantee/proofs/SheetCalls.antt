@@ -1,13 +1,13 @@
 -- Every list of calls has a trace, and the four calls of specs/Sheet.antt are such as demand 3 speaks of. Assumes nothing.
-use mathlib.Core.Path.{_≡_, refl, sym, ap, ap₂, _∙_}
+use mathlib.Core.Path.{_≡_, refl, ap, _∙_}
 use mathlib.Core.Bool.{Bool, true, false, _||_}
 use mathlib.Core.List.{List, [], _∷_, _++_, map}
 use Prim.Native.Nat.{ℕ, zero, suc, _*_, _≤_}
 use native.Mathlib.Omega.{arith}
 use borrow.Author.Tests.{le-ltb}
-use lib.Dec.{ltb, lit≤}
+use lib.Dec.{lit≤}
 use lib.IntN.{ℤ, pos, negℤ}
-use lib.ListN.{length, take, replicate, length-replicate}
+use lib.ListN.{length, take}
 use mir.Syntax.{w16}
 use Rattle.refusal.specs.Answer.{Answer, given, refused, stored, filled, lowestFrom}
 use Rattle.refusal.proofs.Checks.{check-applies, check-passes}
@@ -18,9 +18,9 @@ use Rattle.network.specs.Rows.{rowWords, tapWords, networkOf}
 use Rattle.network.specs.RowRule.{keepsRowRule}
 use Rattle.network.specs.Check.{outcome, checked, shortTables, networkAnswer}
 use Rattle.network.proofs.Figures.{sheet-network}
-use Rattle.running.specs.Run.{Ran, runAnswer, runRegisters, runOutputs}
-use Rattle.running.specs.Call.{Call, Said, tableAnswer, saidFrom}
-use Rattle.running.specs.Memory.{Lending, Step, Found, Trace, lent, after, foundFrom, due, dueAll, cleared}
+use Rattle.running.specs.Run.{runAnswer, runRegisters, runOutputs}
+use Rattle.running.specs.Call.{tableAnswer, saidFrom}
+use Rattle.running.specs.Memory.{Lending, Step, Found, Trace, lent, after, foundFrom, dueAll, cleared}
 use Rattle.running.specs.Demand.{Fair, EachFair, Calls, Demand}
 use Rattle.guarantee.specs.Sheet.{sheetCoefficients, sheetSamples, sheetRows, sheetTaps, brokenRows, storedNetwork, acceptedCall, silentCall, shortCall, brokenCall, fourCalls}
 use Rattle.running.proofs.Theorem.{running-sums}

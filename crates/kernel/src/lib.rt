@@ -20,9 +20,11 @@ fn fours(
     words: &mut [u64; 260],
     outputs: &mut [i64],
 ) -> u64
-    requires { ⌜ ((w ≤ 256) × (length (now words) ≡ 260)) × ((length (now samples) ≤ length (now outputs)) × ((Padded (now c)) × (Levelled (now c) (now v)))) ⌝ }
+    requires { ⌜ ((w ≤ 256) × (length (now words) ≡ 260))
+        × ((length (now samples) ≤ length (now outputs)) × ((Padded (now c)) × (Levelled (now c) (now v)))) ⌝ }
     ensures { λ gain. ⌜ ((r : List ℕ) → 256 ≤ length r → Quiet w (coefficientsIn (now (c .entry))) r → Raised w (now (v .entry)) 0 r (now (words .entry))
-        → Passed (coefficientsIn (now (c .entry))) w (now (v .entry)) r (now (samples .entry)) (now (outputs .entry)) (fourfold (length (now (samples .entry)))) gain (now (words .exit)) (now (outputs .exit))) ⌝ }
+        → Passed (coefficientsIn (now (c .entry))) w (now (v .entry)) r (now (samples .entry)) (now (outputs .entry))
+        (fourfold (length (now (samples .entry)))) gain (now (words .exit)) (now (outputs .exit))) ⌝ }
 {
     let mut gain: u64 = 0;
     let mut i: usize = 0;
@@ -36,10 +38,14 @@ fn fours(
 // The samples four by four, as far as that goes, with tables of the coefficients and raised
 // registers.
 fn by_fours(h: &[i32; 256], w: usize, samples: &[i16], registers: &mut [u64], outputs: &mut [i64])
-    requires { ⌜ ((length (now h) ≡ 256) × ((256 ≤ length (now registers)) × (length (now samples) ≤ length (now outputs)))) × ((4 ≤ length (now samples)) × ((w ≤ 256) × (Quiet w (now h) (now registers)))) ⌝ }
+    requires { ⌜ ((length (now h) ≡ 256) × ((256 ≤ length (now registers)) × (length (now samples) ≤ length (now outputs))))
+        × ((4 ≤ length (now samples)) × ((w ≤ 256) × (Quiet w (now h) (now registers)))) ⌝ }
     ensures { λ _. ⌜ Quiet w (now (h .entry)) (now (registers .exit)) ⌝ }
-    ensures { λ _. ⌜ registersOf (now (h .entry)) (now (registers .exit)) (drop (fourfold (length (now (samples .entry)))) (now (samples .entry))) ≡ registersOf (now (h .entry)) (now (registers .entry)) (now (samples .entry)) ⌝ }
-    ensures { λ _. ⌜ sets (now (outputs .exit)) (fourfold (length (now (samples .entry)))) (outputsOf (now (h .entry)) (now (registers .exit)) (drop (fourfold (length (now (samples .entry)))) (now (samples .entry)))) ≡ sets (now (outputs .entry)) 0 (outputsOf (now (h .entry)) (now (registers .entry)) (now (samples .entry))) ⌝ }
+    ensures { λ _. ⌜ registersOf (now (h .entry)) (now (registers .exit)) (drop (fourfold (length (now (samples .entry)))) (now (samples .entry)))
+        ≡ registersOf (now (h .entry)) (now (registers .entry)) (now (samples .entry)) ⌝ }
+    ensures { λ _. ⌜ sets (now (outputs .exit)) (fourfold (length (now (samples .entry))))
+        (outputsOf (now (h .entry)) (now (registers .exit)) (drop (fourfold (length (now (samples .entry)))) (now (samples .entry))))
+        ≡ sets (now (outputs .entry)) 0 (outputsOf (now (h .entry)) (now (registers .entry)) (now (samples .entry))) ⌝ }
 {
     let mut c = [2147483648u64; 264];
     kernel_tables::offset_all(h, w, &mut c);
@@ -56,7 +62,8 @@ fn by_fours(h: &[i32; 256], w: usize, samples: &[i16], registers: &mut [u64], ou
 pub fn feed(h: &[i32; 256], samples: &[i16], registers: &mut [u64], outputs: &mut [i64])
     requires { ⌜ (length (now h) ≡ 256) × ((256 ≤ length (now registers)) × (length (now samples) ≤ length (now outputs))) ⌝ }
     ensures { λ _. ⌜ now (registers .exit) ≡ registersOf (now (h .entry)) (now (registers .entry)) (now (samples .entry)) ⌝ }
-    ensures { λ _. ⌜ now (outputs .exit) ≡ outputsOf (now (h .entry)) (now (registers .entry)) (now (samples .entry)) ++ drop (length (now (samples .entry))) (now (outputs .entry)) ⌝ }
+    ensures { λ _. ⌜ now (outputs .exit) ≡ outputsOf (now (h .entry)) (now (registers .entry)) (now (samples .entry))
+        ++ drop (length (now (samples .entry))) (now (outputs .entry)) ⌝ }
 {
     let w = kernel_tables::used(h, registers);
     if samples.len() < 4 {

@@ -25,7 +25,8 @@ pub fn place(c: &[u64; 264], j: usize, word: u64, y0: u16, y1: u16, y2: u16, y3:
 // The first n words, from those four places on.
 pub fn slide(c: &[u64; 264], y0: u16, y1: u16, y2: u16, y3: u16, n: usize, words: &mut [u64; 260])
     requires { ⌜ (n ≤ 256) × (length (now words) ≡ 260) ⌝ }
-    ensures { λ _. ⌜ now (words .exit) ≡ front (λ k. placed (now (c .entry)) y0 y1 y2 y3 (k + 4) (getD (now (words .entry)) (k + 4) 0)) (now (words .entry)) n ⌝ }
+    ensures { λ _. ⌜ now (words .exit)
+        ≡ front (λ k. placed (now (c .entry)) y0 y1 y2 y3 (k + 4) (getD (now (words .entry)) (k + 4) 0)) (now (words .entry)) n ⌝ }
 {
     let mut k: usize = 0;
     while k < n {
@@ -50,7 +51,8 @@ pub fn raise(v: &[u64; 265], w: usize, registers: &[u64], words: &mut [u64; 260]
 // The first w registers from words that were raised.
 pub fn lower(v: &[u64; 265], w: usize, gain: u64, words: &[u64; 260], registers: &mut [u64])
     requires { ⌜ (w ≤ 256) × (256 ≤ length (now registers)) ⌝ }
-    ensures { λ _. ⌜ ((r : List ℕ) → Words r → Raised w (now (v .entry)) gain r (now (words .entry)) → now (registers .exit) ≡ front (held r) (now (registers .entry)) w) ⌝ }
+    ensures { λ _. ⌜ ((r : List ℕ) → Words r → Raised w (now (v .entry)) gain r (now (words .entry))
+        → now (registers .exit) ≡ front (held r) (now (registers .entry)) w) ⌝ }
 {
     let mut k: usize = 0;
     while k < w {

@@ -24,7 +24,8 @@ use kernel_products::signed;
 fn top(v: &[u64; 265], w: usize, gain: u64, words: &mut [u64; 260])
     requires { ⌜ (w ≤ 256) × (length (now words) ≡ 260) ⌝ }
     ensures { λ _. ⌜ length (now (words .exit)) ≡ 260 ⌝ }
-    ensures { λ _. ⌜ ((r : List ℕ) → ((k : ℕ) → w ≤ k → held r k ≡ 0) → Raised w (now (v .entry)) gain r (now (words .entry)) → Raised (w + 4) (now (v .entry)) gain r (now (words .exit))) ⌝ }
+    ensures { λ _. ⌜ ((r : List ℕ) → ((k : ℕ) → w ≤ k → held r k ≡ 0) → Raised w (now (v .entry)) gain r (now (words .entry))
+        → Raised (w + 4) (now (v .entry)) gain r (now (words .exit))) ⌝ }
 {
     let mut k = w;
     while k < w + 4 {
@@ -47,7 +48,9 @@ fn output(
 ) -> i64
     requires { ⌜ (j < 4) × (Levelled (now c) (now v)) ⌝ }
     ensures { λ o. ⌜ ((g : ℕ) (r : List ℕ) → gain ≡ gainAfter g y0 y1 y2 y3 → Raised 4 (now (v .entry)) g r (now (words .entry))
-        → o ≡ toZ w64 (fourSums (held r j) (coefficientIn (getD (now (c .entry)) (j + 4) 0)) (coefficientIn (getD (now (c .entry)) (j + 3) 0)) (coefficientIn (getD (now (c .entry)) (j + 2) 0)) (coefficientIn (getD (now (c .entry)) (j + 1) 0)) (sampleIn y0) (sampleIn y1) (sampleIn y2) (sampleIn y3))) ⌝ }
+        → o ≡ toZ w64 (fourSums (held r j) (coefficientIn (getD (now (c .entry)) (j + 4) 0)) (coefficientIn (getD (now (c .entry)) (j + 3) 0))
+        (coefficientIn (getD (now (c .entry)) (j + 2) 0)) (coefficientIn (getD (now (c .entry)) (j + 1) 0)) (sampleIn y0) (sampleIn y1) (sampleIn y2)
+        (sampleIn y3))) ⌝ }
 {
     signed(lowered(place(c, j, words[j], y0, y1, y2, y3), v[j + 1], gain))
 }
@@ -67,7 +70,8 @@ fn answer(
 )
     requires { ⌜ (i + 4 ≤ length (now outputs)) × ((Padded (now c)) × (Levelled (now c) (now v))) ⌝ }
     ensures { λ _. ⌜ ((g : ℕ) (r : List ℕ) → gain ≡ gainAfter g y0 y1 y2 y3 → Raised 4 (now (v .entry)) g r (now (words .entry))
-        → now (outputs .exit) ≡ sets (now (outputs .entry)) i (outputsOf (coefficientsIn (now (c .entry))) r (sampleIn y0 ∷ sampleIn y1 ∷ sampleIn y2 ∷ sampleIn y3 ∷ []))) ⌝ }
+        → now (outputs .exit) ≡ sets (now (outputs .entry)) i
+        (outputsOf (coefficientsIn (now (c .entry))) r (sampleIn y0 ∷ sampleIn y1 ∷ sampleIn y2 ∷ sampleIn y3 ∷ []))) ⌝ }
 {
     outputs[i] = output(c, v, 0, y0, y1, y2, y3, gain, words);
     outputs[i + 1] = output(c, v, 1, y0, y1, y2, y3, gain, words);
@@ -86,11 +90,17 @@ pub fn of_four(
     words: &mut [u64; 260],
     outputs: &mut [i64],
 ) -> u64
-    requires { ⌜ ((w ≤ 256) × (length (now words) ≡ 260)) × (((i + 4 ≤ length (now samples)) × (length (now samples) ≤ length (now outputs))) × ((Padded (now c)) × (Levelled (now c) (now v)))) ⌝ }
+    requires { ⌜ ((w ≤ 256) × (length (now words) ≡ 260))
+        × (((i + 4 ≤ length (now samples)) × (length (now samples) ≤ length (now outputs))) × ((Padded (now c)) × (Levelled (now c) (now v)))) ⌝ }
     ensures { λ _. ⌜ length (now (words .exit)) ≡ 260 ⌝ }
     ensures { λ after. ⌜ ((r : List ℕ) → Quiet w (coefficientsIn (now (c .entry))) r → Raised w (now (v .entry)) gain r (now (words .entry))
-        → (Raised w (now (v .entry)) after (after4 (coefficientsIn (now (c .entry))) (getD (now (samples .entry)) i (pos 0)) (getD (now (samples .entry)) (i + 1) (pos 0)) (getD (now (samples .entry)) (i + 2) (pos 0)) (getD (now (samples .entry)) (i + 3) (pos 0)) r) (now (words .exit)))
-        × (now (outputs .exit) ≡ sets (now (outputs .entry)) i (outputsOf (coefficientsIn (now (c .entry))) r (getD (now (samples .entry)) i (pos 0) ∷ getD (now (samples .entry)) (i + 1) (pos 0) ∷ getD (now (samples .entry)) (i + 2) (pos 0) ∷ getD (now (samples .entry)) (i + 3) (pos 0) ∷ [])))) ⌝ }
+        → (Raised w (now (v .entry)) after (after4 (coefficientsIn (now (c .entry))) (getD (now (samples .entry)) i (pos 0))
+        (getD (now (samples .entry)) (i + 1) (pos 0)) (getD (now (samples .entry)) (i + 2) (pos 0)) (getD (now (samples .entry)) (i + 3) (pos 0)) r)
+        (now (words .exit)))
+        × (now (outputs .exit) ≡ sets (now (outputs .entry)) i
+        (outputsOf (coefficientsIn (now (c .entry))) r
+        (getD (now (samples .entry)) i (pos 0) ∷ getD (now (samples .entry)) (i + 1) (pos 0) ∷ getD (now (samples .entry)) (i + 2) (pos 0)
+        ∷ getD (now (samples .entry)) (i + 3) (pos 0) ∷ [])))) ⌝ }
 {
     let y0 = offset_sample(samples[i]);
     let y1 = offset_sample(samples[i + 1]);

@@ -38,9 +38,11 @@ pub fn singly(
     registers: &mut [u64],
     outputs: &mut [i64],
 )
-    requires { ⌜ ((length (now h) ≡ 256) × ((start ≤ length (now samples)) × ((256 ≤ length (now registers)) × (length (now samples) ≤ length (now outputs))))) × (Quiet w (now h) (now registers)) ⌝ }
+    requires { ⌜ ((length (now h) ≡ 256) × ((start ≤ length (now samples))
+        × ((256 ≤ length (now registers)) × (length (now samples) ≤ length (now outputs))))) × (Quiet w (now h) (now registers)) ⌝ }
     ensures { λ _. ⌜ now (registers .exit) ≡ registersOf (now (h .entry)) (now (registers .entry)) (drop start (now (samples .entry))) ⌝ }
-    ensures { λ _. ⌜ now (outputs .exit) ≡ sets (now (outputs .entry)) start (outputsOf (now (h .entry)) (now (registers .entry)) (drop start (now (samples .entry)))) ⌝ }
+    ensures { λ _. ⌜ now (outputs .exit) ≡ sets (now (outputs .entry)) start
+        (outputsOf (now (h .entry)) (now (registers .entry)) (drop start (now (samples .entry)))) ⌝ }
 {
     let mut i = start;
     while i < samples.len() {

@@ -1,20 +1,20 @@
 -- The claims about running calls, proved. Assumes nothing.
-use mathlib.Core.Path.{_≡_, refl, sym, ap, _∙_}
+use mathlib.Core.Path.{_≡_, refl, ap, _∙_}
 use mathlib.Core.Bool.{_||_}
-use mathlib.Core.List.{List, _++_}
-use Prim.Native.Nat.{ℕ, _<_, _≤_}
+use mathlib.Core.List.{List}
+use Prim.Native.Nat.{ℕ, _≤_}
 use native.Mathlib.Omega.{arith}
 use lib.Dec.{ltb}
 use lib.IntN.{ℤ, pos}
 use lib.ListN.{length, getD, drop, List·getD-append}
 use Rattle.refusal.specs.Answer.{Answer, given, refused}
-use Rattle.convolution.specs.Running.{registersOf, outputsOf}
+use Rattle.convolution.specs.Running.{outputsOf}
 use Rattle.convolution.specs.Bounds.{Words}
 use Rattle.convolution.proofs.Steps.{length-outputs}
 use Rattle.convolution.proofs.Theorems.{registers-any, outputs-any}
 use Rattle.network.specs.Rows.{networkOf}
 use Rattle.network.specs.Coefficients.{coefficients}
-use Rattle.network.specs.Check.{networkAnswer, outcome}
+use Rattle.network.specs.Check.{outcome}
 use Rattle.network.proofs.Passed.{given-accepted}
 use Rattle.network.proofs.Given.{given-is, given-length}
 use Rattle.running.specs.Run.{Ran, runAnswer, runRegisters, runOutputs}

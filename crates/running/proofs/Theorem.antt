@@ -21,7 +21,7 @@ use Rattle.network.specs.Rows.{Network, networkOf, tapRowAt}
 use Rattle.network.specs.Check.{networkAnswer, outcome}
 use Rattle.network.proofs.Passed.{Passed, Accepted, given-accepted, accepted-given}
 use Rattle.network.proofs.Given.{given-length, given-fits, same-coefficients}
-use Rattle.running.specs.Run.{runAnswer, runRegisters, runOutputs}
+use Rattle.running.specs.Run.{runAnswer, runOutputs}
 use Rattle.running.specs.Call.{Call, networkIn, tableAnswer, joined, saidOf, saidFrom}
 use Rattle.running.specs.Memory.{Lending, Step, RanFrom, Trace, due, dueAll, lent, after, found, foundFrom, overwritten, memory}
 use Rattle.running.specs.Demand.{Fair, EachFair, FullLength, Calls, Demand}

@@ -40,7 +40,8 @@ pub fn network_sheet(
 ) -> usize
     requires { ⌜ NetworkIn (now rows) n (now «tap_rows») (now coefficients) ⌝ }
     requires { ⌜ 262144 ≤ length (now out) ⌝ }
-    ensures { λ r. ⌜ Put (now (out .entry)) 0 (networkText (networkOf (now (rows .entry)) n (now («tap_rows» .entry)) (length (now (coefficients .entry))))) 262144 (now (out .exit)) r ⌝ }
+    ensures { λ r. ⌜ Put (now (out .entry)) 0 (networkText (networkOf (now (rows .entry)) n (now («tap_rows» .entry)) (length (now (coefficients .entry)))))
+        262144 (now (out .exit)) r ⌝ }
 {
     let a = put_header(out, 0);
     let b = node_lines(out, a, rows, n);

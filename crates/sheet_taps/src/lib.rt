@@ -48,7 +48,9 @@ fn tap_line(out: &mut [u8], at: usize, i: u32, tap: TapRow, value: i32) -> usize
 pub fn tap_lines(out: &mut [u8], at: usize, tap_rows: &[u32], coefficients: &[i32]) -> usize
     requires { ⌜ TapsIn (now «tap_rows») (length (now coefficients)) ⌝ }
     requires { ⌜ at + 53 * length (now coefficients) ≤ length (now out) ⌝ }
-    ensures { λ r. ⌜ Put (now (out .entry)) at (linesFrom (tapLineOf (now (coefficients .entry))) 0 (tapRowsOf (now («tap_rows» .entry)) (length (now (coefficients .entry))))) (53 * length (now (coefficients .entry))) (now (out .exit)) r ⌝ }
+    ensures { λ r. ⌜ Put (now (out .entry)) at
+        (linesFrom (tapLineOf (now (coefficients .entry))) 0 (tapRowsOf (now («tap_rows» .entry)) (length (now (coefficients .entry)))))
+        (53 * length (now (coefficients .entry))) (now (out .exit)) r ⌝ }
 {
     let mut to = at;
     let mut j: usize = 0;

@@ -19,7 +19,6 @@ use Rattle.network.specs.Rows.{Network, rowAt, tapRowAt, networkOf, rowIn, tapR
 use Rattle.network.specs.RowRule.{RowRule, isRowSign}
 use Rattle.network.specs.TapRowRule.{TapRowRule, is-empty, is-product, isTapSign}
 use Rattle.network.specs.Coefficients.{coefficients}
-use Rattle.building.specs.Steps.{builtRows}
 use Rattle.building.specs.TapRows.{built}
 use Rattle.building.specs.Answer.{noSuchForm, buildAnswer, rowCount}
 use Rattle.building.specs.Tables.{wordsOfRows, wordsOfTapRows}

@@ -1,8 +1,6 @@
 // The sheet of the taps in some bytes.
-ghost use mathlib.Core.Path.{_≡_};
-ghost use mathlib.Core.List.{_++_};
 ghost use Prim.Native.Nat.{_≤_};
-ghost use lib.ListN.{length, take, drop};
+ghost use lib.ListN.{length};
 ghost use Rattle.refusal.specs.Table.{numberOf, placeOf};
 ghost use Rattle.building.specs.TapRows.{built};
 ghost use Rattle.sheet_fields.specs.Inner.{Put};
