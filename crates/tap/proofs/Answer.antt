@@ -1,23 +1,24 @@
 -- The answers of `round_tap`. Assumes nothing.
 use mathlib.Core.Path.{_≡_, refl, sym, ap, _∙_, subst}
 use mathlib.Core.Logic.{_⊎_, inl, inr}
-use mathlib.Core.Bool.{Bool, true, false, not, cond, true≢false, false≢true}
+use mathlib.Core.Bool.{Bool, true, false, not, _&&_, cond, true≢false, false≢true}
 use Prim.Native.Nat.{ℕ, zero, suc, _*_, _^_, _≤_, _<_}
 use native.Mathlib.Nat.{le-trans, le-of-eq, lt-of-lt-of-le, lt-of-le-of-lt, mul-le-mul-right, mul-right-comm}
 use native.Mathlib.Omega.{arith}
 use lib.IntN.{ℤ, pos, negsuc}
-use lib.Dec.{T, ltb, eqb, ltb→lt, nltb→le, lit≤, lit<}
+use lib.Dec.{T, leb, ltb, eqb, ltb→lt, nltb→le, lit≤, lit<}
 use lib.Signed.{ltZ}
 use mir.Syntax.{w32}
 use mir.Val.{SFits}
 use lib.Ieee.{Float, nan, inf, fin, binary64, up, down, round, mul, eq, lt, ofInt, fits}
 use lib.Ieee.Fits.{down-pos}
 use lib.Ieee.Exact.{HasValue}
-use borrow.Author.Tests.{lt-ltb, le-ltb, eqb-false, ltb-true, ltb-false}
+use borrow.Author.Tests.{lt-ltb, le-ltb, eqb-false, ltb-true, ltb-false, leb-true, leb-false}
+use Rattle.word.specs.Bounds.{withinBounds}
 use Rattle.refusal.specs.Answer.{given, refused, refuseIf}
 use Rattle.refusal.proofs.Checks.{check-applies, check-passes}
-use Rattle.tap.specs.Rounding.{exact, rounded, nearestWhole, signed, most, leftover, split, finite, sizeOf, outside, coefficientOf, roundedTap, absOf}
-use Rattle.tap.specs.Steps.{nearestOf, parted, magnitudeOf}
+use Rattle.tap.specs.Rounding.{exact, rounded, nearestWhole, withSign, leftover, split, finite, sizeOf, outside, resultOf, roundedTap, absOf}
+use Rattle.tap.specs.Inner.{nearestOf, parted, magnitudeOf}
 use Rattle.tap.proofs.Whole.{nearest-same, nearest-le, nearest-ge}
 use Rattle.tap.proofs.Value.{scaled-is, scaled-exact, over, lt-pow, nought, two-to}
 use Rattle.tap.proofs.Even.{nearest-is}
@@ -26,50 +27,77 @@ use Rattle.tap.proofs.Rest.{rest-is, equal-is, whole-value}
 use Rattle.tap.proofs.Sign.{magnitude-fin, smaller-is, round-abs, size-is, sign-is}
 
 -- ---- `roundedTap`
-pub rounded-is : (F : ℕ) (x : Float) → roundedTap F x ≡ refuseIf (ltb 31 F) 4 (refuseIf (not (finite x)) 5 (refuseIf (outside F x) 6 (given (coefficientOf F x))))
+pub rounded-is : (F : ℕ) (x : Float) → roundedTap F x ≡ refuseIf (ltb 31 F) 4 (refuseIf (not (finite x)) 5 (refuseIf (outside F x) 6 (given (resultOf F x))))
 unfolding roundedTap
 rounded-is F x = refl
 
 pub refused-bits : (F : ℕ) (x : Float) → 31 < F → refused 4 0 ≡ roundedTap F x
 refused-bits F x h = sym (rounded-is F x ∙ check-applies (ltb 31 F) 4 _ (lt-ltb 31 F h))
 
-few-bits : (F : ℕ) (x : Float) → F ≤ 31 → roundedTap F x ≡ refuseIf (not (finite x)) 5 (refuseIf (outside F x) 6 (given (coefficientOf F x)))
+few-bits : (F : ℕ) (x : Float) → F ≤ 31 → roundedTap F x ≡ refuseIf (not (finite x)) 5 (refuseIf (outside F x) 6 (given (resultOf F x)))
 few-bits F x h = rounded-is F x ∙ check-passes (ltb 31 F) 4 _ (le-ltb 31 F h)
 
 pub refused-tap : (F : ℕ) (x : Float) → F ≤ 31 → finite x ≡ false → refused 5 0 ≡ roundedTap F x
 refused-tap F x h n = sym (few-bits F x h ∙ check-applies (not (finite x)) 5 _ (ap not n))
 
-pub of-finite : (F : ℕ) (x : Float) → F ≤ 31 → finite x ≡ true → roundedTap F x ≡ refuseIf (outside F x) 6 (given (coefficientOf F x))
+pub of-finite : (F : ℕ) (x : Float) → F ≤ 31 → finite x ≡ true → roundedTap F x ≡ refuseIf (outside F x) 6 (given (resultOf F x))
 of-finite F x h n = few-bits F x h ∙ check-passes (not (finite x)) 5 _ (ap not n)
 
-pub outside-is : (F : ℕ) (s : Bool) (m : ℕ) (e : ℤ) → outside F (fin s m e) ≡ ltb (most s) (sizeOf F (fin s m e))
-unfolding outside
-outside-is F s m e = refl
+-- the largest n for which ±n is a coefficient
+abbrev pub most : Bool → ℕ
+most s = cond s 2147483648 2147483647
 
-pub coefficient-is : (F : ℕ) (s : Bool) (m : ℕ) (e : ℤ) → coefficientOf F (fin s m e) ≡ split s (m * up e * 2 ^ F) (down e) (sizeOf F (fin s m e))
-unfolding coefficientOf
-coefficient-is F s m e = refl
+-- ±n is outside the bounds where n is above it
+within-most : (s : Bool) (n : ℕ) → not (withinBounds (withSign s n)) ≡ ltb (most s) n
+within-most false n = go (leb n 2147483647) refl
+  where
+    go : (b : Bool) → leb n 2147483647 ≡ b → not (leb n 2147483647) ≡ ltb 2147483647 n
+    go true h = ap not h ∙ sym (le-ltb 2147483647 n (leb-true n 2147483647 h))
+    go false h = ap not h ∙ sym (lt-ltb 2147483647 n (leb-false n 2147483647 h))
+within-most true zero = refl
+within-most true (suc n) = go (leb n 2147483647) refl
+  where
+    one-more : (n : ℕ) → n ≤ 2147483647 → suc n ≤ 2147483648
+    one-more n h = omega arith
+
+    past : (n : ℕ) → 2147483647 < n → 2147483648 < suc n
+    past n h = omega arith
+
+    go : (b : Bool) → leb n 2147483647 ≡ b → not (leb n 2147483647 && true) ≡ ltb 2147483648 (suc n)
+    go true h = ap (λ (b : Bool). not (b && true)) h ∙ sym (le-ltb 2147483648 (suc n) (one-more n (leb-true n 2147483647 h)))
+    go false h = ap (λ (b : Bool). not (b && true)) h ∙ sym (lt-ltb 2147483648 (suc n) (past n (leb-false n 2147483647 h)))
+
+pub outside-bounds : (F : ℕ) (s : Bool) (m : ℕ) (e : ℤ) → outside F (fin s m e) ≡ not (withinBounds (withSign s (sizeOf F (fin s m e))))
+unfolding outside
+outside-bounds F s m e = refl
+
+pub outside-is : (F : ℕ) (s : Bool) (m : ℕ) (e : ℤ) → outside F (fin s m e) ≡ ltb (most s) (sizeOf F (fin s m e))
+outside-is F s m e = outside-bounds F s m e ∙ within-most s (sizeOf F (fin s m e))
+
+pub result-is : (F : ℕ) (s : Bool) (m : ℕ) (e : ℤ) → resultOf F (fin s m e) ≡ split s (m * up e * 2 ^ F) (down e) (sizeOf F (fin s m e))
+unfolding resultOf
+result-is F s m e = refl
 
 -- ---- X is ±a / d: parted by ±n it is what `split` says
-pub split-is : (s : Bool) (a d n : ℕ) → split s a d n ≡ cond (eqb (n * d) a) (exact (signed s n)) (rounded (signed s n) (leftover s a d n))
+pub split-is : (s : Bool) (a d n : ℕ) → split s a d n ≡ cond (eqb (n * d) a) (exact (withSign s n)) (rounded (withSign s n) (leftover s a d n))
 unfolding split
 split-is s a d n = refl
 
-parted-is : (X : Float) (s : Bool) (a d n : ℕ) → 0 < d → n ≤ 2147483648 → HasValue X s a d → parted X (signed s n) ≡ split s a d n
+parted-is : (X : Float) (s : Bool) (a d n : ℕ) → 0 < d → n ≤ 2147483648 → HasValue X s a d → parted X (withSign s n) ≡ split s a d n
 parted-is X s a d n D h v = go (eqb (n * d) a) refl ∙ sym (split-is s a d n)
   where
-    w : (t : Bool) × HasValue (ofInt binary64 (signed s n)) t n 1 × ((t ≡ s) ⊎ (n ≡ 0))
+    w : (t : Bool) × HasValue (ofInt binary64 (withSign s n)) t n 1 × ((t ≡ s) ⊎ (n ≡ 0))
     w = whole-value s n (le-trans h (lit≤ tt))
 
-    q : eq X (ofInt binary64 (signed s n)) ≡ eqb (n * d) a
-    q = equal-is X (ofInt binary64 (signed s n)) s (w .0) a d n D v (w .1) (w .2)
+    q : eq X (ofInt binary64 (withSign s n)) ≡ eqb (n * d) a
+    q = equal-is X (ofInt binary64 (withSign s n)) s (w .0) a d n D v (w .1) (w .2)
 
-    go : (b : Bool) → eqb (n * d) a ≡ b → parted X (signed s n) ≡ cond (eqb (n * d) a) (exact (signed s n)) (rounded (signed s n) (leftover s a d n))
-    go true e = sym (parted-yes X (signed s n) (q ∙ e)) ∙ sym (ap (λ (b : Bool). cond b (exact (signed s n)) (rounded (signed s n) (leftover s a d n))) e)
+    go : (b : Bool) → eqb (n * d) a ≡ b → parted X (withSign s n) ≡ cond (eqb (n * d) a) (exact (withSign s n)) (rounded (withSign s n) (leftover s a d n))
+    go true e = sym (parted-yes X (withSign s n) (q ∙ e)) ∙ sym (ap (λ (b : Bool). cond b (exact (withSign s n)) (rounded (withSign s n) (leftover s a d n))) e)
     go false e =
-        sym (parted-no X (signed s n) (q ∙ e))
-        ∙ ap (λ (l : Float). rounded (signed s n) l) (rest-is X (ofInt binary64 (signed s n)) s (w .0) a d n D v (w .1) (w .2) (eqb-false (n * d) a e))
-        ∙ sym (ap (λ (b : Bool). cond b (exact (signed s n)) (rounded (signed s n) (leftover s a d n))) e)
+        sym (parted-no X (withSign s n) (q ∙ e))
+        ∙ ap (λ (l : Float). rounded (withSign s n) l) (rest-is X (ofInt binary64 (withSign s n)) s (w .0) a d n D v (w .1) (w .2) (eqb-false (n * d) a e))
+        ∙ sym (ap (λ (b : Bool). cond b (exact (withSign s n)) (rounded (withSign s n) (leftover s a d n))) e)
 
 -- ---- the test against 2 ^ 32: x is tap × 2 ^ F
 two-abs : magnitudeOf (two-to 32) ≡ two-to 32
@@ -148,12 +176,12 @@ size-small F (fin s m e) c t h q =
     double a b h = omega arith
 
 -- ---- N against the bounds, as the code tests it
-pub above-most : (b : Bool) (c : ℕ) → ltZ (pos 2147483647) (signed b c) ≡ true → most b < c
+pub above-most : (b : Bool) (c : ℕ) → ltZ (pos 2147483647) (withSign b c) ≡ true → most b < c
 above-most false c h = ltb-true 2147483647 c h
 above-most true zero h = absurd (false≢true h)
 above-most true (suc c) h = absurd (false≢true h)
 
-pub below-least : (b : Bool) (c : ℕ) → ltZ (signed b c) (negsuc 2147483647) ≡ true → most b < c
+pub below-least : (b : Bool) (c : ℕ) → ltZ (withSign b c) (negsuc 2147483647) ≡ true → most b < c
 below-least false c h = absurd (false≢true h)
 below-least true zero h = absurd (false≢true h)
 below-least true (suc c) h = go c (ltb-true 2147483647 c h)
@@ -161,7 +189,7 @@ below-least true (suc c) h = go c (ltb-true 2147483647 c h)
     go : (c : ℕ) → 2147483647 < c → 2147483648 < suc c
     go c h = omega arith
 
-pub between : (b : Bool) (c : ℕ) → ltZ (pos 2147483647) (signed b c) ≡ false → ltZ (signed b c) (negsuc 2147483647) ≡ false → c ≤ most b
+pub between : (b : Bool) (c : ℕ) → ltZ (pos 2147483647) (withSign b c) ≡ false → ltZ (withSign b c) (negsuc 2147483647) ≡ false → c ≤ most b
 between false c h k = ltb-false 2147483647 c h
 between true zero h k = lit≤ tt
 between true (suc c) h k = go c (ltb-false 2147483647 c k)
@@ -170,7 +198,7 @@ between true (suc c) h k = go c (ltb-false 2147483647 c k)
     go c h = omega arith
 
 -- a size within them is that of an i32
-pub in-bounds : (b : Bool) (c : ℕ) → c ≤ most b → SFits w32 (signed b c)
+pub in-bounds : (b : Bool) (c : ℕ) → c ≤ most b → SFits w32 (withSign b c)
 in-bounds false c h = record { sfits = lt-of-le-of-lt h (lit< tt) }
 in-bounds true zero h = record { sfits = lit< tt }
 in-bounds true (suc c) h = record { sfits = h }
@@ -179,7 +207,7 @@ most-le : (s : Bool) → most s ≤ 2147483648
 most-le true = le-of-eq refl
 most-le false = lit≤ tt
 
-zero-signed : (b s : Bool) → signed b 0 ≡ signed s 0
+zero-signed : (b s : Bool) → withSign b 0 ≡ withSign s 0
 zero-signed true true = refl
 zero-signed true false = refl
 zero-signed false true = refl
@@ -222,7 +250,7 @@ module _ (F : ℕ) (b : Bool) (c : ℕ) (h : F ≤ 31) where
   refused-most (fin s m e) t u p q l = outside-stop F s m e h (over-most F s m e b p (lt-of-lt-of-le l (le-of-eq (q ∙ size-of F s m e t u))))
 
   pub accepted : (tap : Float) → T (fits binary64 tap) → lt (magnitudeOf (mul binary64 tap (two-to F))) (two-to 32) ≡ true → lt tap nought ≡ b → c ≡ nearestOf (magnitudeOf (mul binary64 tap (two-to F))) → c ≤ most b
-      → given (parted (mul binary64 tap (two-to F)) (signed b c)) ≡ roundedTap F tap
+      → given (parted (mul binary64 tap (two-to F)) (withSign b c)) ≡ roundedTap F tap
   accepted nan t u p q l = absurd (true≢false (sym u ∙ never F nan refl))
   accepted (inf s) t u p q l = absurd (true≢false (sym u ∙ never F (inf s) refl))
   accepted (fin s m e) t u p q l = go (sign-is F s m e b p)
@@ -230,23 +258,23 @@ module _ (F : ℕ) (b : Bool) (c : ℕ) (h : F ≤ 31) where
       same : c ≡ sizeOf F (fin s m e)
       same = q ∙ size-of F s m e t u
 
-      inside : sizeOf F (fin s m e) ≤ most s → given (parted (mul binary64 (fin s m e) (two-to F)) (signed s (sizeOf F (fin s m e)))) ≡ roundedTap F (fin s m e)
+      inside : sizeOf F (fin s m e) ≤ most s → given (parted (mul binary64 (fin s m e) (two-to F)) (withSign s (sizeOf F (fin s m e)))) ≡ roundedTap F (fin s m e)
       inside k =
           ap given (parted-is (mul binary64 (fin s m e) (two-to F)) s (m * up e * 2 ^ F) (down e) (sizeOf F (fin s m e)) (down-pos e) (le-trans k (most-le s)) (exactly F s m e t (under F s m e t u)))
-          ∙ ap given (sym (coefficient-is F s m e))
+          ∙ ap given (sym (result-is F s m e))
           ∙ sym (of-finite F (fin s m e) h refl ∙ check-passes (outside F (fin s m e)) 6 _ (outside-is F s m e ∙ le-ltb (most s) (sizeOf F (fin s m e)) k))
 
       low : (s : Bool) (n : ℕ) → n ≡ 0 → n ≤ most s
       low true n z = omega arith
       low false n z = omega arith
 
-      go : (b ≡ s) ⊎ (sizeOf F (fin s m e) ≡ 0) → given (parted (mul binary64 (fin s m e) (two-to F)) (signed b c)) ≡ roundedTap F (fin s m e)
+      go : (b ≡ s) ⊎ (sizeOf F (fin s m e) ≡ 0) → given (parted (mul binary64 (fin s m e) (two-to F)) (withSign b c)) ≡ roundedTap F (fin s m e)
       go (inl z) =
-          ap (λ (k : ℕ). given (parted (mul binary64 (fin s m e) (two-to F)) (signed b k))) same
-          ∙ ap (λ (d : Bool). given (parted (mul binary64 (fin s m e) (two-to F)) (signed d (sizeOf F (fin s m e))))) z
+          ap (λ (k : ℕ). given (parted (mul binary64 (fin s m e) (two-to F)) (withSign b k))) same
+          ∙ ap (λ (d : Bool). given (parted (mul binary64 (fin s m e) (two-to F)) (withSign d (sizeOf F (fin s m e))))) z
           ∙ inside (subst (λ (k : ℕ). k ≤ most s) same (subst (λ (d : Bool). c ≤ most d) z l))
       go (inr z) =
-          ap (λ (k : ℕ). given (parted (mul binary64 (fin s m e) (two-to F)) (signed b k))) (same ∙ z)
+          ap (λ (k : ℕ). given (parted (mul binary64 (fin s m e) (two-to F)) (withSign b k))) (same ∙ z)
           ∙ ap (λ (i : ℤ). given (parted (mul binary64 (fin s m e) (two-to F)) i)) (zero-signed b s)
-          ∙ ap (λ (k : ℕ). given (parted (mul binary64 (fin s m e) (two-to F)) (signed s k))) (sym z)
+          ∙ ap (λ (k : ℕ). given (parted (mul binary64 (fin s m e) (two-to F)) (withSign s k))) (sym z)
           ∙ inside (low s (sizeOf F (fin s m e)) z)

@@ -1,4 +1,4 @@
--- How far whole numbers are from the fraction ±a / d: `signed s (nearestWhole a d)` is nearest, and of two that are as near it is the larger in size. Assumes nothing.
+-- How far whole numbers are from the fraction ±a / d: `withSign s (nearestWhole a d)` is nearest, and of two that are as near it is the larger in size. Assumes nothing.
 use mathlib.Core.Path.{_≡_, refl, sym, ap, _∙_}
 use mathlib.Core.Logic.{_⊎_, inl, inr}
 use mathlib.Core.Bool.{Bool, true, false, not, cond}
@@ -8,7 +8,7 @@ use native.Mathlib.Omega.{arith}
 use lib.IntN.{ℤ, pos, negsuc, negℤ, natAbs, _+ℤ_, _-ℤ_, _*ℤ_, negℤ-negℤ, negℤ-+ℤ}
 use lib.Dec.{T, ltb, leb, ltb→lt, nltb→le}
 use borrow.Author.Tests.{lt-ltb, le-ltb, lt-leb, le-leb}
-use Rattle.tap.specs.Rounding.{nearestWhole, signed}
+use Rattle.tap.specs.Rounding.{nearestWhole, withSign}
 use Rattle.tap.proofs.Whole.{nearest-near}
 use Rattle.tap.proofs.Rule.{nearest-within}
 use Rattle.tap.proofs.Exact.{apart, side, apart-le}
@@ -26,7 +26,7 @@ size-neg (pos zero) = refl
 size-neg (pos (suc n)) = refl
 size-neg (negsuc n) = refl
 
-pub size-signed : (s : Bool) (n : ℕ) → natAbs (signed s n) ≡ n
+pub size-signed : (s : Bool) (n : ℕ) → natAbs (withSign s n) ≡ n
 size-signed true n = size-neg (pos n)
 size-signed false n = refl
 
@@ -37,7 +37,7 @@ order-leb x a = go (order a x)
     go (inl h) = inr (lt-leb x a h, h)
     go (inr h) = inl (le-leb x a h, h)
 
-less-is : (a x : ℕ) → pos a +ℤ negℤ (pos x) ≡ signed (cond (leb x a) false true) (apart a x)
+less-is : (a x : ℕ) → pos a +ℤ negℤ (pos x) ≡ withSign (cond (leb x a) false true) (apart a x)
 less-is a x = go (order-leb x a)
   where
     up-to : (a x : ℕ) → x ≤ a → pos a +ℤ negℤ (pos x) ≡ pos (apart a x)
@@ -60,24 +60,24 @@ less-is a x = go (order-leb x a)
         rest : (a y : ℕ) → a < suc y → suc (suc y - suc a) ≡ apart a (suc y)
         rest a y h = omega arith
 
-    go : ((leb x a ≡ true) × (x ≤ a)) ⊎ ((leb x a ≡ false) × (a < x)) → pos a +ℤ negℤ (pos x) ≡ signed (cond (leb x a) false true) (apart a x)
-    go (inl h) = up-to a x (h .1) ∙ ap (λ (b : Bool). signed (cond b false true) (apart a x)) (sym (h .0))
-    go (inr h) = over a x (h .1) ∙ ap (λ (b : Bool). signed (cond b false true) (apart a x)) (sym (h .0))
+    go : ((leb x a ≡ true) × (x ≤ a)) ⊎ ((leb x a ≡ false) × (a < x)) → pos a +ℤ negℤ (pos x) ≡ withSign (cond (leb x a) false true) (apart a x)
+    go (inl h) = up-to a x (h .1) ∙ ap (λ (b : Bool). withSign (cond b false true) (apart a x)) (sym (h .0))
+    go (inr h) = over a x (h .1) ∙ ap (λ (b : Bool). withSign (cond b false true) (apart a x)) (sym (h .0))
 
 size-less : (a x : ℕ) → natAbs (pos a +ℤ negℤ (pos x)) ≡ apart a x
 size-less a x = ap natAbs (less-is a x) ∙ size-signed (cond (leb x a) false true) (apart a x)
 
-pub signed-mul : (s : Bool) (n d : ℕ) → signed s n *ℤ pos d ≡ signed s (n * d)
+pub signed-mul : (s : Bool) (n d : ℕ) → withSign s n *ℤ pos d ≡ withSign s (n * d)
 signed-mul false n d = refl
 signed-mul true zero d = ap pos (zero-mul d) ∙ ap (λ (x : ℕ). negℤ (pos x)) (sym (zero-mul d))
 signed-mul true (suc n) d = refl
 
 -- a whole number as far from ±a / d as `distance` parts of d
 abbrev pub distance : Bool → ℕ → ℕ → ℤ → ℕ
-distance s a d z = natAbs (signed s a -ℤ z *ℤ pos d)
+distance s a d z = natAbs (withSign s a -ℤ z *ℤ pos d)
 
 -- on the same side of zero, and on the other
-same-side : (s : Bool) (a d k : ℕ) → distance s a d (signed s k) ≡ apart a (k * d)
+same-side : (s : Bool) (a d k : ℕ) → distance s a d (withSign s k) ≡ apart a (k * d)
 same-side false a d k = size-less a (k * d)
 same-side true a d k =
     ap (λ (z : ℤ). natAbs (negℤ (pos a) -ℤ z)) (signed-mul true k d)
@@ -85,14 +85,14 @@ same-side true a d k =
     ∙ size-neg (pos a +ℤ negℤ (pos (k * d)))
     ∙ size-less a (k * d)
 
-other-side : (s : Bool) (a d k : ℕ) → distance s a d (signed (not s) k) ≡ a + k * d
+other-side : (s : Bool) (a d k : ℕ) → distance s a d (withSign (not s) k) ≡ a + k * d
 other-side false a d k =
     ap (λ (z : ℤ). natAbs (pos a -ℤ z)) (signed-mul true k d) ∙ ap (λ (z : ℤ). natAbs (pos a +ℤ z)) (negℤ-negℤ (pos (k * d)))
 other-side true a d k = ap natAbs (sym (negℤ-+ℤ (pos a) (pos (k * d)))) ∙ size-neg (pos (a + k * d))
 
 -- every whole number is on one of the two
 abbrev Sided : Bool → ℤ → Type 0
-Sided s z = ((k : ℕ) × (signed s k ≡ z)) ⊎ ((k : ℕ) × (signed (not s) k ≡ z))
+Sided s z = ((k : ℕ) × (withSign s k ≡ z)) ⊎ ((k : ℕ) × (withSign (not s) k ≡ z))
 
 sided : (s : Bool) (z : ℤ) → Sided s z
 sided false (pos k) = inl (k, refl)
@@ -127,7 +127,7 @@ compared k n d = go (order k n) (order n k)
 -- ---- the number that `nearestWhole` gives
 module _ (s : Bool) (a d : ℕ) (D : 0 < d) where
   abbrev N : ℤ
-  N = signed s (nearestWhole a d)
+  N = withSign s (nearestWhole a d)
 
   is-near : distance s a d N ≡ apart a (nearestWhole a d * d)
   is-near = same-side s a d (nearestWhole a d)
@@ -194,19 +194,19 @@ module _ (s : Bool) (a d : ℕ) (D : 0 < d) where
       size = le-antisymm (none-larger z e) (large N (sym e)) ∙ size-signed s (nearestWhole a d)
 
       go : Sided s z → z ≡ N
-      go (inl w) = sym (w .1) ∙ ap (signed s) (sym (size-signed s (w .0)) ∙ ap natAbs (w .1) ∙ size)
+      go (inl w) = sym (w .1) ∙ ap (withSign s) (sym (size-signed s (w .0)) ∙ ap natAbs (w .1) ∙ size)
       go (inr w) =
           let k : w .0 ≡ nearestWhole a d = sym (size-signed (not s) (w .0)) ∙ ap natAbs (w .1) ∙ size in
-          sym (w .1) ∙ ap (signed (not s)) k ∙ same (nearestWhole a d) (le-trans (le-of-eq (ap (λ (x : ℕ). a + x * d) (sym k) ∙ sym (other-side s a d (w .0)) ∙ ap (distance s a d) (w .1) ∙ e ∙ is-near)) (apart-le a d D))
+          sym (w .1) ∙ ap (withSign (not s)) k ∙ same (nearestWhole a d) (le-trans (le-of-eq (ap (λ (x : ℕ). a + x * d) (sym k) ∙ sym (other-side s a d (w .0)) ∙ ap (distance s a d) (w .1) ∙ e ∙ is-near)) (apart-le a d D))
         where
-          zeros : (s : Bool) → signed (not s) 0 ≡ signed s 0
+          zeros : (s : Bool) → withSign (not s) 0 ≡ withSign s 0
           zeros true = refl
           zeros false = refl
 
           more : (a y : ℕ) → 0 < y → a + y ≤ a → ⊥
           more a y h l = omega arith
 
-          same : (n : ℕ) → a + n * d ≤ a → signed (not s) n ≡ signed s n
+          same : (n : ℕ) → a + n * d ≤ a → withSign (not s) n ≡ withSign s n
           same zero h = zeros s
           same (suc n) h = absurd (more a (suc n * d) (le-trans D (le-trans (le-of-eq (sym (one-mul d))) (mul-le-mul-right d (one-le n)))) h)
             where
@@ -214,11 +214,11 @@ module _ (s : Bool) (a d : ℕ) (D : 0 < d) where
               one-le n = omega arith
 
 -- ---- ±a less ±n * d, with its sign
-neg-signed : (b : Bool) (k : ℕ) → negℤ (signed (cond b false true) k) ≡ signed (cond b true false) k
+neg-signed : (b : Bool) (k : ℕ) → negℤ (withSign (cond b false true) k) ≡ withSign (cond b true false) k
 neg-signed true k = refl
 neg-signed false k = negℤ-negℤ (pos k)
 
-pub difference-is : (s : Bool) (a d n : ℕ) → signed s a -ℤ signed s n *ℤ pos d ≡ signed (side s a d n) (apart a (n * d))
+pub difference-is : (s : Bool) (a d n : ℕ) → withSign s a -ℤ withSign s n *ℤ pos d ≡ withSign (side s a d n) (apart a (n * d))
 difference-is false a d n = less-is a (n * d)
 difference-is true a d n =
     ap (λ (z : ℤ). negℤ (pos a) -ℤ z) (signed-mul true n d)

@@ -20,7 +20,7 @@ use lib.Ieee.Scale.{grid, round-val, round-same}
 use lib.Ieee.Back.{round-whole, whole-unique, positive-back}
 use borrow.Author.Tests.{lt-ltb, le-leb, eq-eqb, ne-eqb, eqb-true, eqb-false}
 use Rattle.tap.specs.Rounding.{halfOf, nearestWhole}
-use Rattle.tap.specs.Steps.{evenOf, nearestOf}
+use Rattle.tap.specs.Inner.{evenOf, nearestOf}
 use Rattle.tap.proofs.Rest.{rest-is, leftover-is}
 use Rattle.tap.proofs.Value.{Plain, two-to, below, unsigned, nought}
 

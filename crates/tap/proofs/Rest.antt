@@ -13,7 +13,7 @@ use lib.Ieee.Exact.{HasValue}
 use lib.Ieee.Scale.{round-same}
 use lib.Ieee.Back.{round-whole}
 use borrow.Author.Tests.{lt-ltb, le-ltb, le-leb, lt-leb, eq-eqb, ne-eqb, eqb-true, eqb-false}
-use Rattle.tap.specs.Rounding.{leftover, signed}
+use Rattle.tap.specs.Rounding.{leftover, withSign}
 
 sub-mul : (a b c : ℕ) → (a - b) * c ≡ a * c - b * c
 sub-mul a b c = mul-comm (a - b) c ∙ mul-sub c a b ∙ ap (λ (x : ℕ). x - c * b) (mul-comm c a) ∙ ap (λ (x : ℕ). a * c - x) (mul-comm c b)
@@ -166,7 +166,7 @@ of-neg : (n : ℕ) → ofInt binary64 (negsuc n) ≡ round binary64 true (suc n)
 unfolding ofInt
 of-neg n = refl
 
-pub whole-value : (s : Bool) (n : ℕ) → n ≤ 2 ^ 53 → (t : Bool) × HasValue (ofInt binary64 (signed s n)) t n 1 × ((t ≡ s) ⊎ (n ≡ 0))
+pub whole-value : (s : Bool) (n : ℕ) → n ≤ 2 ^ 53 → (t : Bool) × HasValue (ofInt binary64 (withSign s n)) t n 1 × ((t ≡ s) ⊎ (n ≡ 0))
 whole-value false n h = (false, subst (λ (x : Float). HasValue x false n 1) (sym (of-pos n)) (round-whole binary64 false n h), inl refl)
 whole-value true zero h = (false, subst (λ (x : Float). HasValue x false 0 1) (sym (of-pos 0)) (round-whole binary64 false 0 (lit≤ tt)), inr refl)
 whole-value true (suc n) h = (true, subst (λ (x : Float). HasValue x true (suc n) 1) (sym (of-neg n)) (round-whole binary64 true (suc n) h), inl refl)

@@ -9,8 +9,8 @@ ghost use lib.IntN.{pos};
 ghost use lib.Ieee as Ieee;
 ghost use lib.Ieee.{fin, binary64};
 ghost use Rattle.refusal.specs.Answer.{given};
-ghost use Rattle.tap.specs.Rounding.{halfOf, signed, roundedTap, answerOf};
-ghost use Rattle.tap.specs.Steps.{nearestOf, evenOf, parted, magnitudeOf};
+ghost use Rattle.tap.specs.Rounding.{halfOf, withSign, answerOf, TapRounded};
+ghost use Rattle.tap.specs.Inner.{nearestOf, evenOf, parted, magnitudeOf};
 use refusal::Refusal;
 
 // What a tap comes back as: N with nothing left over, N with the leftover tap * 2^F - N, or a
@@ -70,7 +70,7 @@ fn nearest(x: f64) -> u64
 // The whole number of a size and a sign.
 fn with_sign(negative: bool, size: u64) -> i64
     requires { ⌜ size ≤ 4294967296 ⌝ }
-    ensures { λ r. ⌜ r ≡ signed negative size ⌝ }
+    ensures { λ r. ⌜ r ≡ withSign negative size ⌝ }
 {
     if negative {
         0 - (size as i64)
@@ -93,7 +93,7 @@ fn part(x: f64, n: i32) -> RoundedTap
 
 // The tap times 2^F rounded to the nearest whole number, an exact half away from zero.
 pub fn round_tap(tap: f64, fraction_bits: u32) -> RoundedTap
-    ensures { λ r. ⌜ answerOf r ≡ roundedTap «fraction_bits» tap ⌝ }
+    ensures { λ r. ⌜ TapRounded «fraction_bits» tap (answerOf r) ⌝ }
 {
     if fraction_bits > 31 {
         return RoundedTap::Refused(Refusal::FractionBits);

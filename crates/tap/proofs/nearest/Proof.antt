@@ -12,7 +12,7 @@ use mir.ValLaws.{toZ-ofZ}
 use lib.Ieee.{Float, fin, binary64, add, eq, ofInt, ofBits, inSigned, toSigned}
 use lib.IntN.{ℤ, pos, negsuc, natAbs}
 use Rattle.tap.specs.Rounding.{halfOf}
-use Rattle.tap.specs.Steps.{evenOf}
+use Rattle.tap.specs.Inner.{evenOf}
 use Rattle.tap.proofs.Even.{by-half, counted}
 use Rattle.tap.proofs.nearest.Statement.{statement}
 use Rattle.tap.proofs.nearest.Tie as tie

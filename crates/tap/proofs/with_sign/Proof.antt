@@ -8,7 +8,7 @@ use lib.IntN.{ℤ, pos, negℤ}
 use mir.Syntax.{w64}
 use mir.Val.{SFits, toZ, ofZ}
 use mir.ValLaws.{toZ-ofZ, toZ-pos}
-use Rattle.tap.specs.Rounding.{signed}
+use Rattle.tap.specs.Rounding.{withSign}
 use Rattle.tap.proofs.Steps.{neg-is, neg-held}
 use Rattle.tap.proofs.with_sign.Statement.{statement}
 use Rattle.tap.proofs.with_sign.Tie as tie
@@ -26,13 +26,13 @@ returns : tie.Need-returns
 returns c =
     let s = c .before in
     let n = s .args .size in
-    ap (λ (z : ℤ). toZ w64 (ofZ w64 z)) (neg-is n (s .pre)) ∙ toZ-ofZ w64 (negℤ (pos n)) (neg-held n (s .pre)) ∙ ap (λ (b : Bool). signed b n) (sym (c .if1 .taken))
+    ap (λ (z : ℤ). toZ w64 (ofZ w64 z)) (neg-is n (s .pre)) ∙ toZ-ofZ w64 (negℤ (pos n)) (neg-held n (s .pre)) ∙ ap (λ (b : Bool). withSign b n) (sym (c .if1 .taken))
 
 returns-2 : tie.Need-returns-2
 returns-2 c =
     let s = c .before in
     let n = s .args .size in
-    toZ-pos w64 n (lt-of-le-of-lt (s .pre) (lit< tt)) ∙ ap (λ (b : Bool). signed b n) (sym (c .if1 .left))
+    toZ-pos w64 n (lt-of-le-of-lt (s .pre) (lit< tt)) ∙ ap (λ (b : Bool). withSign b n) (sym (c .if1 .left))
 
 pub with-sign-spec : {M : Type 1} → statement M
 with-sign-spec = tie.close (tie.spec cast-result sub-result cast-result-2 returns returns-2)
