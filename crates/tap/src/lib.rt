@@ -4,7 +4,7 @@ pub mod pattern;
 
 ghost use mathlib.Core.Path.{_≡_};
 ghost use mathlib.Core.Bool.{true, false};
-ghost use Prim.Native.Nat.{_≤_, _<_};
+ghost use Prim.Native.Nat.{_≤_};
 ghost use lib.IntN.{pos};
 ghost use lib.Ieee as Ieee;
 ghost use lib.Ieee.{fin, binary64};
@@ -38,7 +38,7 @@ fn scaled(x: f64, f: u32) -> f64
 
 // The half rule: the size that q + 1/2 goes to. Away from zero.
 fn half(q: u64) -> u64
-    requires { ⌜ q < 4294967296 ⌝ }
+    requires { ⌜ q ≤ 4294967296 ⌝ }
     ensures { λ r. ⌜ r ≡ halfOf q ⌝ }
 {
     q + 1

@@ -2,8 +2,8 @@
 use mathlib.Core.Path.{_≡_, refl, sym, ap, _∙_, subst}
 use mathlib.Core.Logic.{_⊎_, inl, inr}
 use mathlib.Core.Bool.{Bool, true, false}
-use mathlib.Core.List.{List, [], _∷_, _++_}
-use Prim.Native.Nat.{ℕ, zero, suc, _≤_, _<_}
+use mathlib.Core.List.{List, _++_}
+use Prim.Native.Nat.{ℕ, zero, suc, _<_}
 use native.Mathlib.Nat.{zero-lt-suc, not-suc-le-zero, lt-of-lt-of-le, le-of-lt, le-of-eq}
 use lib.IntN.{ℤ, pos}
 use lib.ListN.{length, getD, drop, List·getD-append, List·getD-map}
@@ -13,7 +13,7 @@ use Rattle.refusal.proofs.Tables.{length-map}
 use Rattle.tap.specs.Rounding.{exact, finite, resultOf, leftOf}
 use Rattle.tap.proofs.Value.{nought}
 use Rattle.tap.proofs.Theorems.{finite-number, left-finite}
-use Rattle.normalise.specs.Normalised.{sumOf, used, quotients}
+use Rattle.normalise.specs.Normalised.{used}
 use Rattle.tap_set.specs.declared.Report.{Report}
 use Rattle.tap_set.specs.Set.{coefficientsOf, TapsRounded}
 use Rattle.tap_set.specs.Claims.{Binary64, Rounds, leftoverAt, Earliest, LargestLeftover, SetClaims}

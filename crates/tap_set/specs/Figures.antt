@@ -1,7 +1,7 @@
 -- Bench figures of document 01 on a set of taps, and one on its report. Definitions only; the proof is in proofs/Figures.antt.
 use mathlib.Core.Bool.{true, false}
 use mathlib.Core.List.{List, [], _∷_}
-use lib.IntN.{ℤ, pos, negsuc}
+use lib.IntN.{pos, negsuc}
 use lib.Ieee.{Float, fin}
 use Rattle.refusal.specs.Answer.{given, refused}
 use Rattle.tap_set.specs.Set.{TapsRounded}

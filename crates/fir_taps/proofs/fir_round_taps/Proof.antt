@@ -1,9 +1,9 @@
 -- `fir_taps::fir_round_taps` meets its contract. Assumes nothing.
 use borrow.Author.Needs.{needs}
-use mathlib.Core.Path.{_≡_, refl, sym, ap, subst}
-use mathlib.Core.Bool.{Bool, false, not}
+use mathlib.Core.Path.{refl, sym, ap, subst}
+use mathlib.Core.Bool.{Bool, not}
 use lib.Dec.{T}
-use lib.Ieee.{isNan}
+use lib.Ieee.{Float, isNan}
 use Rattle.refusal.specs.Answer.{Answer, given, turnedDown}
 use Rattle.tap_set.specs.declared.Report.{Report}
 use Rattle.tap_set.specs.Set.{answerOf, TapsRounded}
@@ -25,8 +25,13 @@ report d = d .answer2 .given .0 .0
 told : (d : tie.After-answer2) → Left (d .before .before .before) (given (report d))
 told d = let k = d .before .before .before in subst (Left k) (ap answerOf (d .answer2 .given .1)) (k .round-taps .ensures)
 
-numbers : (d : tie.After-answer2) → (isNan (report d .divisor) ≡ false) × (isNan (report d .leftover) ≡ false)
-numbers d = set-claims .never-nan _ _ _ _ (report d) _ (told d)
+abbrev Number : Float → Type 0
+Number x = T (not (isNan x))
+
+numbers : (d : tie.After-answer2) → Number (report d .divisor) × Number (report d .leftover)
+numbers d =
+    let w = set-claims .never-nan _ _ _ _ (report d) _ (told d) in
+    (subst (λ (b : Bool). T (not b)) (sym (w .0)) tt, subst (λ (b : Bool). T (not b)) (sym (w .1)) tt)
 
 round-taps-requires : tie.Need-round-taps-requires
 round-taps-requires c κs = search needs
@@ -41,10 +46,10 @@ enum-known-answer-2 : tie.Need-enum-known-answer-2
 enum-known-answer-2 c = search needs
 
 float-to-bits-divisor : tie.Need-float-to-bits-divisor
-float-to-bits-divisor c = subst (λ (b : Bool). T (not b)) (sym (numbers (c .before .before) .0)) tt
+float-to-bits-divisor c = let w = numbers (c .before .before) in search needs
 
 float-to-bits-leftover : tie.Need-float-to-bits-leftover
-float-to-bits-leftover c = subst (λ (b : Bool). T (not b)) (sym (numbers (c .before .before .before) .1)) tt
+float-to-bits-leftover c = let w = numbers (c .before .before .before) in search needs
 
 same-length : tie.Need-same-length
 same-length c = search needs

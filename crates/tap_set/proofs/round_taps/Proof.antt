@@ -27,16 +27,6 @@ one-is : ofBits binary64 0x3ff0_0000_0000_0000 ≡ fin false 1 (pos 0)
 unfolding ofBits
 one-is = refl
 
--- the checks 1 to 4 have passed
-settled-is : (c : tie.Else4) → let s = c .before .before .before .before .before in let a = s .args in settled (a .fraction-bits) (a .normalised) (a .taps .now) ≡ answer s
-settled-is c =
-    let e3 = c .before in
-    let e2 = e3 .before in
-    let e1 = e2 .before in
-    let s = e1 .before .before in
-    let a = s .args in
-    few-bits (a .fraction-bits) (a .normalised) (a .taps .now) (length (a .coefficients .now)) (e1 .if1 .left) (e2 .if2 .left) (e3 .if3 .left) (c .if4 .left)
-
 returns : tie.Need-returns
 returns c =
     let s = c .before .before in
@@ -70,6 +60,16 @@ returns-4 c =
     let a = s .args in
     let e = many-bits (a .fraction-bits) (a .normalised) (a .taps .now) (length (a .coefficients .now)) (e1 .if1 .left) (e2 .if2 .left) (e3 .if3 .left) (c .if4 .taken) in
     record { answer = e; written = ap (table s) e }
+
+-- the checks 1 to 4 have passed
+settled-is : (c : tie.Else4) → let s = c .before .before .before .before .before in let a = s .args in settled (a .fraction-bits) (a .normalised) (a .taps .now) ≡ answer s
+settled-is c =
+    let e3 = c .before in
+    let e2 = e3 .before in
+    let e1 = e2 .before in
+    let s = e1 .before .before in
+    let a = s .args in
+    few-bits (a .fraction-bits) (a .normalised) (a .taps .now) (length (a .coefficients .now)) (e1 .if1 .left) (e2 .if2 .left) (e3 .if3 .left) (c .if4 .left)
 
 round-quotients-requires : tie.Need-round-quotients-requires
 round-quotients-requires c κs = search needs
