@@ -3,12 +3,14 @@ use mathlib.Core.Path.{_≡_, refl, sym, ap, _∙_, subst}
 use mathlib.Core.Logic.{_⊎_, inl, inr}
 use mathlib.Core.Bool.{Bool, true, false}
 use mathlib.Core.List.{List, _++_}
-use Prim.Native.Nat.{ℕ, zero, suc, _<_}
-use native.Mathlib.Nat.{zero-lt-suc, not-suc-le-zero, lt-of-lt-of-le, le-of-lt, le-of-eq}
+use Prim.Native.Nat.{ℕ, zero, suc, _+_, _-_, _≤_, _<_}
+use native.Mathlib.Omega.{arith}
+use native.Mathlib.Nat.{zero-lt-suc, not-suc-le-zero, lt-of-lt-of-le, le-trans, le-of-lt, le-of-eq}
 use lib.IntN.{ℤ, pos}
-use lib.ListN.{length, getD, drop, List·getD-append, List·getD-map}
+use lib.ListN.{length, getD, drop, length-append, length-drop, List·getD-append, List·getD-map}
+use lib.Seq.{getD-append-add, getD-drop}
 use lib.Ieee.{Float, nan}
-use Rattle.refusal.specs.Answer.{given, filled}
+use Rattle.refusal.specs.Answer.{given, refused, filled}
 use Rattle.refusal.proofs.Tables.{length-map}
 use Rattle.tap.specs.Rounding.{exact, finite, resultOf, leftOf}
 use Rattle.tap.proofs.Value.{nought}
@@ -51,6 +53,32 @@ module _ (F : ℕ) (normalised : Bool) (taps : List Float) (table : List ℤ) (r
             ∙ ap (getD (coefficientsOf F xs) i) (sym (none-whole F))
             ∙ List·getD-map (whole F) xs i nan;
       }
+
+  count : length (coefficientsOf F xs) ≡ length taps
+  count = length-map (whole F) xs ∙ length-used normalised taps
+
+  pub past : (length table′ ≡ length table) × ((i : ℕ) → length taps ≤ i → getD table′ i (pos 0) ≡ getD table i (pos 0))
+  past = (
+    ap length written ∙ length-append (coefficientsOf F xs) _ ∙ room,
+    λ i h. ap (λ (l : List ℤ). getD l i (pos 0)) written ∙ later i (le-trans (le-of-eq count) h),
+  )
+    where
+      room : length (coefficientsOf F xs) + length (drop (length (coefficientsOf F xs)) table) ≡ length table
+      room = ap (λ (k : ℕ). length (coefficientsOf F xs) + k) (length-drop (length (coefficientsOf F xs)) table) ∙ whole-room (length (coefficientsOf F xs)) (length table) (le-trans (le-of-eq count) (passed .room-for))
+        where
+          whole-room : (n m : ℕ) → n ≤ m → n + (m - n) ≡ m
+          whole-room n m h = omega arith
+
+      later : (i : ℕ) → length (coefficientsOf F xs) ≤ i → getD (coefficientsOf F xs ++ drop (length (coefficientsOf F xs)) table) i (pos 0) ≡ getD table i (pos 0)
+      later i h =
+          let n = length (coefficientsOf F xs) in
+          ap (λ (k : ℕ). getD (coefficientsOf F xs ++ drop n table) k (pos 0)) (split n i h)
+          ∙ getD-append-add (coefficientsOf F xs) (drop n table) (i - n) (pos 0)
+          ∙ getD-drop n table (i - n) (pos 0)
+          ∙ ap (λ (k : ℕ). getD table k (pos 0)) (sym (split n i h))
+        where
+          split : (n i : ℕ) → n ≤ i → i ≡ n + (i - n)
+          split n i h = omega arith
 
   -- ---- the leftover
   best : Best (leftAt F) nought xs (r .leftover)
@@ -101,9 +129,14 @@ module _ (F : ℕ) (normalised : Bool) (taps : List Float) (table : List ℤ) (r
       all-exact = (exact-at, λ h. none-left h (best .which));
     }
 
+kept : (F : ℕ) (normalised : Bool) (taps : List Float) (table : List ℤ) (number place : ℕ) (table′ : List ℤ) → TapsRounded F normalised taps table (refused number place) table′ → table′ ≡ table
+kept F normalised taps table number place table′ t = t .written ∙ ap (λ a. filled a (coefficientsOf F (used normalised taps)) table) (sym (t .answer))
+
 pub set-claims : SetClaims
 set-claims = record {
   each-rounds = each;
+  past-untouched = past;
+  refused-unchanged = kept;
   divisor = λ F normalised taps table r table′ t. divisor-is F normalised taps (length table) r (passed F normalised taps table r table′ t);
   largest-leftover = λ F normalised taps table r table′ b t. largest F normalised taps table r table′ t b;
   report-finite = λ F normalised taps table r table′ t. report-finite F normalised taps (length table) r (passed F normalised taps table r table′ t);

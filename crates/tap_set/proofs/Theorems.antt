@@ -72,6 +72,7 @@ used-fit true taps b = quotients-fit (sumOf taps) taps
 pub record Accepted (F : ℕ) (normalised : Bool) (taps : List Float) (room : ℕ) (r : Report) : Type 0 where
   pub few-bits : F ≤ 31
   pub some-taps : length taps ≡ 0 → ⊥
+  pub room-for : length taps ≤ room
   pub numbers : lowest notFinite (used normalised taps) ≡ nowhere
   pub divisor : finite (divisorOf normalised taps) ≡ true
   pub inside : lowest (outside F) (used normalised taps) ≡ nowhere
@@ -91,6 +92,7 @@ accepted F normalised taps room r h =
     record {
       few-bits = ltb-false 31 F (c4 .0);
       some-taps = eqb-false (length taps) 0 (c1 .0);
+      room-for = ltb-false room (length taps) (c3 .0);
       numbers = u .0;
       divisor = u .1;
       inside = c6 .0;

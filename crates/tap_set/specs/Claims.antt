@@ -4,12 +4,12 @@ use mathlib.Core.Path.{_≡_}
 use mathlib.Core.Logic.{_↔_}
 use mathlib.Core.Bool.{Bool, true, false}
 use mathlib.Core.List.{List, [], _∷_}
-use Prim.Native.Nat.{ℕ, _<_}
+use Prim.Native.Nat.{ℕ, _≤_, _<_}
 use lib.IntN.{ℤ, pos}
 use lib.Dec.{T}
 use lib.ListN.{length, getD}
 use lib.Ieee.{Float, nan, fin, binary64, lt, fits, isNan}
-use Rattle.refusal.specs.Answer.{given}
+use Rattle.refusal.specs.Answer.{given, refused}
 use Rattle.tap.specs.Rounding.{TapResult, exact, finite, resultOf, absOf, wholeOf, leftOf, TapRounded}
 use Rattle.normalise.specs.Normalised.{used, divisorOf}
 use Rattle.tap_set.specs.declared.Report.{Report}
@@ -57,6 +57,12 @@ pub record SetClaims : Type 0 where
   -- "in normalised mode the quotient stands for the tap": each number is rounded as one tap is
   pub each-rounds : (F : ℕ) (normalised : Bool) (taps : List Float) (table : List ℤ) (r : Report) (table′ : List ℤ) → TapsRounded F normalised taps table (given r) table′
       → (i : ℕ) → i < length taps → Rounds F (used normalised taps) table′ i
+  -- "On success, elements past those that the result fills are untouched"; each of the table's elements, and none is added
+  pub past-untouched : (F : ℕ) (normalised : Bool) (taps : List Float) (table : List ℤ) (r : Report) (table′ : List ℤ) → TapsRounded F normalised taps table (given r) table′
+      → (length table′ ≡ length table) × ((i : ℕ) → length taps ≤ i → getD table′ i (pos 0) ≡ getD table i (pos 0))
+  -- "Lent memory: unchanged", on a refusal
+  pub refused-unchanged : (F : ℕ) (normalised : Bool) (taps : List Float) (table : List ℤ) (number place : ℕ) (table′ : List ℤ)
+      → TapsRounded F normalised taps table (refused number place) table′ → table′ ≡ table
   -- "The report on a set carries the divisor"
   pub divisor : (F : ℕ) (normalised : Bool) (taps : List Float) (table : List ℤ) (r : Report) (table′ : List ℤ) → TapsRounded F normalised taps table (given r) table′
       → r .divisor ≡ divisorOf normalised taps
