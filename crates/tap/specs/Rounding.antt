@@ -84,7 +84,7 @@ absOf nan = nan
 absOf (inf s) = inf false
 absOf (fin s m e) = fin false m e
 
--- a coefficient's N, and its leftover: +0 where it is exact
+-- N, and the leftover: +0 where the tap is exact
 abbrev pub wholeOf : TapResult → ℤ
 wholeOf (exact n) = n
 wholeOf (rounded n l) = n
