@@ -57,7 +57,7 @@ pub record SetClaims : Type 0 where
   -- "in normalised mode the quotient stands for the tap": each number is rounded as one tap is
   pub each-rounds : (F : ℕ) (normalised : Bool) (taps : List Float) (table : List ℤ) (r : Report) (table′ : List ℤ) → TapsRounded F normalised taps table (given r) table′
       → (i : ℕ) → i < length taps → Rounds F (used normalised taps) table′ i
-  -- "On success, elements past those that the result fills are untouched"; each of the table's elements, and none is added
+  -- "On success, elements past those that the result fills are untouched", and the table keeps its length
   pub past-untouched : (F : ℕ) (normalised : Bool) (taps : List Float) (table : List ℤ) (r : Report) (table′ : List ℤ) → TapsRounded F normalised taps table (given r) table′
       → (length table′ ≡ length table) × ((i : ℕ) → length taps ≤ i → getD table′ i (pos 0) ≡ getD table i (pos 0))
   -- "Lent memory: unchanged", on a refusal
