@@ -1,6 +1,8 @@
 /* The paper's bench figures for taps and the edges of the range. */
 #include "figures.h"
 
+#include <string.h>
+
 enum { TABLE = 300 };
 
 static void tap(const char *what, double value, uint32_t fraction_bits, uint32_t refusal,
@@ -107,9 +109,30 @@ static void refused_sets(void)
     refused("tap 2 out of bounds", call(far, 3, 2, 0, TABLE), 6, 2);
 }
 
+/* A signalling not-a-number of either sign: a refused call leaves it, bit for bit, where the
+ * results would go, and among the taps it is refusal 5. */
+static void signalling(uint64_t pattern)
+{
+    const double cancel[] = {1, -1};
+    double divisor, leftover, taps[] = {1, 1, 1};
+    int32_t table[3];
+    memcpy(&divisor, &pattern, sizeof divisor);
+    memcpy(&leftover, &pattern, sizeof leftover);
+    memcpy(&taps[1], &pattern, sizeof taps[1]);
+    printf("signalling not-a-number %" PRIx64 "\n", pattern);
+    answer("  1, -1 normalised", 7, 0,
+           fir_round_taps(cancel, 2, 2, 1, table, 3, &divisor, &leftover));
+    answer("  as tap 1", 5, 1, fir_round_taps(taps, 3, 2, 0, table, 3, &divisor, &leftover));
+    answer("  normalised", 5, 1, fir_round_taps(taps, 3, 2, 1, table, 3, &divisor, &leftover));
+    number("  divisor's bits as before", (int64_t)pattern, (int64_t)bits_of(divisor));
+    number("  leftover's bits as before", (int64_t)pattern, (int64_t)bits_of(leftover));
+}
+
 void taps(void)
 {
     one_tap();
     accepted_sets();
     refused_sets();
+    signalling(0x7ff0000000000001);
+    signalling(0xfff0000000000001);
 }

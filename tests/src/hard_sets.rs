@@ -27,11 +27,13 @@ fn lengths(list: &mut Vec<Set>) {
 /// A tap that is not finite or out of bounds at each place of a short set, with all else that can
 /// be wrong beside it.
 fn orders(list: &mut Vec<Set>) {
+    let signalling = [0x7ff0_0000_0000_0001, 0xfff0_0000_0000_0001].map(f64::from_bits);
     let bad = [f64::NAN, f64::INFINITY, -f64::INFINITY, 1e300, -1e300];
+    let bad: Vec<f64> = bad.into_iter().chain(signalling).collect();
     let fraction_bits = FRACTION_BITS_PAST.iter().copied().chain([0, 31]);
     for fraction_bits in fraction_bits {
         for (normalised, count) in [(0, 3), (1, 3), (0, 257), (1, 257)] {
-            for (place, value) in (0..3).flat_map(|p| bad.map(|v| (p, v))) {
+            for (place, &value) in (0..3).flat_map(|p| bad.iter().map(move |v| (p, v))) {
                 let mut taps = vec![0.25; count];
                 taps[place] = value;
                 taps[2] += value;

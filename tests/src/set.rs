@@ -26,9 +26,10 @@ pub struct Outcome {
 
 /// Elements kept on either side of the lent table, to see writes outside it.
 pub const GUARD: usize = 8;
-/// What the lent divisor and leftover hold before a call.
-pub const DIVISOR_BEFORE: u64 = 0x4009_5a5a_5a5a_5a5a;
-pub const LEFTOVER_BEFORE: u64 = 0xc011_a5a5_a5a5_a5a5;
+/// What the lent divisor and leftover hold before a call: signalling not-a-numbers of both signs,
+/// so that every refused call shows that it keeps their bits.
+pub const DIVISOR_BEFORE: u64 = 0x7ff0_0000_0000_0001;
+pub const LEFTOVER_BEFORE: u64 = 0xfff0_0000_0000_0001;
 
 impl Set {
     /// A set with a table of just its length.

@@ -1,14 +1,8 @@
 // Rounding taps: functions for C, declared in include/fir.h.
 ghost use mathlib.Core.Path.{_≡_};
-ghost use lib.ListN.{length};
-ghost use lib.Ieee as Ieee;
-ghost use lib.Ieee.{binary64};
-ghost use Rattle.refusal.specs.Answer.{filled, stored};
 ghost use Rattle.tap.specs.Rounding as Tap;
-ghost use Rattle.normalise.specs.Normalised.{used};
-ghost use Rattle.tap_set.specs.Set.{coefficientsOf, roundedTaps};
-ghost use Rattle.tap_set.specs.declared.Report.{Report};
-ghost use Rattle.fir_words.specs.Words.{tapWord, refusalWord, isSet};
+ghost use Rattle.fir_words.specs.Words.{tapWord};
+ghost use Rattle.fir_taps.specs.Rounding.{TapRoundedWord, TapsRoundedWord};
 use fir_words::refusal_word;
 use tap::RoundedTap;
 use tap::pattern::of_bits;
@@ -27,32 +21,31 @@ fn tap_word(tap: RoundedTap) -> u64
 // One tap by its 64 bits.
 #[no_mangle]
 pub extern "C" fn fir_round_tap(bits: u64, fraction_bits: u32) -> u64
-    ensures { λ r. ⌜ r ≡ tapWord (Tap.roundedTap «fraction_bits» (Ieee.ofBits binary64 bits)) ⌝ }
+    ensures { λ r. ⌜ TapRoundedWord «fraction_bits» bits r ⌝ }
 {
     tap_word(tap::round_tap(of_bits(bits), fraction_bits))
 }
 
-// A set of taps; normalised where the third argument is not 0.
+// A set of taps; normalised where the third argument is not 0. The divisor and the leftover, two
+// doubles in C, are handled by their bits: on a refusal a not-a-number keeps its own.
 #[no_mangle]
 pub extern "C" fn fir_round_taps(
     taps: &[f64],
     fraction_bits: u32,
     normalised: u32,
     coefficients: &mut [i32],
-    divisor: &mut f64,
-    leftover: &mut f64,
+    divisor: &mut u64,
+    leftover: &mut u64,
 ) -> u64
-    ensures answer { λ r. ⌜ r ≡ refusalWord (roundedTaps «fraction_bits» (isSet normalised) (now (taps .entry)) (length (now (coefficients .entry)))) ⌝ }
-    ensures coefficients { λ r. ⌜ now (coefficients .exit) ≡ filled (roundedTaps «fraction_bits» (isSet normalised) (now (taps .entry)) (length (now (coefficients .entry)))) (coefficientsOf «fraction_bits» (used (isSet normalised) (now (taps .entry)))) (now (coefficients .entry)) ⌝ }
-    ensures divisor { λ r. ⌜ now (divisor .exit) ≡ stored (roundedTaps «fraction_bits» (isSet normalised) (now (taps .entry)) (length (now (coefficients .entry)))) (λ (q : Report). q .divisor) (now (divisor .entry)) ⌝ }
-    ensures leftover { λ r. ⌜ now (leftover .exit) ≡ stored (roundedTaps «fraction_bits» (isSet normalised) (now (taps .entry)) (length (now (coefficients .entry)))) (λ (q : Report). q .leftover) (now (leftover .entry)) ⌝ }
+    ensures { λ r. ⌜ TapsRoundedWord «fraction_bits» normalised (now (taps .entry)) (now (coefficients .entry)) (now (divisor .entry)) (now (leftover .entry))
+        r (now (coefficients .exit)) (now (divisor .exit)) (now (leftover .exit)) ⌝ }
 {
     let answer = tap_set::round_taps(taps, fraction_bits, normalised != 0, coefficients);
     match answer {
         RoundedTaps::Refused(refusal) => refusal_word(refusal),
         RoundedTaps::Given(report) => {
-            *divisor = report.divisor;
-            *leftover = report.leftover;
+            *divisor = f64::to_bits(report.divisor);
+            *leftover = f64::to_bits(report.leftover);
             0
         }
     }

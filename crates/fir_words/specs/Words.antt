@@ -8,10 +8,10 @@ use Rattle.refusal.specs.Answer.{Answer, given, refused}
 use Rattle.signed_digit.specs.Reduction.{positive, negative}
 use Rattle.coefficient.specs.Parts.{Parts, no-odd-part, parts}
 use Rattle.form_masks.specs.declared.Form.{Form}
-use Rattle.tap.specs.Rounding.{Coefficient, wholeOf}
+use Rattle.tap.specs.Rounding.{TapResult, wholeOf}
 
 -- document 01: "refusal number (0 for none) in the upper half, N's 32-bit pattern in the lower (0 when turned down)"
-abbrev pub tapWord : Answer Coefficient → ℕ
+abbrev pub tapWord : Answer TapResult → ℕ
 tapWord (given c) = ofZ w32 (wholeOf c)
 tapWord (refused number place) = number * 4294967296
 

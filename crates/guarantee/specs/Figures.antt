@@ -6,7 +6,7 @@ use lib.IntN.{ℤ, pos, negℤ}
 use lib.ListN.{length, replicate}
 use Rattle.refusal.specs.Answer.{Answer, given, refused}
 use Rattle.signed_digit.proofs.Figures.{Figures}
-use Rattle.tap.proofs.Figures.{TapFigures}
+use Rattle.tap.specs.Figures.{TapFigures}
 use Rattle.network.specs.Rows.{rowWords, tapWords}
 use Rattle.building.specs.TapRows.{built}
 use Rattle.builder.specs.Built.{BuiltInto}

@@ -1,5 +1,5 @@
 -- The coefficients of a set of taps that is accepted are 1 to 256, each within the bounds. Assumes nothing.
-use borrow.Author.Tests.{ltb-false, eqb-false}
+use borrow.Author.Tests.{ltb-false, eqb-false, not-false}
 use mathlib.Core.Path.{_≡_, refl, sym, ap, subst, _∙_}
 use mathlib.Core.Bool.{Bool, true, false, not, cond, _&&_}
 use mathlib.Core.List.{List}
@@ -9,24 +9,18 @@ use lib.Dec.{eqb, ltb}
 use lib.Ieee.{Float, nan, inf, fin, up, down}
 use lib.IntN.{ℤ, pos}
 use lib.ListN.{length, getD, List·getD-map}
-use mir.Syntax.{w32}
-use mir.Val.{SFits}
 use Rattle.refusal.specs.Answer.{given, lowest}
 use Rattle.refusal.proofs.Checks.{given-if, given-at, lowest-none-at}
 use Rattle.refusal.proofs.Tables.{length-map}
-use Rattle.word.proofs.Bounds.{i32-coefficient}
-use Rattle.tap.specs.Rounding.{exact, rounded, leftover, finite, signed, most, split, sizeOf, outside, coefficientOf, wholeOf}
+use Rattle.word.specs.Bounds.{Coefficient, withinBounds}
+use Rattle.word.proofs.Bounds.{bounds-within}
+use Rattle.tap.specs.Rounding.{exact, rounded, leftover, finite, signed, split, sizeOf, outside, resultOf, wholeOf}
 use Rattle.normalise.specs.Normalised.{infinite, divisorOf}
 use Rattle.tap_set.specs.declared.Report.{Report}
 use Rattle.tap_set.specs.Set.{bounded, reportOf, roundedTaps, coefficientsOf}
 use Rattle.sheet_text.specs.Inner.{Coefficients}
 
 -- ---- one tap
-signed-fits : (s : Bool) (n : ℕ) → n ≤ most s → SFits w32 (signed s n)
-signed-fits false n h = record { sfits = omega arith }
-signed-fits true zero h = record { sfits = omega arith }
-signed-fits true (suc n) h = record { sfits = omega arith }
-
 by-size : (b : Bool) (z : ℤ) (l : Float) → wholeOf (cond b (exact z) (rounded z l)) ≡ z
 by-size true z l = refl
 by-size false z l = refl
@@ -35,20 +29,20 @@ split-whole : (s : Bool) (a d n : ℕ) → wholeOf (split s a d n) ≡ signed s 
 unfolding split
 split-whole s a d n = by-size (eqb (n * d) a) (signed s n) (leftover s a d n)
 
-whole-fits : (F : ℕ) (x : Float) → outside F x ≡ false → SFits w32 (wholeOf (coefficientOf F x))
-unfolding coefficientOf outside
-whole-fits F nan h = record { sfits = omega arith }
-whole-fits F (inf s) h = record { sfits = omega arith }
-whole-fits F (fin s m e) h =
+whole-within : (F : ℕ) (x : Float) → outside F x ≡ false → Coefficient (wholeOf (resultOf F x))
+unfolding resultOf outside
+whole-within F nan h = bounds-within (pos 0) refl
+whole-within F (inf s) h = bounds-within (pos 0) refl
+whole-within F (fin s m e) h =
     let n = sizeOf F (fin s m e) in
-    subst (SFits w32) (sym (split-whole s (m * up e * 2 ^ F) (down e) n)) (signed-fits s n (ltb-false (most s) n h))
+    subst Coefficient (sym (split-whole s (m * up e * 2 ^ F) (down e) n)) (bounds-within (signed s n) (not-false (withinBounds (signed s n)) h))
 
 -- ---- a set
 abbrev whole : ℕ → Float → ℤ
-whole F x = wholeOf (coefficientOf F x)
+whole F x = wholeOf (resultOf F x)
 
 none-whole : (F : ℕ) → whole F nan ≡ pos 0
-unfolding coefficientOf
+unfolding resultOf
 none-whole F = refl
 
 whole-at : (F : ℕ) (taps : List Float) (i : ℕ) → getD (coefficientsOf F taps) i (pos 0) ≡ whole F (getD taps i nan)
@@ -72,6 +66,5 @@ accepted-coefficients F taps room r h =
     record {
       some = omega (arith, l, some (length taps) (eqb-false (length taps) 0 (c1 .0)));
       few = omega (arith, l, ltb-false 256 (length taps) (c2 .0));
-      bounds = λ i b. i32-coefficient (getD (coefficientsOf F taps) i (pos 0))
-          (subst (SFits w32) (sym (whole-at F taps i)) (whole-fits F (getD taps i nan) (lowest-none-at nan (outside F) 0 taps i (c6 .0) (omega (arith, l)))));
+      bounds = λ i b. subst Coefficient (sym (whole-at F taps i)) (whole-within F (getD taps i nan) (lowest-none-at nan (outside F) 0 taps i (c6 .0) (omega (arith, l))));
     }

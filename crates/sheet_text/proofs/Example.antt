@@ -12,7 +12,7 @@ use Rattle.building.specs.Parts.{leastWeight, before, insert, insertTap, takenF
 use Rattle.building.specs.Search.{rowWith, orElse, firstOver, rowOver, tried, firstFit}
 use Rattle.building.specs.Steps.{searched, lookedUp, step, steps, builtRows}
 use Rattle.building.specs.TapRows.{tapRowOf, built}
-use Rattle.tap.specs.Rounding.{halfOf, toNearest, nearestWhole, leftover, split, sizeOf, outside, coefficientOf}
+use Rattle.tap.specs.Rounding.{halfOf, toNearest, nearestWhole, leftover, split, sizeOf, outside, resultOf}
 use Rattle.tap_set.specs.Set.{largerOf, reported, reportFrom, bounded, roundedTaps}
 use Rattle.sheet_fields.specs.Numbers.{decimalBy, decimal, integer}
 use Rattle.sheet_lines.specs.Lines.{line, columns, header, nodeLine, tapLine, totalLine, linesFrom}
@@ -23,5 +23,5 @@ use Rattle.sheet_text.specs.Sheet.{choices, tapsAnswer, sheetAnswer, she
 use Rattle.sheet_text.specs.Claims.{exampleInput, exampleText}
 
 pub example-sheet : sheetOf exampleInput missing ≡ exampleText
-unfolding sheetOf sheetAnswer tapsAnswer choices inputAnswer fractionBits tapAt lowFirst ofBits roundedTaps bounded reportFrom reported largerOf outside coefficientOf split sizeOf nearestWhole toNearest halfOf leftover round upTo lowestFrom built builtRows steps step lookedUp searched takenFrom insertTap insert before leastWeight partsOf oddPartOf shiftOf trailingZeros rowWith firstFit firstOver orElse tried rowOver tapRowOf canonicalNat networkText linesFrom header nodeLine tapLine totalLine columns line decimal decimalBy integer Network.coefficientOf
+unfolding sheetOf sheetAnswer tapsAnswer choices inputAnswer fractionBits tapAt lowFirst ofBits roundedTaps bounded reportFrom reported largerOf outside resultOf split sizeOf nearestWhole toNearest halfOf leftover round upTo lowestFrom built builtRows steps step lookedUp searched takenFrom insertTap insert before leastWeight partsOf oddPartOf shiftOf trailingZeros rowWith firstFit firstOver orElse tried rowOver tapRowOf canonicalNat networkText linesFrom header nodeLine tapLine totalLine columns line decimal decimalBy integer Network.coefficientOf
 example-sheet = refl

@@ -13,7 +13,7 @@ use Rattle.refusal.proofs.Tables.{length-map}
 use Rattle.sequence.specs.UpTo.{upTo}
 use Rattle.sequence.specs.Inner.{front}
 use Rattle.sequence.proofs.UpTo.{length-upTo}
-use Rattle.tap.specs.Rounding.{coefficientOf, wholeOf}
+use Rattle.tap.specs.Rounding.{resultOf, wholeOf}
 use Rattle.network.specs.Rows.{Network}
 use Rattle.building.specs.TapRows.{built}
 use Rattle.tap_set.specs.declared.Report.{Report}
@@ -76,4 +76,4 @@ pub coefficients-held : (F n : ℕ) (xs taps : List Float) (old new : List ℤ) 
     → take n new ≡ coefficientsOf F taps
 coefficients-held F n xs taps old new a r e g w l =
     ap (take n) (e ∙ ap (λ (b : Answer Report). filled b (coefficientsOf F xs) old) g ∙ ap (λ (x : List Float). coefficientsOf F x ++ drop (length (coefficientsOf F x)) old) w)
-    ∙ take-at (coefficientsOf F taps) (drop (length (coefficientsOf F taps)) old) n (length-map (λ (x : Float). wholeOf (coefficientOf F x)) taps ∙ l)
+    ∙ take-at (coefficientsOf F taps) (drop (length (coefficientsOf F taps)) old) n (length-map (λ (x : Float). wholeOf (resultOf F x)) taps ∙ l)

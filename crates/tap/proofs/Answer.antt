@@ -1,23 +1,24 @@
 -- The answers of `round_tap`. Assumes nothing.
 use mathlib.Core.Path.{_≡_, refl, sym, ap, _∙_, subst}
 use mathlib.Core.Logic.{_⊎_, inl, inr}
-use mathlib.Core.Bool.{Bool, true, false, not, cond, true≢false, false≢true}
+use mathlib.Core.Bool.{Bool, true, false, not, _&&_, cond, true≢false, false≢true}
 use Prim.Native.Nat.{ℕ, zero, suc, _*_, _^_, _≤_, _<_}
 use native.Mathlib.Nat.{le-trans, le-of-eq, lt-of-lt-of-le, lt-of-le-of-lt, mul-le-mul-right, mul-right-comm}
 use native.Mathlib.Omega.{arith}
 use lib.IntN.{ℤ, pos, negsuc}
-use lib.Dec.{T, ltb, eqb, ltb→lt, nltb→le, lit≤, lit<}
+use lib.Dec.{T, leb, ltb, eqb, ltb→lt, nltb→le, lit≤, lit<}
 use lib.Signed.{ltZ}
 use mir.Syntax.{w32}
 use mir.Val.{SFits}
 use lib.Ieee.{Float, nan, inf, fin, binary64, up, down, round, mul, eq, lt, ofInt, fits}
 use lib.Ieee.Fits.{down-pos}
 use lib.Ieee.Exact.{HasValue}
-use borrow.Author.Tests.{lt-ltb, le-ltb, eqb-false, ltb-true, ltb-false}
+use borrow.Author.Tests.{lt-ltb, le-ltb, eqb-false, ltb-true, ltb-false, leb-true, leb-false}
+use Rattle.word.specs.Bounds.{withinBounds}
 use Rattle.refusal.specs.Answer.{given, refused, refuseIf}
 use Rattle.refusal.proofs.Checks.{check-applies, check-passes}
-use Rattle.tap.specs.Rounding.{exact, rounded, nearestWhole, signed, most, leftover, split, finite, sizeOf, outside, coefficientOf, roundedTap, absOf}
-use Rattle.tap.specs.Steps.{nearestOf, parted, magnitudeOf}
+use Rattle.tap.specs.Rounding.{exact, rounded, nearestWhole, signed, leftover, split, finite, sizeOf, outside, resultOf, roundedTap, absOf}
+use Rattle.tap.specs.Inner.{nearestOf, parted, magnitudeOf}
 use Rattle.tap.proofs.Whole.{nearest-same, nearest-le, nearest-ge}
 use Rattle.tap.proofs.Value.{scaled-is, scaled-exact, over, lt-pow, nought, two-to}
 use Rattle.tap.proofs.Even.{nearest-is}
@@ -26,29 +27,56 @@ use Rattle.tap.proofs.Rest.{rest-is, equal-is, whole-value}
 use Rattle.tap.proofs.Sign.{magnitude-fin, smaller-is, round-abs, size-is, sign-is}
 
 -- ---- `roundedTap`
-pub rounded-is : (F : ℕ) (x : Float) → roundedTap F x ≡ refuseIf (ltb 31 F) 4 (refuseIf (not (finite x)) 5 (refuseIf (outside F x) 6 (given (coefficientOf F x))))
+pub rounded-is : (F : ℕ) (x : Float) → roundedTap F x ≡ refuseIf (ltb 31 F) 4 (refuseIf (not (finite x)) 5 (refuseIf (outside F x) 6 (given (resultOf F x))))
 unfolding roundedTap
 rounded-is F x = refl
 
 pub refused-bits : (F : ℕ) (x : Float) → 31 < F → refused 4 0 ≡ roundedTap F x
 refused-bits F x h = sym (rounded-is F x ∙ check-applies (ltb 31 F) 4 _ (lt-ltb 31 F h))
 
-few-bits : (F : ℕ) (x : Float) → F ≤ 31 → roundedTap F x ≡ refuseIf (not (finite x)) 5 (refuseIf (outside F x) 6 (given (coefficientOf F x)))
+few-bits : (F : ℕ) (x : Float) → F ≤ 31 → roundedTap F x ≡ refuseIf (not (finite x)) 5 (refuseIf (outside F x) 6 (given (resultOf F x)))
 few-bits F x h = rounded-is F x ∙ check-passes (ltb 31 F) 4 _ (le-ltb 31 F h)
 
 pub refused-tap : (F : ℕ) (x : Float) → F ≤ 31 → finite x ≡ false → refused 5 0 ≡ roundedTap F x
 refused-tap F x h n = sym (few-bits F x h ∙ check-applies (not (finite x)) 5 _ (ap not n))
 
-pub of-finite : (F : ℕ) (x : Float) → F ≤ 31 → finite x ≡ true → roundedTap F x ≡ refuseIf (outside F x) 6 (given (coefficientOf F x))
+pub of-finite : (F : ℕ) (x : Float) → F ≤ 31 → finite x ≡ true → roundedTap F x ≡ refuseIf (outside F x) 6 (given (resultOf F x))
 of-finite F x h n = few-bits F x h ∙ check-passes (not (finite x)) 5 _ (ap not n)
 
-pub outside-is : (F : ℕ) (s : Bool) (m : ℕ) (e : ℤ) → outside F (fin s m e) ≡ ltb (most s) (sizeOf F (fin s m e))
-unfolding outside
-outside-is F s m e = refl
+-- the largest n for which ±n is a coefficient
+abbrev pub most : Bool → ℕ
+most s = cond s 2147483648 2147483647
 
-pub coefficient-is : (F : ℕ) (s : Bool) (m : ℕ) (e : ℤ) → coefficientOf F (fin s m e) ≡ split s (m * up e * 2 ^ F) (down e) (sizeOf F (fin s m e))
-unfolding coefficientOf
-coefficient-is F s m e = refl
+-- ±n is outside the bounds where n is above it
+within-most : (s : Bool) (n : ℕ) → not (withinBounds (signed s n)) ≡ ltb (most s) n
+within-most false n = go (leb n 2147483647) refl
+  where
+    go : (b : Bool) → leb n 2147483647 ≡ b → not (leb n 2147483647) ≡ ltb 2147483647 n
+    go true h = ap not h ∙ sym (le-ltb 2147483647 n (leb-true n 2147483647 h))
+    go false h = ap not h ∙ sym (lt-ltb 2147483647 n (leb-false n 2147483647 h))
+within-most true zero = refl
+within-most true (suc n) = go (leb n 2147483647) refl
+  where
+    one-more : (n : ℕ) → n ≤ 2147483647 → suc n ≤ 2147483648
+    one-more n h = omega arith
+
+    past : (n : ℕ) → 2147483647 < n → 2147483648 < suc n
+    past n h = omega arith
+
+    go : (b : Bool) → leb n 2147483647 ≡ b → not (leb n 2147483647 && true) ≡ ltb 2147483648 (suc n)
+    go true h = ap (λ (b : Bool). not (b && true)) h ∙ sym (le-ltb 2147483648 (suc n) (one-more n (leb-true n 2147483647 h)))
+    go false h = ap (λ (b : Bool). not (b && true)) h ∙ sym (lt-ltb 2147483648 (suc n) (past n (leb-false n 2147483647 h)))
+
+pub outside-bounds : (F : ℕ) (s : Bool) (m : ℕ) (e : ℤ) → outside F (fin s m e) ≡ not (withinBounds (signed s (sizeOf F (fin s m e))))
+unfolding outside
+outside-bounds F s m e = refl
+
+pub outside-is : (F : ℕ) (s : Bool) (m : ℕ) (e : ℤ) → outside F (fin s m e) ≡ ltb (most s) (sizeOf F (fin s m e))
+outside-is F s m e = outside-bounds F s m e ∙ within-most s (sizeOf F (fin s m e))
+
+pub result-is : (F : ℕ) (s : Bool) (m : ℕ) (e : ℤ) → resultOf F (fin s m e) ≡ split s (m * up e * 2 ^ F) (down e) (sizeOf F (fin s m e))
+unfolding resultOf
+result-is F s m e = refl
 
 -- ---- X is ±a / d: parted by ±n it is what `split` says
 pub split-is : (s : Bool) (a d n : ℕ) → split s a d n ≡ cond (eqb (n * d) a) (exact (signed s n)) (rounded (signed s n) (leftover s a d n))
@@ -233,7 +261,7 @@ module _ (F : ℕ) (b : Bool) (c : ℕ) (h : F ≤ 31) where
       inside : sizeOf F (fin s m e) ≤ most s → given (parted (mul binary64 (fin s m e) (two-to F)) (signed s (sizeOf F (fin s m e)))) ≡ roundedTap F (fin s m e)
       inside k =
           ap given (parted-is (mul binary64 (fin s m e) (two-to F)) s (m * up e * 2 ^ F) (down e) (sizeOf F (fin s m e)) (down-pos e) (le-trans k (most-le s)) (exactly F s m e t (under F s m e t u)))
-          ∙ ap given (sym (coefficient-is F s m e))
+          ∙ ap given (sym (result-is F s m e))
           ∙ sym (of-finite F (fin s m e) h refl ∙ check-passes (outside F (fin s m e)) 6 _ (outside-is F s m e ∙ le-ltb (most s) (sizeOf F (fin s m e)) k))
 
       low : (s : Bool) (n : ℕ) → n ≡ 0 → n ≤ most s

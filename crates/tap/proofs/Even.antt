@@ -3,7 +3,7 @@ use mathlib.Core.Path.{_≡_, refl, sym, ap, _∙_, subst}
 use mathlib.Core.Logic.{inl}
 use mathlib.Core.Bool.{Bool, true, false, _&&_, _||_, Bool·beq, cond, true≢false}
 use Prim.Native.Nat.{ℕ, zero, suc, _+_, _-_, _*_, _/_, _%_, _^_, _≤_, _<_, compare, Ordering, Ordering·lt, Ordering·eq, Ordering·gt}
-use native.Mathlib.Nat.{le-trans, le-of-eq, lt-of-lt-of-le, lt-of-le-of-lt, lt-of-not-le, lt-of-mul-lt-mul-right, not-le-of-lt, le-antisymm, add-mul, zero-mul, one-mul, mul-one, mul-assoc, mul-comm, mul-right-comm, mul-pos, mul-le-mul-right, mul-lt-mul-of-pos-right, le-div-iff-mul-le, div-lt-iff-lt-mul, eq-of-mul-eq-mul-right, mod-lt, div-add-mod'}
+use native.Mathlib.Nat.{le-trans, le-of-eq, lt-of-lt-of-le, lt-of-le-of-lt, lt-of-not-le, not-le-of-lt, le-antisymm, add-mul, zero-mul, one-mul, mul-one, mul-assoc, mul-comm, mul-right-comm, mul-pos, mul-le-mul-right, mul-lt-mul-of-pos-right, le-div-iff-mul-le, div-lt-iff-lt-mul, eq-of-mul-eq-mul-right, mod-lt, div-add-mod'}
 use native.Mathlib.Omega.{arith}
 use lib.Arith.{digits-div}
 use lib.IntN.{ℤ, pos, negsuc}
@@ -20,7 +20,7 @@ use lib.Ieee.Scale.{grid, round-val, round-same}
 use lib.Ieee.Back.{round-whole, whole-unique, positive-back}
 use borrow.Author.Tests.{lt-ltb, le-leb, eq-eqb, ne-eqb, eqb-true, eqb-false}
 use Rattle.tap.specs.Rounding.{halfOf, nearestWhole}
-use Rattle.tap.specs.Steps.{evenOf, nearestOf}
+use Rattle.tap.specs.Inner.{evenOf, nearestOf}
 use Rattle.tap.proofs.Rest.{rest-is, leftover-is}
 use Rattle.tap.proofs.Value.{Plain, two-to, below, unsigned, nought}
 
@@ -246,13 +246,13 @@ nearest-is s m e = refl
 
 -- what the code learns of x: the even number n is small enough to be counted, and the half rule decides where x is a half above it
 abbrev pub Nearest : Float → ℕ → Type 0
-Nearest x n = (n ≤ 2 ^ 32) × (eq x (add binary64 (ofInt binary64 (pos n)) half-float) ≡ true → (n < 2 ^ 32) × (halfOf n ≡ nearestOf x))
+Nearest x n = (n ≤ 2 ^ 32) × (eq x (add binary64 (ofInt binary64 (pos n)) half-float) ≡ true → halfOf n ≡ nearestOf x)
     × (eq x (add binary64 (ofInt binary64 (pos n)) half-float) ≡ false → n ≡ nearestOf x)
 
 pub by-half : (x : Float) → lt x (two-to 32) ≡ true → lt x nought ≡ false → Nearest x (evenOf x)
 by-half nan h l = absurd (true≢false (sym h ∙ not-under))
 by-half (inf s) h l = absurd (true≢false (sym h ∙ inf-under s l))
-by-half (fin s m e) h l = subst (Nearest (fin s m e)) (sym (even-is s m e)) (small, λ t. (less (half t), sym (nearest-is s m e ∙ on-half (m * up e) (down e) (down-pos e) (half t))), λ t. sym (nearest-is s m e ∙ no-half (m * up e) (down e) (down-pos e) (off t)))
+by-half (fin s m e) h l = subst (Nearest (fin s m e)) (sym (even-is s m e)) (small, λ t. sym (nearest-is s m e ∙ on-half (m * up e) (down e) (down-pos e) (half t)), λ t. sym (nearest-is s m e ∙ no-half (m * up e) (down e) (down-pos e) (off t)))
   where
     b : m * up e < 2 ^ 32 * down e
     b = below s m e h (unsigned s m e l)
@@ -271,17 +271,6 @@ by-half (fin s m e) h l = subst (Nearest (fin s m e)) (sym (even-is s m e)) (sma
 
     off : eq (fin s m e) (add binary64 (ofInt binary64 (pos (closest (m * up e) (down e)))) half-float) ≡ false → m * up e * 2 ≡ (closest (m * up e) (down e) * 2 + 1) * down e → ⊥
     off t = eqb-false _ _ (sym tested ∙ t)
-
-    less : m * up e * 2 ≡ (closest (m * up e) (down e) * 2 + 1) * down e → closest (m * up e) (down e) < 2 ^ 32
-    less q =
-        halve (closest (m * up e) (down e))
-        (lt-of-mul-lt-mul-right (down e) (lt-of-le-of-lt (le-of-eq (sym q)) (lt-of-lt-of-le (double (m * up e) (2 ^ 32 * down e) b) (le-of-eq (mul-right-comm (2 ^ 32) (down e) 2)))))
-      where
-        double : (x y : ℕ) → x < y → x * 2 < y * 2
-        double x y h = omega arith
-
-        halve : (n : ℕ) → n * 2 + 1 < 2 ^ 32 * 2 → n < 2 ^ 32
-        halve n h = omega arith
 
 in-is : (n : ℕ) → inFloat binary64 (pos n) ≡ leb n (2 ^ 53)
 unfolding inFloat

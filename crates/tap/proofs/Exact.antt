@@ -28,7 +28,7 @@ leftover-is s a d n = refl
 abbrev pub side : Bool → ℕ → ℕ → ℕ → Bool
 side s a d n = cond (leb (n * d) a) s (not s)
 
-one-round : (s : Bool) (a d n : ℕ) → leftover s a d n ≡ round binary64 (side s a d n) (apart a (n * d)) d
+pub one-round : (s : Bool) (a d n : ℕ) → leftover s a d n ≡ round binary64 (side s a d n) (apart a (n * d)) d
 one-round s a d n = leftover-is s a d n ∙ go (leb (n * d) a) (λ t. leb-le t) (λ t. leb-lt t)
   where
     leb-le : T (leb (n * d) a) → n * d ≤ a

@@ -10,5 +10,6 @@ pub mod Answer
 pub mod Exact
 pub mod Distance
 pub mod Theorems
+pub mod Claims
 pub mod Figures
 pub mod Nan

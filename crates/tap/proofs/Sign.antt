@@ -11,7 +11,7 @@ use lib.Ieee.{Float, nan, inf, fin, binary64, up, down, lt, neg, round, nearest,
 use lib.Ieee.Fits.{down-pos}
 use borrow.Author.Tests.{le-ltb}
 use Rattle.tap.specs.Rounding.{nearestWhole, sizeOf, absOf}
-use Rattle.tap.specs.Steps.{magnitudeOf}
+use Rattle.tap.specs.Inner.{magnitudeOf}
 use Rattle.tap.proofs.Whole.{nearest-whole}
 use Rattle.tap.proofs.Value.{nought, Plain, plain, unsigned}
 

@@ -12,7 +12,7 @@ use mir.Syntax.{w64}
 use mir.Val.{SFits, toZ}
 use mir.ValLaws.{toZ-pos}
 use Rattle.tap.specs.Rounding.{exact, rounded}
-use Rattle.tap.specs.Steps.{parted}
+use Rattle.tap.specs.Inner.{parted}
 
 -- ---- scaled: 2 ^ k by its bits, a sign of 0, an exponent's field of 1023 + k and digits of 0
 abbrev bits : ℕ → ℕ

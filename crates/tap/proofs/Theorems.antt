@@ -1,78 +1,38 @@
--- What document 01, "Taps to coefficients", says of N and of the leftover, as theorems about `roundedTap`. Assumes nothing.
+-- What specs/Claims.antt says of N and of the leftover, of `roundedTap`. Assumes nothing.
 use mathlib.Core.Path.{_≡_, refl, sym, ap, _∙_, subst}
 use mathlib.Core.Bool.{Bool, true, false, not, _&&_, _||_, Bool·beq, cond, true≢false, false≢true}
 use Prim.Native.Nat.{ℕ, zero, suc, _+_, _*_, _^_, _≤_, _<_}
-use native.Mathlib.Nat.{le-trans, le-of-eq, zero-mul, mul-one, mul-comm, mul-right-comm, mul-pos, mul-le-mul-right, le-of-mul-le-mul-right}
+use native.Mathlib.Nat.{le-trans, le-of-eq, zero-mul, mul-one, one-mul, mul-comm, mul-right-comm, mul-pos, mul-le-mul-right, le-of-mul-le-mul-right}
 use native.Mathlib.Omega.{arith}
-use lib.IntN.{ℤ, pos, natAbs, _-ℤ_, _*ℤ_}
+use lib.IntN.{ℤ, pos, negsuc, _-ℤ_, _*ℤ_}
 use lib.Dec.{T, ltb, eqb, lit<}
-use lib.Ieee.{Float, nan, inf, fin, binary64, up, down, eq, fits, isNan}
+use lib.Ieee.{Float, nan, inf, fin, binary64, up, down, round, eq, le, fits, isNan}
 use lib.Ieee.Fits.{down-pos}
 use lib.Ieee.Exact.{HasValue}
+use lib.Ieee.Order.{round-mono}
 use borrow.Author.Tests.{ltb-false, le-ltb, eqb-true, eqb-false, eq-eqb, ne-eqb}
 use Rattle.refusal.specs.Answer.{given}
 use Rattle.refusal.proofs.Checks.{check-passes, given-if}
-use Rattle.tap.specs.Rounding.{Coefficient, exact, rounded, nearestWhole, signed, most, leftover, split, finite, sizeOf, outside, coefficientOf, roundedTap, wholeOf, leftOf}
+use Rattle.tap.specs.Rounding.{TapResult, exact, rounded, nearestWhole, signed, leftover, split, finite, sizeOf, outside, resultOf, roundedTap, absOf, wholeOf, leftOf}
+use Rattle.tap.specs.Claims.{numerator, denominator, NearestAway, Exactly, AtMostHalf, ExactLeftover}
 use Rattle.tap.proofs.Whole.{nearest-near, nearest-whole}
-use Rattle.tap.proofs.Exact.{apart, side, leftover-exact, leftover-fits}
+use Rattle.tap.proofs.Exact.{apart, side, one-round, leftover-exact, leftover-fits}
 use Rattle.tap.proofs.Distance.{signed-mul, difference-is, none-nearer, none-larger, no-other}
-use Rattle.tap.proofs.Sign.{size-is}
-use Rattle.tap.proofs.Answer.{rounded-is, of-finite, outside-is, coefficient-is, split-is}
+use Rattle.tap.proofs.Sign.{round-abs, size-is}
+use Rattle.tap.proofs.Answer.{most, rounded-is, of-finite, outside-is, result-is, split-is}
 
--- ---- the statements
--- tap × 2^F, exactly, as a fraction of whole numbers
-abbrev pub numerator : ℕ → Float → ℤ
-numerator F nan = pos 0
-numerator F (inf s) = pos 0
-numerator F (fin s m e) = signed s (m * up e * 2 ^ F)
-
-abbrev pub denominator : Float → ℕ
-denominator nan = 1
-denominator (inf s) = 1
-denominator (fin s m e) = down e
-
--- how far a whole number is from tap × 2^F, in parts of the denominator
-abbrev pub distance : ℕ → Float → ℤ → ℕ
-distance F tap z = natAbs (numerator F tap -ℤ z *ℤ pos (denominator tap))
-
--- "the whole number nearest to tap × 2^F, an exact half going away from zero": none is nearer, and none as near is larger in size
-pub record NearestAway (F : ℕ) (tap : Float) (N : ℤ) : Type 0 where
-  pub nearest : (z : ℤ) → distance F tap N ≤ distance F tap z
-  pub away : (z : ℤ) → distance F tap z ≡ distance F tap N → natAbs z ≤ natAbs N
-
--- x is the number z / d exactly
-abbrev pub Exactly : Float → ℤ → ℕ → Type 0
-Exactly nan z d = ⊥
-Exactly (inf s) z d = ⊥
-Exactly (fin t p g) z d = signed t (p * up g) *ℤ pos d ≡ z *ℤ pos (down g)
-
--- x is at most 1/2 in magnitude
-abbrev pub AtMostHalf : Float → Type 0
-AtMostHalf nan = ⊥
-AtMostHalf (inf s) = ⊥
-AtMostHalf (fin t p g) = p * up g * 2 ≤ down g
-
--- "The leftover, tap × 2^F - N, is a binary64 number exactly"
-pub record ExactLeftover (F : ℕ) (tap : Float) (N : ℤ) (l : Float) : Type 0 where
-  pub exactly : Exactly l (numerator F tap -ℤ N *ℤ pos (denominator tap)) (denominator tap)
-  pub held : T (fits binary64 l)
-  pub is-finite : finite l ≡ true
-  pub nonzero : eq l (fin false 0 (pos 0)) ≡ false
-  pub at-most-half : AtMostHalf l
-
--- ---- the proofs
-passed : (F : ℕ) (x : Float) (c : Coefficient) → roundedTap F x ≡ given c → (F ≤ 31) × (finite x ≡ true) × (outside F x ≡ false) × (coefficientOf F x ≡ c)
+passed : (F : ℕ) (x : Float) (c : TapResult) → roundedTap F x ≡ given c → (F ≤ 31) × (finite x ≡ true) × (outside F x ≡ false) × (resultOf F x ≡ c)
 passed F x c h =
     let a = given-if (ltb 31 F) 4 _ c (sym (rounded-is F x) ∙ h) in
     let b = given-if (not (finite x)) 5 _ c (a .1) in
     let d = given-if (outside F x) 6 _ c (b .1) in
-    (ltb-false 31 F (a .0), unnot (finite x) (b .0), d .0, inner (coefficientOf F x) c (d .1))
+    (ltb-false 31 F (a .0), unnot (finite x) (b .0), d .0, inner (resultOf F x) c (d .1))
   where
     unnot : (b : Bool) → not b ≡ false → b ≡ true
     unnot true h = refl
     unnot false h = absurd (true≢false h)
 
-    inner : (a b : Coefficient) → given a ≡ given b → a ≡ b
+    inner : (a b : TapResult) → given a ≡ given b → a ≡ b
     inner a b h = cc
 
 -- the two cases of `split`
@@ -103,12 +63,12 @@ rest-is s a d n N l h = go (eqb (n * d) a) refl (sym (split-is s a d n) ∙ h)
         no z = omega arith
     go false e h = (eqb-false (n * d) a e, cc)
 
-whole-of : (F : ℕ) (s : Bool) (m : ℕ) (e : ℤ) (c : Coefficient) → coefficientOf F (fin s m e) ≡ c → signed s (nearestWhole (m * up e * 2 ^ F) (down e)) ≡ wholeOf c
+whole-of : (F : ℕ) (s : Bool) (m : ℕ) (e : ℤ) (c : TapResult) → resultOf F (fin s m e) ≡ c → signed s (nearestWhole (m * up e * 2 ^ F) (down e)) ≡ wholeOf c
 whole-of F s m e c h =
-    ap (signed s) (sym (size-is F s m e)) ∙ sym (whole-is s (m * up e * 2 ^ F) (down e) (sizeOf F (fin s m e))) ∙ ap wholeOf (sym (coefficient-is F s m e) ∙ h)
+    ap (signed s) (sym (size-is F s m e)) ∙ sym (whole-is s (m * up e * 2 ^ F) (down e) (sizeOf F (fin s m e))) ∙ ap wholeOf (sym (result-is F s m e) ∙ h)
 
 -- N is the nearest whole number, a half away from zero
-pub nearest-away : (F : ℕ) (tap : Float) (c : Coefficient) → roundedTap F tap ≡ given c → NearestAway F tap (wholeOf c)
+pub nearest-away : (F : ℕ) (tap : Float) (c : TapResult) → roundedTap F tap ≡ given c → NearestAway F tap (wholeOf c)
 nearest-away F nan c h = absurd (false≢true (passed F nan c h .1))
 nearest-away F (inf s) c h = absurd (false≢true (passed F (inf s) c h .1))
 nearest-away F (fin s m e) c h =
@@ -116,7 +76,7 @@ nearest-away F (fin s m e) c h =
     (record { nearest = none-nearer s (m * up e * 2 ^ F) (down e) (down-pos e); away = none-larger s (m * up e * 2 ^ F) (down e) (down-pos e) })
 
 -- and no other whole number is
-pub nearest-only : (F : ℕ) (tap : Float) (c : Coefficient) (M : ℤ) → roundedTap F tap ≡ given c → NearestAway F tap M → M ≡ wholeOf c
+pub nearest-only : (F : ℕ) (tap : Float) (c : TapResult) (M : ℤ) → roundedTap F tap ≡ given c → NearestAway F tap M → M ≡ wholeOf c
 nearest-only F nan c M h w = absurd (false≢true (passed F nan c h .1))
 nearest-only F (inf s) c M h w = absurd (false≢true (passed F (inf s) c h .1))
 nearest-only F (fin s m e) c M h w =
@@ -130,7 +90,7 @@ exact-whole F (fin s m e) N h =
     let a = m * up e * 2 ^ F in
     let n = sizeOf F (fin s m e) in
     let p = passed F (fin s m e) (exact N) h .3 in
-    let q : n * down e ≡ a = exact-is s a (down e) n N (sym (coefficient-is F s m e) ∙ p) in
+    let q : n * down e ≡ a = exact-is s a (down e) n N (sym (result-is F s m e) ∙ p) in
     ap (signed s) (sym q) ∙ sym (signed-mul s n (down e)) ∙ ap (λ (z : ℤ). z *ℤ pos (down e)) (ap (signed s) (size-is F s m e) ∙ whole-of F s m e (exact N) p)
 
 -- ---- the leftover, by its value ±r / d
@@ -163,6 +123,30 @@ module _ (r d : ℕ) (D : 0 < d) (R : 0 < r) where
       le-of-mul-le-mul-right
       (le-trans (le-of-eq (mul-right-comm (p * up g) 2 d ∙ ap (λ (k : ℕ). k * 2) (v .1) ∙ mul-right-comm r (down g) 2)) (le-trans (mul-le-mul-right (down g) h) (le-of-eq (mul-comm d (down g))))) D
 
+-- what is at most a half is rounded to a finite number
+abs-finite : (x : Float) → finite x ≡ finite (absOf x)
+abs-finite nan = refl
+abs-finite (inf s) = refl
+abs-finite (fin s m e) = refl
+
+one-half : round binary64 false 1 2 ≡ fin false 1 (negsuc 0)
+unfolding round
+one-half = refl
+
+low-finite : (x : Float) → absOf x ≡ x → T (le x (fin false 1 (negsuc 0))) → finite x ≡ true
+unfolding le
+low-finite nan e t = absurd t
+low-finite (inf true) e t = let z : false ≡ true = cc in absurd (false≢true z)
+low-finite (inf false) e t = absurd t
+low-finite (fin s m e) h t = refl
+
+round-finite : (s : Bool) (r d : ℕ) → 0 < d → r * 2 ≤ d → finite (round binary64 s r d) ≡ true
+round-finite s r d D h =
+    abs-finite (round binary64 s r d)
+    ∙ ap finite (round-abs s r d)
+    ∙ low-finite (round binary64 false r d) (round-abs false r d)
+    (subst (λ (x : Float). T (le (round binary64 false r d) x)) one-half (round-mono binary64 r d 1 2 D (lit< tt) (le-trans h (le-of-eq (sym (one-mul d))))))
+
 finite-at : (l : Float) (t : Bool) (r d : ℕ) → HasValue l t r d → finite l ≡ true
 finite-at nan t r d v = absurd v
 finite-at (inf s) t r d v = absurd v
@@ -178,6 +162,12 @@ exactly-at (fin s p g) t r d z v e =
     ∙ sym (signed-mul t r (down g))
     ∙ ap (λ (y : ℤ). y *ℤ pos (down g)) (sym e)
 
+half-apart : (x a d : ℕ) → (x * 2 ≤ a * 2 + d) × (a * 2 ≤ x * 2 + d) → apart a x * 2 ≤ d
+half-apart x a d h = both x a d (h .0) (h .1)
+  where
+    both : (x a d : ℕ) → x * 2 ≤ a * 2 + d → a * 2 ≤ x * 2 + d → apart a x * 2 ≤ d
+    both x a d h k = omega arith
+
 -- the leftover is tap × 2^F - N exactly, nonzero, and at most a half
 pub leftover-of : (F : ℕ) (tap : Float) (N : ℤ) (l : Float) → T (fits binary64 tap) → roundedTap F tap ≡ given (rounded N l) → ExactLeftover F tap N l
 leftover-of F nan N l t h = absurd (false≢true (passed F nan (rounded N l) h .1))
@@ -187,7 +177,7 @@ leftover-of F (fin s m e) N l t h =
     let d = down e in
     let n = nearestWhole a d in
     let p = passed F (fin s m e) (rounded N l) h in
-    let w : (n * d ≡ a → ⊥) × (leftover s a d n ≡ l) = rest-is s a d n N l (ap (split s a d) (sym (size-is F s m e)) ∙ sym (coefficient-is F s m e) ∙ p .3) in
+    let w : (n * d ≡ a → ⊥) × (leftover s a d n ≡ l) = rest-is s a d n N l (ap (split s a d) (sym (size-is F s m e)) ∙ sym (result-is F s m e) ∙ p .3) in
     let v : HasValue l (side s a d n) (apart a (n * d)) d = subst (λ (x : Float). HasValue x (side s a d n) (apart a (n * d)) d) (w .1) (leftover-exact s m e F (p .0) t) in
     let r : 0 < apart a (n * d) = unequal (n * d) a (w .0) in
     let k : signed s n ≡ N = whole-of F s m e (rounded N l) (p .3) in
@@ -196,7 +186,7 @@ leftover-of F (fin s m e) N l t h =
       held = subst (λ (x : Float). T (fits binary64 x)) (w .1) (leftover-fits s a d n);
       is-finite = finite-at l (side s a d n) (apart a (n * d)) d v;
       nonzero = nonzero-at (apart a (n * d)) d (down-pos e) r l (side s a d n) v;
-      at-most-half = half-at (apart a (n * d)) d (down-pos e) r l (side s a d n) v (half (n * d) a d (nearest-near a d (down-pos e)));
+      at-most-half = half-at (apart a (n * d)) d (down-pos e) r l (side s a d n) v (half-apart (n * d) a d (nearest-near a d (down-pos e)));
     }
   where
     unequal : (x a : ℕ) → (x ≡ a → ⊥) → 0 < apart a x
@@ -212,19 +202,13 @@ leftover-of F (fin s m e) N l t h =
             go : (k : ℕ) → 0 < suc k
             go k = omega arith
 
-    half : (x a d : ℕ) → (x * 2 ≤ a * 2 + d) × (a * 2 ≤ x * 2 + d) → apart a x * 2 ≤ d
-    half x a d h = both x a d (h .0) (h .1)
-      where
-        both : (x a d : ℕ) → x * 2 ≤ a * 2 + d → a * 2 ≤ x * 2 + d → apart a x * 2 ≤ d
-        both x a d h k = omega arith
-
 -- "A tap of -0 is exact, N = 0"
 pub minus-zero : (F : ℕ) → F ≤ 31 → roundedTap F (fin true 0 (pos 0)) ≡ given (exact (pos 0))
 minus-zero F h =
     of-finite F (fin true 0 (pos 0)) h refl
     ∙ check-passes (outside F (fin true 0 (pos 0))) 6 _ (outside-is F true 0 (pos 0) ∙ le-ltb (most true) (sizeOf F (fin true 0 (pos 0))) (low (sizeOf F (fin true 0 (pos 0))) none))
     ∙ ap given
-    (coefficient-is F true 0 (pos 0)
+    (result-is F true 0 (pos 0)
     ∙ ap (split true (0 * 1 * 2 ^ F) 1) none
     ∙ split-is true (0 * 1 * 2 ^ F) 1 0
     ∙ ap (λ (b : Bool). cond b (exact (pos 0)) (rounded (pos 0) (leftover true (0 * 1 * 2 ^ F) 1 0))) (eq-eqb (0 * 1) (0 * 1 * 2 ^ F) (sym (zero-mul (2 ^ F)))))
@@ -242,9 +226,17 @@ finite-number nan h = absurd (false≢true h)
 finite-number (inf s) h = refl
 finite-number (fin s m e) h = refl
 
-pub left-finite : (F : ℕ) (tap : Float) (c : Coefficient) → T (fits binary64 tap) → roundedTap F tap ≡ given c → finite (leftOf c) ≡ true
-left-finite F tap (exact N) t h = refl
-left-finite F tap (rounded N l) t h = leftover-of F tap N l t h .is-finite
+pub left-finite : (F : ℕ) (tap : Float) (c : TapResult) → roundedTap F tap ≡ given c → finite (leftOf c) ≡ true
+left-finite F tap (exact N) h = refl
+left-finite F nan (rounded N l) h = absurd (false≢true (passed F nan (rounded N l) h .1))
+left-finite F (inf s) (rounded N l) h = absurd (false≢true (passed F (inf s) (rounded N l) h .1))
+left-finite F (fin s m e) (rounded N l) h =
+    let a = m * up e * 2 ^ F in
+    let d = down e in
+    let n = nearestWhole a d in
+    let p = passed F (fin s m e) (rounded N l) h in
+    let w = rest-is s a d n N l (ap (split s a d) (sym (size-is F s m e)) ∙ sym (result-is F s m e) ∙ p .3) in
+    ap finite (sym (w .1) ∙ one-round s a d n) ∙ round-finite (side s a d n) (apart a (n * d)) d (down-pos e) (half-apart (n * d) a d (nearest-near a d (down-pos e)))
 
-pub never-nan : (F : ℕ) (tap : Float) (c : Coefficient) → T (fits binary64 tap) → roundedTap F tap ≡ given c → isNan (leftOf c) ≡ false
-never-nan F tap c t h = finite-number (leftOf c) (left-finite F tap c t h)
+pub never-nan : (F : ℕ) (tap : Float) (c : TapResult) → roundedTap F tap ≡ given c → isNan (leftOf c) ≡ false
+never-nan F tap c h = finite-number (leftOf c) (left-finite F tap c h)

@@ -1,2 +1,4 @@
 pub mod Rounding
-pub mod Steps
+pub mod Figures
+pub mod Claims
+pub mod Inner

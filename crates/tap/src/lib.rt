@@ -4,13 +4,13 @@ pub mod pattern;
 
 ghost use mathlib.Core.Path.{_≡_};
 ghost use mathlib.Core.Bool.{true, false};
-ghost use Prim.Native.Nat.{_≤_, _<_};
+ghost use Prim.Native.Nat.{_≤_};
 ghost use lib.IntN.{pos};
 ghost use lib.Ieee as Ieee;
 ghost use lib.Ieee.{fin, binary64};
 ghost use Rattle.refusal.specs.Answer.{given};
-ghost use Rattle.tap.specs.Rounding.{halfOf, signed, roundedTap, answerOf};
-ghost use Rattle.tap.specs.Steps.{nearestOf, evenOf, parted, magnitudeOf};
+ghost use Rattle.tap.specs.Rounding.{halfOf, signed, answerOf, TapRounded};
+ghost use Rattle.tap.specs.Inner.{nearestOf, evenOf, parted, magnitudeOf};
 use refusal::Refusal;
 
 // What a tap comes back as: N with nothing left over, N with the leftover tap * 2^F - N, or a
@@ -21,7 +21,7 @@ pub enum RoundedTap {
     Refused(Refusal),
 }
 
-// x without its sign, but that -0 keeps it.
+// x without its sign, but that -0 keeps it. Internal: `tap_set` compares leftovers by it.
 pub fn magnitude(x: f64) -> f64
     ensures { λ r. ⌜ r ≡ magnitudeOf x ⌝ }
 {
@@ -38,7 +38,7 @@ fn scaled(x: f64, f: u32) -> f64
 
 // The half rule: the size that q + 1/2 goes to. Away from zero.
 fn half(q: u64) -> u64
-    requires { ⌜ q < 4294967296 ⌝ }
+    requires { ⌜ q ≤ 4294967296 ⌝ }
     ensures { λ r. ⌜ r ≡ halfOf q ⌝ }
 {
     q + 1
@@ -93,7 +93,7 @@ fn part(x: f64, n: i32) -> RoundedTap
 
 // The tap times 2^F rounded to the nearest whole number, an exact half away from zero.
 pub fn round_tap(tap: f64, fraction_bits: u32) -> RoundedTap
-    ensures { λ r. ⌜ answerOf r ≡ roundedTap «fraction_bits» tap ⌝ }
+    ensures { λ r. ⌜ TapRounded «fraction_bits» tap (answerOf r) ⌝ }
 {
     if fraction_bits > 31 {
         return RoundedTap::Refused(Refusal::FractionBits);

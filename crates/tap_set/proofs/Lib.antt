@@ -1,4 +1,7 @@
 pub mod Sizes
+pub mod Largest
 pub mod Rounds
 pub mod Settled
 pub mod Theorems
+pub mod Figures
+pub mod Claims

@@ -11,18 +11,18 @@ use lib.Seq.{drop-cons}
 use lib.Ieee.{Float, nan}
 use Rattle.refusal.specs.Answer.{Answer, given, refused, refuseIf, refuseAt, Place, nowhere, at-place, lowestFrom, lowest}
 use Rattle.refusal.proofs.Checks.{check-passes, given-at, lowest-here, lowest-none, lowest-all, lowest-alike}
-use Rattle.tap.specs.Rounding.{Coefficient, finite, outside, coefficientOf, roundedTap, wholeOf, leftOf}
+use Rattle.tap.specs.Rounding.{TapResult, finite, outside, resultOf, roundedTap, wholeOf, leftOf}
 use Rattle.tap.proofs.Answer.{rounded-is, of-finite}
 use Rattle.tap_set.specs.declared.Report.{Report}
 use Rattle.tap_set.specs.Set.{reported, reportFrom, reportOf}
-use Rattle.tap_set.specs.Steps.{isRefused, wholeIn, leftIn, withLeftover, turned, tried, finiteRule, checked}
+use Rattle.tap_set.specs.Inner.{isRefused, wholeIn, leftIn, withLeftover, turned, tried, finiteRule, checked}
 
 abbrev pub notFinite : Float → Bool
 notFinite x = not (finite x)
 
 -- the whole number that x is rounded to
 abbrev pub whole : ℕ → Float → ℤ
-whole f x = wholeOf (coefficientOf f x)
+whole f x = wholeOf (resultOf f x)
 
 -- ---- one number: what is not turned down has a coefficient
 pub unnot : (b : Bool) → not b ≡ false → b ≡ true
@@ -33,7 +33,7 @@ passes : {A : Type 0} (b : Bool) (number : ℕ) (rest : Answer A) → isRefused 
 passes true number rest h = absurd (true≢false h)
 passes false number rest h = (refl, h)
 
-pub kept : (F : ℕ) (x : Float) → turned F x ≡ false → (finite x ≡ true) × (outside F x ≡ false) × (roundedTap F x ≡ given (coefficientOf F x))
+pub kept : (F : ℕ) (x : Float) → turned F x ≡ false → (finite x ≡ true) × (outside F x ≡ false) × (roundedTap F x ≡ given (resultOf F x))
 kept F x h =
     let a = passes (ltb 31 F) 4 _ (ap isRefused (sym (rounded-is F x)) ∙ h) in
     let b = passes (not (finite x)) 5 _ (a .1) in
@@ -44,18 +44,18 @@ kept F x h =
     )
 
 -- t is what x is rounded to, and is not turned down
-pub whole-is : (F : ℕ) (x : Float) (t : Answer Coefficient) → t ≡ roundedTap F x → isRefused t ≡ false → wholeIn t ≡ whole F x
+pub whole-is : (F : ℕ) (x : Float) (t : Answer TapResult) → t ≡ roundedTap F x → isRefused t ≡ false → wholeIn t ≡ whole F x
 whole-is F x t e h = ap wholeIn (e ∙ kept F x (ap isRefused (sym e) ∙ h) .2)
 
-pub left-is : (F : ℕ) (x : Float) (t : Answer Coefficient) → t ≡ roundedTap F x → isRefused t ≡ false → leftIn t ≡ leftOf (coefficientOf F x)
+pub left-is : (F : ℕ) (x : Float) (t : Answer TapResult) → t ≡ roundedTap F x → isRefused t ≡ false → leftIn t ≡ leftOf (resultOf F x)
 left-is F x t e h = ap leftIn (e ∙ kept F x (ap isRefused (sym e) ∙ h) .2)
 
 -- ---- the report
-with-is : (r : Report) (c : Coefficient) → withLeftover r (leftOf c) ≡ reported r c
+with-is : (r : Report) (c : TapResult) → withLeftover r (leftOf c) ≡ reported r c
 unfolding withLeftover reported
 with-is r c = refl
 
-pub report-one : (f : ℕ) (r : Report) (x : Float) (xs : List Float) → reportFrom f r (x ∷ xs) ≡ reportFrom f (reported r (coefficientOf f x)) xs
+pub report-one : (f : ℕ) (r : Report) (x : Float) (xs : List Float) → reportFrom f r (x ∷ xs) ≡ reportFrom f (reported r (resultOf f x)) xs
 unfolding reportFrom
 report-one f r x xs = refl
 
@@ -64,9 +64,9 @@ unfolding reportFrom
 report-none f r = refl
 
 pub report-next : (f : ℕ) (r : Report) (xs : List Float) (i : ℕ) → i < length xs
-    → reportFrom f (withLeftover r (leftOf (coefficientOf f (getD xs i nan)))) (drop (i + 1) xs) ≡ reportFrom f r (drop i xs)
+    → reportFrom f (withLeftover r (leftOf (resultOf f (getD xs i nan)))) (drop (i + 1) xs) ≡ reportFrom f r (drop i xs)
 report-next f r xs i h =
-    let c = coefficientOf f (getD xs i nan) in
+    let c = resultOf f (getD xs i nan) in
     ap (λ (q : Report). reportFrom f q (drop (i + 1) xs)) (with-is r c)
     ∙ ap (λ (k : ℕ). reportFrom f (reported r c) (drop k xs)) (add-one i)
     ∙ sym (ap (reportFrom f r) (drop-cons xs i nan h) ∙ report-one f r (getD xs i nan) (drop (suc i) xs))
@@ -111,7 +111,7 @@ all-pass F k (x ∷ xs) h =
 turned-finite : (F : ℕ) (x : Float) → F ≤ 31 → finite x ≡ true → turned F x ≡ outside F x
 turned-finite F x f h = ap isRefused (of-finite F x f h) ∙ go (outside F x)
   where
-    go : (b : Bool) → isRefused (refuseIf b 6 (given (coefficientOf F x))) ≡ b
+    go : (b : Bool) → isRefused (refuseIf b 6 (given (resultOf F x))) ≡ b
     go true = refl
     go false = refl
 

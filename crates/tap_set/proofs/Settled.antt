@@ -13,7 +13,7 @@ use Rattle.refusal.proofs.Checks.{check-applies, check-passes, lowest-all, lowe
 use Rattle.tap.specs.Rounding.{finite}
 use Rattle.normalise.specs.Normalised.{sumFrom, sumOf, unusable, infinite, quotients, used, divisorOf}
 use Rattle.tap_set.specs.Set.{bounded, roundedTaps}
-use Rattle.tap_set.specs.Steps.{finiteRule, checked, settled}
+use Rattle.tap_set.specs.Inner.{finiteRule, checked, settled}
 use Rattle.tap_set.proofs.Rounds.{notFinite, unnot}
 
 -- ---- a quotient of finite numbers is a number: it is infinite where it is not finite

@@ -3,11 +3,11 @@ use mathlib.Core.Path.{_≡_, refl, sym, ap, _∙_, subst}
 use mathlib.Core.Bool.{Bool, true, false, cond}
 use lib.Ieee.{Float, lt}
 use Rattle.tap.specs.Rounding.{absOf}
-use Rattle.tap.specs.Steps.{magnitudeOf}
+use Rattle.tap.specs.Inner.{magnitudeOf}
 use Rattle.tap.proofs.Sign.{smaller-is}
 use Rattle.tap_set.specs.Set.{largerOf}
 
-larger-is : (x y : Float) → largerOf x y ≡ cond (lt (absOf x) (absOf y)) y x
+pub larger-is : (x y : Float) → largerOf x y ≡ cond (lt (absOf x) (absOf y)) y x
 unfolding largerOf
 larger-is x y = refl
 

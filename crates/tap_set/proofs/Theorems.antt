@@ -1,43 +1,39 @@
--- What document 01 says of the report, as theorems about `roundedTaps`: no result is a not-a-number. Assumes nothing.
-use mathlib.Core.Path.{_≡_, refl, sym, ap, _∙_}
-use mathlib.Core.Bool.{Bool, true, false, _&&_}
+-- What an accepted set has passed, and its report. Assumes nothing.
+use mathlib.Core.Path.{_≡_, refl, sym, ap, _∙_, subst}
+use mathlib.Core.Bool.{Bool, true, false, _&&_, _||_, Bool·beq, true≢false, false≢true}
 use mathlib.Core.List.{List, [], _∷_}
-use Prim.Native.Nat.{ℕ, suc, _≤_}
-use lib.IntN.{pos}
+use Prim.Native.Nat.{ℕ, zero, suc, _*_, _≤_, _<_}
+use native.Mathlib.Nat.{zero-mul}
+use native.Mathlib.Omega.{arith}
+use lib.IntN.{ℤ}
 use lib.Dec.{T, ltb, eqb}
-use lib.ListN.{length}
-use lib.Ieee.{Float, fin, binary64, fits, isNan}
-use lib.Ieee.Fits.{div-fits}
-use borrow.Author.Tests.{ltb-false}
+use lib.ListN.{length, getD}
+use lib.Ieee.{Float, nan, inf, fin, binary64, up, down, eq, fits}
+use lib.Ieee.Fits.{div-fits, nan-fits}
+use borrow.Author.Tests.{ltb-false, eqb-false, eq-eqb}
 use Rattle.refusal.specs.Answer.{given, refuseAt, nowhere, lowestFrom, lowest}
-use Rattle.refusal.proofs.Checks.{check-passes, given-if, given-at, lowest-all}
-use Rattle.tap.specs.Rounding.{Coefficient, finite, outside, coefficientOf, roundedTap, leftOf}
+use Rattle.refusal.proofs.Checks.{check-passes, given-if, given-at, lowest-all, lowest-none-at}
+use Rattle.tap.specs.Rounding.{TapResult, exact, rounded, finite, outside, resultOf, roundedTap, leftOf}
+use Rattle.tap.proofs.Value.{nought}
 use Rattle.tap.proofs.Answer.{of-finite}
-use Rattle.tap.proofs.Theorems.{left-finite, finite-number}
+use Rattle.tap.proofs.Theorems.{left-finite, leftover-of}
 use Rattle.tap_set.specs.declared.Report.{Report}
 use Rattle.normalise.specs.Normalised.{sumOf, unusable, infinite, quotients, used, divisorOf}
 use Rattle.tap_set.specs.Set.{largerOf, reported, reportFrom, reportOf, bounded, roundedTaps}
-use Rattle.tap_set.proofs.Sizes.{larger-one}
+use Rattle.tap_set.specs.Claims.{Binary64, Finite}
+use Rattle.tap_set.proofs.Largest.{AtMost, best, AllFinite, Best, best-is}
 use Rattle.tap_set.proofs.Rounds.{notFinite, unnot, report-one, report-none}
 use Rattle.tap_set.proofs.Settled.{all-is, settled-open, infinite-quotients, usable-number}
 
--- ---- the statement
--- every tap is a binary64 number, an infinity or a not-a-number, as every f64 is
-abbrev pub Binary64 : List Float → Type 0
-Binary64 [] = Unit {0}
-Binary64 (x ∷ xs) = T (fits binary64 x) × Binary64 xs
+-- the leftover of a number
+abbrev pub leftAt : ℕ → Float → Float
+leftAt F x = leftOf (resultOf F x)
 
--- the divisor and the leftover are finite numbers
-pub record Finite (r : Report) : Type 0 where
-  pub divisor : finite (r .divisor) ≡ true
-  pub leftover : finite (r .leftover) ≡ true
-
--- ---- the proof
-reported-divisor : (r : Report) (c : Coefficient) → reported r c .divisor ≡ r .divisor
+reported-divisor : (r : Report) (c : TapResult) → reported r c .divisor ≡ r .divisor
 unfolding reported
 reported-divisor r c = refl
 
-reported-leftover : (r : Report) (c : Coefficient) → reported r c .leftover ≡ largerOf (r .leftover) (leftOf c)
+reported-leftover : (r : Report) (c : TapResult) → reported r c .leftover ≡ largerOf (r .leftover) (leftOf c)
 unfolding reported
 reported-leftover r c = refl
 
@@ -47,19 +43,16 @@ bounded-is F d xs = refl
 
 divisor-kept : (F : ℕ) (r : Report) (xs : List Float) → reportFrom F r xs .divisor ≡ r .divisor
 divisor-kept F r [] = ap (λ (q : Report). q .divisor) (report-none F r)
-divisor-kept F r (x ∷ xs) = ap (λ (q : Report). q .divisor) (report-one F r x xs) ∙ divisor-kept F (reported r (coefficientOf F x)) xs ∙ reported-divisor r (coefficientOf F x)
+divisor-kept F r (x ∷ xs) = ap (λ (q : Report). q .divisor) (report-one F r x xs) ∙ divisor-kept F (reported r (resultOf F x)) xs ∙ reported-divisor r (resultOf F x)
 
-leftover-kept : (F : ℕ) (f : F ≤ 31) (k : ℕ) (r : Report) (xs : List Float) → Binary64 xs → lowestFrom k notFinite xs ≡ nowhere → lowestFrom k (outside F) xs ≡ nowhere → finite (r .leftover) ≡ true
-    → finite (reportFrom F r xs .leftover) ≡ true
-leftover-kept F f k r [] b n o h = ap (λ (q : Report). finite (q .leftover)) (report-none F r) ∙ h
-leftover-kept F f k r (x ∷ xs) b n o h =
-    let w = lowest-all notFinite k x xs n in
-    let v = lowest-all (outside F) k x xs o in
-    let g : roundedTap F x ≡ given (coefficientOf F x) = of-finite F x f (unnot (finite x) (w .0)) ∙ check-passes (outside F x) 6 _ (v .0) in
-    let l : finite (leftOf (coefficientOf F x)) ≡ true = left-finite F x (coefficientOf F x) (b .0) g in
-    ap (λ (q : Report). finite (q .leftover)) (report-one F r x xs)
-    ∙ leftover-kept F f (suc k) (reported r (coefficientOf F x)) xs (b .1) (w .1) (v .1)
-    (ap finite (reported-leftover r (coefficientOf F x)) ∙ larger-one (λ (y : Float). finite y ≡ true) (r .leftover) (leftOf (coefficientOf F x)) h l)
+-- the leftover is the best of those of the numbers
+pub leftover-best : (F : ℕ) (r : Report) (xs : List Float) → reportFrom F r xs .leftover ≡ best (leftAt F) (r .leftover) xs
+unfolding best
+leftover-best F r [] = ap (λ (q : Report). q .leftover) (report-none F r)
+leftover-best F r (x ∷ xs) =
+    ap (λ (q : Report). q .leftover) (report-one F r x xs)
+    ∙ leftover-best F (reported r (resultOf F x)) xs
+    ∙ ap (λ (l : Float). best (leftAt F) l xs) (reported-leftover r (resultOf F x))
 
 quotients-fit : (y : Float) (xs : List Float) → Binary64 (quotients y xs)
 quotients-fit y [] = tt
@@ -71,13 +64,22 @@ used-finite : (normalised : Bool) (taps : List Float) → lowest notFinite taps 
 used-finite false taps n u q = (n, refl)
 used-finite true taps n u q = (infinite-quotients (sumOf taps) 0 0 taps u n ∙ q, usable-number (sumOf taps) u)
 
-used-fit : (normalised : Bool) (taps : List Float) → Binary64 taps → Binary64 (used normalised taps)
+pub used-fit : (normalised : Bool) (taps : List Float) → Binary64 taps → Binary64 (used normalised taps)
 used-fit false taps b = b
 used-fit true taps b = quotients-fit (sumOf taps) taps
 
--- the report of an accepted set
-pub report-finite : (F : ℕ) (normalised : Bool) (taps : List Float) (room : ℕ) (r : Report) → Binary64 taps → roundedTaps F normalised taps room ≡ given r → Finite r
-report-finite F normalised taps room r b h =
+-- ---- what an accepted set has passed
+pub record Accepted (F : ℕ) (normalised : Bool) (taps : List Float) (room : ℕ) (r : Report) : Type 0 where
+  pub few-bits : F ≤ 31
+  pub some-taps : length taps ≡ 0 → ⊥
+  pub room-for : length taps ≤ room
+  pub numbers : lowest notFinite (used normalised taps) ≡ nowhere
+  pub divisor : finite (divisorOf normalised taps) ≡ true
+  pub inside : lowest (outside F) (used normalised taps) ≡ nowhere
+  pub report : reportOf F (divisorOf normalised taps) (used normalised taps) ≡ r
+
+pub accepted : (F : ℕ) (normalised : Bool) (taps : List Float) (room : ℕ) (r : Report) → roundedTaps F normalised taps room ≡ given r → Accepted F normalised taps room r
+accepted F normalised taps room r h =
     let c1 = given-if (eqb (length taps) 0) 1 _ r (sym (all-is F normalised taps room) ∙ h) in
     let c2 = given-if (ltb 256 (length taps)) 2 _ r (c1 .1) in
     let c3 = given-if (ltb room (length taps)) 3 _ r (c2 .1) in
@@ -87,21 +89,75 @@ report-finite F normalised taps room r b h =
     let d7 = given-at (lowest (λ (q : Float). normalised && infinite q) (used normalised taps)) 7 _ r (c7 .1) in
     let c6 = given-at (lowest (outside F) (used normalised taps)) 6 _ r (sym (bounded-is F (divisorOf normalised taps) (used normalised taps)) ∙ d7 .1) in
     let u = used-finite normalised taps (c5 .0) (c7 .0) (d7 .0) in
-    let e : reportOf F (divisorOf normalised taps) (used normalised taps) ≡ r = inner (reportOf F (divisorOf normalised taps) (used normalised taps)) r (c6 .1) in
     record {
-      divisor = ap (λ (q : Report). finite (q .divisor)) (sym e) ∙ ap finite (divisor-kept F (start normalised taps) (used normalised taps)) ∙ u .1;
-      leftover = ap (λ (q : Report). finite (q .leftover)) (sym e) ∙ leftover-kept F (ltb-false 31 F (c4 .0)) 0 (start normalised taps) (used normalised taps) (used-fit normalised taps b) (u .0) (c6 .0) refl;
+      few-bits = ltb-false 31 F (c4 .0);
+      some-taps = eqb-false (length taps) 0 (c1 .0);
+      room-for = ltb-false room (length taps) (c3 .0);
+      numbers = u .0;
+      divisor = u .1;
+      inside = c6 .0;
+      report = inner (reportOf F (divisorOf normalised taps) (used normalised taps)) r (c6 .1);
     }
   where
-    start : Bool → List Float → Report
-    start normalised taps = record { divisor = divisorOf normalised taps; leftover = fin false 0 (pos 0) }
-
     inner : (p q : Report) → given p ≡ given q → p ≡ q
     inner p q h = cc
 
--- no result is a not-a-number
-pub never-nan : (F : ℕ) (normalised : Bool) (taps : List Float) (room : ℕ) (r : Report) → Binary64 taps → roundedTaps F normalised taps room ≡ given r
-    → (isNan (r .divisor) ≡ false) × (isNan (r .leftover) ≡ false)
-never-nan F normalised taps room r b h =
-    let w = report-finite F normalised taps room r b h in
-    (finite-number (r .divisor) (w .divisor), finite-number (r .leftover) (w .leftover))
+-- a number that is finite and within the bounds is rounded
+pub rounds : (F : ℕ) (x : Float) → F ≤ 31 → finite x ≡ true → outside F x ≡ false → roundedTap F x ≡ given (resultOf F x)
+rounds F x f n o = of-finite F x f n ∙ check-passes (outside F x) 6 _ o
+
+lefts-finite : (F : ℕ) (f : F ≤ 31) (k : ℕ) (xs : List Float) → lowestFrom k notFinite xs ≡ nowhere → lowestFrom k (outside F) xs ≡ nowhere → AllFinite (leftAt F) xs
+lefts-finite F f k [] n o = tt
+lefts-finite F f k (x ∷ xs) n o =
+    let w = lowest-all notFinite k x xs n in
+    let v = lowest-all (outside F) k x xs o in
+    (left-finite F x (resultOf F x) (rounds F x f (unnot (finite x) (w .0)) (v .0)), lefts-finite F f (suc k) xs (w .1) (v .1))
+
+module _ (F : ℕ) (normalised : Bool) (taps : List Float) (room : ℕ) (r : Report) (w : Accepted F normalised taps room r) where
+  abbrev xs : List Float
+  xs = used normalised taps
+
+  pub divisor-is : r .divisor ≡ divisorOf normalised taps
+  divisor-is = ap (λ (q : Report). q .divisor) (sym (w .report)) ∙ divisor-kept F (record { divisor = divisorOf normalised taps; leftover = nought }) xs
+
+  leftover-is : best (leftAt F) nought xs ≡ r .leftover
+  leftover-is = sym (leftover-best F (record { divisor = divisorOf normalised taps; leftover = nought }) xs) ∙ ap (λ (q : Report). q .leftover) (w .report)
+
+  pub best-leftover : Best (leftAt F) nought xs (r .leftover)
+  best-leftover = subst (Best (leftAt F) nought xs) leftover-is (best-is (leftAt F) nought xs refl (lefts-finite F (w .few-bits) 0 xs (w .numbers) (w .inside)))
+
+  pub report-finite : Finite r
+  report-finite = record { divisor = ap finite divisor-is ∙ w .divisor; leftover = best-leftover .number }
+
+  pub number-at : (i : ℕ) → i < length (used normalised taps) → finite (getD (used normalised taps) i nan) ≡ true
+  number-at i h = unnot (finite (getD xs i nan)) (lowest-none-at nan notFinite 0 xs i (w .numbers) h)
+
+  pub rounds-at : (i : ℕ) → i < length (used normalised taps) → roundedTap F (getD (used normalised taps) i nan) ≡ given (resultOf F (getD (used normalised taps) i nan))
+  rounds-at i h = rounds F (getD xs i nan) (w .few-bits) (number-at i h) (lowest-none-at nan (outside F) 0 xs i (w .inside) h)
+
+-- ---- a leftover of no magnitude is that of an exact tap
+pub fits-at : (xs : List Float) (i : ℕ) → Binary64 xs → T (fits binary64 (getD xs i nan))
+fits-at [] i b = nan-fits binary64
+fits-at (x ∷ xs) zero b = b .0
+fits-at (x ∷ xs) (suc i) b = fits-at xs i (b .1)
+
+zero-eq : (l : Float) → finite l ≡ true → AtMost l nought → eq l nought ≡ true
+unfolding eq
+zero-eq nan h z = absurd (false≢true h)
+zero-eq (inf s) h z = absurd (false≢true h)
+zero-eq (fin s m e) h z =
+    let k : m * up e * 1 ≡ 0 * 1 * down e = same (m * up e * 1) (0 * 1 * down e) (zero-mul (down e)) (z .up-to) in
+    ap (λ (b : Bool). b && (Bool·beq s false || eqb (m * up e * 1) 0)) (eq-eqb (m * up e * 1) (0 * 1 * down e) k)
+    ∙ ap (λ (b : Bool). Bool·beq s false || b) (eq-eqb (m * up e * 1) 0 (k ∙ zero-mul (down e)))
+    ∙ or-true (Bool·beq s false)
+  where
+    same : (a b : ℕ) → b ≡ 0 → a ≤ b → a ≡ b
+    same a b e h = omega arith
+
+    or-true : (b : Bool) → (b || true) ≡ true
+    or-true true = refl
+    or-true false = refl
+
+pub exact-of : (F : ℕ) (x : Float) (c : TapResult) → T (fits binary64 x) → roundedTap F x ≡ given c → AtMost (leftOf c) nought → (N : ℤ) × (c ≡ exact N)
+exact-of F x (exact N) t h z = (N, refl)
+exact-of F x (rounded N l) t h z = let w = leftover-of F x N l t h in absurd (true≢false (sym (zero-eq l (w .is-finite) z) ∙ w .nonzero))

@@ -1,2 +1,4 @@
 pub mod Set
-pub mod Steps
+pub mod Figures
+pub mod Claims
+pub mod Inner

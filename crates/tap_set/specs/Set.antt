@@ -1,4 +1,5 @@
 -- A set of taps: its report, its coefficients and its refusals. Document 01, "Taps to coefficients" and "Turned down". Definitions only.
+use mathlib.Core.Path.{_≡_}
 use Prim.Native.Nat.{ℕ}
 use mathlib.Core.Bool.{Bool, false, not, _&&_, cond}
 use mathlib.Core.List.{List, [], _∷_, map}
@@ -6,8 +7,8 @@ use lib.IntN.{ℤ, pos}
 use lib.Dec.{ltb, eqb}
 use lib.ListN.{length}
 use lib.Ieee.{Float, fin, lt}
-use Rattle.refusal.specs.Answer.{Answer, given, turnedDown, refuseIf, refuseAt, lowest}
-use Rattle.tap.specs.Rounding.{Coefficient, finite, outside, coefficientOf, absOf, wholeOf, leftOf}
+use Rattle.refusal.specs.Answer.{Answer, given, turnedDown, refuseIf, refuseAt, lowest, filled}
+use Rattle.tap.specs.Rounding.{TapResult, finite, outside, resultOf, absOf, wholeOf, leftOf}
 use Rattle.tap_set.specs.declared.Report.{Report}
 use Rattle.tap_set.specs.declared.RoundedTaps.{RoundedTaps}
 use Rattle.tap_set.specs.declared.RoundedTaps.the-variants.{Given, Refused}
@@ -18,15 +19,15 @@ unfoldable pub largerOf : Float → Float → Float
 largerOf x y = cond (lt (absOf x) (absOf y)) y x
 
 -- the report with one tap more
-unfoldable pub reported : Report → Coefficient → Report
+unfoldable pub reported : Report → TapResult → Report
 unfolding largerOf
 reported r c = record { divisor = r .divisor; leftover = largerOf (r .leftover) (leftOf c) }
 
 -- the report handed on from number to number
 unfoldable pub reportFrom : ℕ → Report → List Float → Report
-unfolding reported coefficientOf
+unfolding reported resultOf
 reportFrom F r [] = r
-reportFrom F r (x ∷ xs) = reportFrom F (reported r (coefficientOf F x)) xs
+reportFrom F r (x ∷ xs) = reportFrom F (reported r (resultOf F x)) xs
 
 -- "the divisor and the largest leftover by magnitude", "the leftover +0 where all taps are exact"
 abbrev pub reportOf : ℕ → Float → List Float → Report
@@ -34,7 +35,7 @@ reportOf F d xs = reportFrom F (record { divisor = d; leftover = fin false 0 (po
 
 -- N of each number
 abbrev pub coefficientsOf : ℕ → List Float → List ℤ
-coefficientsOf F xs = map (λ (x : Float). wholeOf (coefficientOf F x)) xs
+coefficientsOf F xs = map (λ (x : Float). wholeOf (resultOf F x)) xs
 
 -- the check 6, over all numbers, and the report
 unfoldable pub bounded : ℕ → Float → List Float → Answer Report
@@ -57,3 +58,8 @@ roundedTaps F normalised taps room =
 abbrev pub answerOf : RoundedTaps → Answer Report
 answerOf (Given report) = given report
 answerOf (Refused r) = turnedDown r
+
+-- rounding the taps with F fraction bits answers a and leaves table′ in the lent table: the contract of `round_taps`, and what every claim about it speaks of
+pub record TapsRounded (F : ℕ) (normalised : Bool) (taps : List Float) (table : List ℤ) (a : Answer Report) (table′ : List ℤ) : Type 0 where
+  pub answer : a ≡ roundedTaps F normalised taps (length table)
+  pub written : table′ ≡ filled (roundedTaps F normalised taps (length table)) (coefficientsOf F (used normalised taps)) table

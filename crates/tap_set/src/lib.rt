@@ -7,8 +7,8 @@ ghost use lib.Ieee.{Float};
 ghost use Rattle.refusal.specs.Answer.{refused, refuseAt, lowest, filled};
 ghost use Rattle.tap.specs.Rounding as Tap;
 ghost use Rattle.normalise.specs.Normalised.{used};
-ghost use Rattle.tap_set.specs.Set.{largerOf, coefficientsOf, roundedTaps, answerOf};
-ghost use Rattle.tap_set.specs.Steps.{isRefused, wholeIn, leftIn, withLeftover, Front, acceptedOf, tried, finiteRule, checked, settled};
+ghost use Rattle.tap_set.specs.Set.{largerOf, coefficientsOf, answerOf, TapsRounded};
+ghost use Rattle.tap_set.specs.Inner.{isRefused, wholeIn, leftIn, withLeftover, Front, acceptedOf, tried, finiteRule, checked, settled};
 use refusal::Refusal;
 use tap::RoundedTap;
 
@@ -130,7 +130,8 @@ fn settle(
 ) -> RoundedTaps
     requires { ⌜ (f ≤ 31) × (length (now xs) ≤ 256) × (length (now xs) ≤ length (now coefficients)) ⌝ }
     ensures { λ r. ⌜ answerOf r ≡ checked normalised f divisor (now (xs .entry)) ⌝ }
-    ensures { λ r. ⌜ now (coefficients .exit) ≡ filled (checked normalised f divisor (now (xs .entry))) (coefficientsOf f (now (xs .entry))) (now (coefficients .entry)) ⌝ }
+    ensures { λ r. ⌜ now (coefficients .exit)
+        ≡ filled (checked normalised f divisor (now (xs .entry))) (coefficientsOf f (now (xs .entry))) (now (coefficients .entry)) ⌝ }
 {
     let mut buffer = [0i32; 256];
     let answer = round_all(xs, f, divisor, &mut buffer);
@@ -166,7 +167,8 @@ fn no_sum(taps: &[f64]) -> RoundedTaps
 fn round_quotients(taps: &[f64], f: u32, coefficients: &mut [i32]) -> RoundedTaps
     requires { ⌜ (f ≤ 31) × (length (now taps) ≤ 256) × (length (now taps) ≤ length (now coefficients)) ⌝ }
     ensures { λ r. ⌜ answerOf r ≡ settled f true (now (taps .entry)) ⌝ }
-    ensures { λ r. ⌜ now (coefficients .exit) ≡ filled (settled f true (now (taps .entry))) (coefficientsOf f (used true (now (taps .entry)))) (now (coefficients .entry)) ⌝ }
+    ensures { λ r. ⌜ now (coefficients .exit)
+        ≡ filled (settled f true (now (taps .entry))) (coefficientsOf f (used true (now (taps .entry)))) (now (coefficients .entry)) ⌝ }
 {
     let sum = normalise::total(taps);
     if !normalise::is_usable(sum) {
@@ -186,8 +188,7 @@ pub fn round_taps(
     normalised: bool,
     coefficients: &mut [i32],
 ) -> RoundedTaps
-    ensures answer { λ r. ⌜ answerOf r ≡ roundedTaps «fraction_bits» normalised (now (taps .entry)) (length (now (coefficients .entry))) ⌝ }
-    ensures written { λ r. ⌜ now (coefficients .exit) ≡ filled (roundedTaps «fraction_bits» normalised (now (taps .entry)) (length (now (coefficients .entry)))) (coefficientsOf «fraction_bits» (used normalised (now (taps .entry)))) (now (coefficients .entry)) ⌝ }
+    ensures { λ r. ⌜ TapsRounded «fraction_bits» normalised (now (taps .entry)) (now (coefficients .entry)) (answerOf r) (now (coefficients .exit)) ⌝ }
 {
     let n = taps.len();
     if n == 0 {

@@ -1,8 +1,8 @@
 -- `fir_taps::fir_round_tap` meets its contract. Assumes nothing.
 use borrow.Author.Needs.{needs}
-use mathlib.Core.Path.{ap, _∙_}
-use Rattle.tap.specs.Rounding.{roundedTap}
-use Rattle.fir_words.specs.Words.{tapWord}
+use mathlib.Core.Path.{subst}
+use lib.Ieee.{Float}
+use Rattle.tap.specs.Rounding.{answerOf, TapRounded}
 use Rattle.fir_taps.proofs.fir_round_tap.Statement.{statement}
 use Rattle.fir_taps.proofs.fir_round_tap.Tie as tie
 
@@ -19,7 +19,11 @@ returns : tie.Need-returns
 returns c =
     let r = c .before in
     let b = r .before in
-    c .tap-word .ensures ∙ ap tapWord (r .round-tap .ensures ∙ ap (roundedTap (b .before .args .fraction-bits)) (b .of-bits .ensures))
+    record {
+      answer = answerOf (r .round-tap .result);
+      word = c .tap-word .ensures;
+      rounded = subst (λ (x : Float). TapRounded (b .before .args .fraction-bits) x (answerOf (r .round-tap .result))) (b .of-bits .ensures) (r .round-tap .ensures);
+    }
 
 pub fir-round-tap-spec : {M : Type 1} → statement M
 fir-round-tap-spec =

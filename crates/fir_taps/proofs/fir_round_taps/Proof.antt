@@ -1,19 +1,37 @@
 -- `fir_taps::fir_round_taps` meets its contract. Assumes nothing.
 use borrow.Author.Needs.{needs}
-use mathlib.Core.Path.{sym, ap, _∙_}
-use lib.Ieee.{Float}
-use Rattle.refusal.specs.Answer.{Answer, stored}
+use mathlib.Core.Path.{refl, sym, ap, subst}
+use mathlib.Core.Bool.{Bool, not}
+use lib.Dec.{T}
+use lib.Ieee.{Float, isNan}
+use Rattle.refusal.specs.Answer.{Answer, given, turnedDown}
 use Rattle.tap_set.specs.declared.Report.{Report}
-use Rattle.tap_set.specs.Set.{answerOf}
-use Rattle.fir_words.specs.Words.{refusalWord}
+use Rattle.tap_set.specs.Set.{answerOf, TapsRounded}
+use Rattle.tap_set.proofs.Claims.{set-claims}
+use Rattle.fir_words.specs.Words.{isSet}
 use Rattle.fir_taps.proofs.fir_round_taps.Statement.{statement}
 use Rattle.fir_taps.proofs.fir_round_taps.Tie as tie
 
-divisorOf : Float → Answer Report → Float
-divisorOf old r = stored r (λ (q : Report). q .divisor) old
+-- what `round_taps` leaves, of an answer that it gave
+abbrev Left : tie.After-round-taps → Answer Report → Type 0
+Left k a =
+    let s = k .before .before .before .args in
+    TapsRounded (s .fraction-bits) (isSet (s .normalised)) (s .taps .now) (s .coefficients .now) a (k .round-taps .last .1 .1 .1 .0)
 
-leftoverOf : Float → Answer Report → Float
-leftoverOf old r = stored r (λ (q : Report). q .leftover) old
+-- it gave a report, whose two numbers are no not-a-numbers
+abbrev report : tie.After-answer2 → Report
+report d = d .answer2 .given .0 .0
+
+told : (d : tie.After-answer2) → Left (d .before .before .before) (given (report d))
+told d = let k = d .before .before .before in subst (Left k) (ap answerOf (d .answer2 .given .1)) (k .round-taps .ensures)
+
+abbrev Number : Float → Type 0
+Number x = T (not (isNan x))
+
+numbers : (d : tie.After-answer2) → Number (report d .divisor) × Number (report d .leftover)
+numbers d =
+    let w = set-claims .never-nan _ _ _ _ (report d) _ (told d) in
+    (subst (λ (b : Bool). T (not b)) (sym (w .0)) tt, subst (λ (b : Bool). T (not b)) (sym (w .1)) tt)
 
 round-taps-requires : tie.Need-round-taps-requires
 round-taps-requires c κs = search needs
@@ -27,27 +45,34 @@ refusal-word-requires c κs = search needs
 enum-known-answer-2 : tie.Need-enum-known-answer-2
 enum-known-answer-2 c = search needs
 
+float-to-bits-divisor : tie.Need-float-to-bits-divisor
+float-to-bits-divisor c = let w = numbers (c .before .before) in search needs
+
+float-to-bits-leftover : tie.Need-float-to-bits-leftover
+float-to-bits-leftover c = let w = numbers (c .before .before .before) in search needs
+
 same-length : tie.Need-same-length
 same-length c = search needs
 
 returns : tie.Need-returns
-unfolding divisorOf leftoverOf
 returns c =
-    let k = c .before .before .before .before .before in
-    let a = k .before .before .before .args in
-    let e = ap answerOf (sym (c .before .before .answer .given .1)) ∙ k .round-taps .ensures .0 in
-    (c .refusal-word .ensures ∙ ap refusalWord e, (k .round-taps .ensures .1, (ap (divisorOf (a .divisor .now)) e, ap (leftoverOf (a .leftover .now)) e)))
+    let d = c .before .before in
+    let k = d .before .before .before in
+    record {
+      answer = turnedDown (d .answer .given .0 .0);
+      word = c .refusal-word .ensures;
+      rounded = subst (Left k) (ap answerOf (d .answer .given .1)) (k .round-taps .ensures);
+      divisor-bits = refl;
+      leftover-bits = refl;
+    }
 
 same-length-2 : tie.Need-same-length-2
 same-length-2 c = search needs
 
 returns-2 : tie.Need-returns-2
-unfolding divisorOf leftoverOf
 returns-2 c =
-    let k = c .before .before .before .before in
-    let a = k .before .before .before .args in
-    let e = ap answerOf (sym (c .before .answer2 .given .1)) ∙ k .round-taps .ensures .0 in
-    (ap refusalWord e, (k .round-taps .ensures .1, (ap (divisorOf (a .divisor .now)) e, ap (leftoverOf (a .leftover .now)) e)))
+    let d = c .before .before .before in
+    record { answer = given (report d); word = refl; rounded = told d; divisor-bits = refl; leftover-bits = refl }
 
 pub fir-round-taps-spec : {M : Type 1} → statement M
 fir-round-taps-spec =
@@ -57,6 +82,8 @@ fir-round-taps-spec =
     enum-known-answer
     refusal-word-requires
     enum-known-answer-2
+    float-to-bits-divisor
+    float-to-bits-leftover
     same-length
     returns
     same-length-2

@@ -8,7 +8,7 @@ use lib.ListN.{length-replicate, length, take}
 use lib.IntN.{ℤ, pos}
 use lib.Ieee.{Float}
 use Rattle.refusal.proofs.Tables.{length-map}
-use Rattle.tap.specs.Rounding.{coefficientOf, wholeOf}
+use Rattle.tap.specs.Rounding.{resultOf, wholeOf}
 use Rattle.sheet_input.specs.Taps.{tapAt, tapsOf}
 use Rattle.sheet_kinds.specs.Text.{networkText}
 use Rattle.sheet_fields.specs.Inner.{Put}
@@ -31,7 +31,7 @@ held : (c : tie.After-round-taps) → let input = start c .args .input .now in t
 held c = taps-held (tapAt (start c .args .input .now)) _ _ (length (start c .args .input .now) / 8) (c .before .before .before .before .read-taps .ensures)
 
 rounded : (c : tie.After-round-taps) → answerOf (c .round-taps .result) ≡ roundedTaps (start c .args .fraction-bits) false (tapsOf (start c .args .input .now)) 256
-rounded c = answer-held (start c .args .fraction-bits) _ _ (tapsOf (start c .args .input .now)) _ (c .round-taps .ensures .0) (held c) (length-replicate {A = ℤ} 256 (pos 0))
+rounded c = answer-held (start c .args .fraction-bits) _ _ (tapsOf (start c .args .input .now)) _ (c .round-taps .ensures .answer) (held c) (length-replicate {A = ℤ} 256 (pos 0))
 
 -- where they are accepted
 accepted : (c : tie.After-enum-told) → let s = start (c .before .before .before) in roundedTaps (s .args .fraction-bits) false (tapsOf (s .args .input .now)) 256 ≡ given (c .enum-told .given .0 .0)
@@ -42,7 +42,7 @@ coefficients c =
     let d = c .before .before .before in
     let s = start d in
     let input = s .args .input .now in
-    coefficients-held (s .args .fraction-bits) (length input / 8) _ (tapsOf input) _ _ _ _ (d .round-taps .ensures .1) (sym (d .round-taps .ensures .0) ∙ ap answerOf (c .enum-told .given .1)) (held d) (length-upTo (length input / 8) (tapAt input))
+    coefficients-held (s .args .fraction-bits) (length input / 8) _ (tapsOf input) _ _ _ _ (d .round-taps .ensures .written) (sym (d .round-taps .ensures .answer) ∙ ap answerOf (c .enum-told .given .1)) (held d) (length-upTo (length input / 8) (tapAt input))
 
 slice-aggregate-read-taps : tie.Need-slice-aggregate-read-taps
 slice-aggregate-read-taps c = search needs
@@ -72,7 +72,7 @@ array-share-prefix-coefficients c = search needs
 slice-aggregate-coefficient-sheet : tie.Need-slice-aggregate-coefficient-sheet
 slice-aggregate-coefficient-sheet c =
     let input = c .before .before .before .before .before .before .before .before .before .before .before .before .before .args .input .now in
-    sym (ap length (coefficients (c .before .before)) ∙ length-map (λ (x : Float). wholeOf (coefficientOf (c .before .before .before .before .before .before .before .before .before .before .before .before .before .args .fraction-bits) x)) (tapsOf input) ∙ length-upTo (length input / 8) (tapAt input))
+    sym (ap length (coefficients (c .before .before)) ∙ length-map (λ (x : Float). wholeOf (resultOf (c .before .before .before .before .before .before .before .before .before .before .before .before .before .args .fraction-bits) x)) (tapsOf input) ∙ length-upTo (length input / 8) (tapAt input))
 
 coefficient-sheet-requires : tie.Need-coefficient-sheet-requires
 coefficient-sheet-requires c κs =

@@ -2,7 +2,7 @@
 use borrow.Author.Needs.{needs}
 use mathlib.Core.Path.{_≡_, refl, sym, ap, _∙_, subst}
 use mathlib.Core.Bool.{Bool, false}
-use Prim.Native.Nat.{ℕ, _<_}
+use Prim.Native.Nat.{ℕ, _≤_}
 use native.Mathlib.Nat.{lt-of-le-of-lt}
 use lib.Dec.{T, lit<}
 use lib.Signed.{nonNeg}
@@ -12,7 +12,7 @@ use mir.ValLaws.{toZ-ofZ}
 use lib.Ieee.{Float, fin, binary64, add, eq, ofInt, ofBits, inSigned, toSigned}
 use lib.IntN.{ℤ, pos, negsuc, natAbs}
 use Rattle.tap.specs.Rounding.{halfOf}
-use Rattle.tap.specs.Steps.{evenOf}
+use Rattle.tap.specs.Inner.{evenOf}
 use Rattle.tap.proofs.Even.{by-half, counted}
 use Rattle.tap.proofs.nearest.Statement.{statement}
 use Rattle.tap.proofs.nearest.Tie as tie
@@ -59,14 +59,14 @@ half-requires : tie.Need-half-requires
 half-requires c κs =
     let e = c .before .before in
     let s = e .before in
-    subst (λ (n : ℕ). n < 4294967296) (sym (even e)) (by-half (s .args .x) (s .pre .0) (s .pre .1) .1 (tested e _ (c .if1 .taken)) .0)
+    subst (λ (n : ℕ). n ≤ 4294967296) (sym (even e)) (by-half (s .args .x) (s .pre .0) (s .pre .1) .0)
 
 returns : tie.Need-returns
 returns c =
     let t = c .before in
     let e = t .before .before in
     let s = e .before in
-    c .half .ensures ∙ ap halfOf (even e) ∙ by-half (s .args .x) (s .pre .0) (s .pre .1) .1 (tested e _ (t .if1 .taken)) .1
+    c .half .ensures ∙ ap halfOf (even e) ∙ by-half (s .args .x) (s .pre .0) (s .pre .1) .1 (tested e _ (t .if1 .taken))
 
 returns-2 : tie.Need-returns-2
 returns-2 c =

@@ -9,7 +9,7 @@ use mir.Val.{toZ, ofZ}
 use mir.ValLaws.{toZ-ofZ}
 use Rattle.refusal.specs.Answer.{given}
 use Rattle.tap.specs.Rounding.{exact, rounded}
-use Rattle.tap.specs.Steps.{parted}
+use Rattle.tap.specs.Inner.{parted}
 use Rattle.tap.proofs.Steps.{parted-yes, parted-no}
 use Rattle.tap.proofs.part.Statement.{statement}
 use Rattle.tap.proofs.part.Tie as tie

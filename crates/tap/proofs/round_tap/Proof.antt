@@ -11,11 +11,11 @@ use mir.Syntax.{w32, w64}
 use mir.Val.{SFits, toZ, ofZ}
 use mir.ValLaws.{toZ-ofZ}
 use Rattle.refusal.specs.Answer.{given, refused}
-use Rattle.tap.specs.Rounding.{most, signed, roundedTap}
-use Rattle.tap.specs.Steps.{nearestOf, magnitudeOf, parted}
+use Rattle.tap.specs.Rounding.{signed, roundedTap}
+use Rattle.tap.specs.Inner.{nearestOf, magnitudeOf, parted}
 use Rattle.tap.proofs.Value.{nought, two-to, zero-is}
 use Rattle.tap.proofs.Sign.{magnitude-low}
-use Rattle.tap.proofs.Answer.{refused-bits, refused-tap, refused-size, size-small, above-most, below-least, between, in-bounds, refused-most, accepted}
+use Rattle.tap.proofs.Answer.{most, refused-bits, refused-tap, refused-size, size-small, above-most, below-least, between, in-bounds, refused-most, accepted}
 use Rattle.tap.proofs.round_tap.Statement.{statement}
 use Rattle.tap.proofs.round_tap.Tie as tie
 
@@ -51,7 +51,7 @@ whole : (c : tie.After-with-sign) → toZ w64 (ofZ w64 (c .with-sign .result)) �
 whole c = toZ-ofZ w64 (c .with-sign .result) (record { sfits = c .with-sign .ok }) ∙ c .with-sign .ensures
 
 returns : tie.Need-returns
-returns c = refused-bits (c .before .args .fraction-bits) (c .before .args .tap) (c .if1 .taken)
+returns c = record { answer = refused-bits (c .before .args .fraction-bits) (c .before .args .tap) (c .if1 .taken) }
 
 scaled-requires : tie.Need-scaled-requires
 scaled-requires c κs = search needs
@@ -82,12 +82,12 @@ out c l =
 returns-2 : tie.Need-returns-2
 returns-2 c =
     let w = c .before in
-    out w (above-most (negative (w .before .before .before .before .before .before)) (w .before .nearest .result) (ap (ltZ (pos 2147483647)) (sym (whole w)) ∙ c .if3 .taken))
+    record { answer = out w (above-most (negative (w .before .before .before .before .before .before)) (w .before .nearest .result) (ap (ltZ (pos 2147483647)) (sym (whole w)) ∙ c .if3 .taken)) }
 
 returns-3 : tie.Need-returns-3
 returns-3 c =
     let w = c .before .before in
-    out w (below-least (negative (w .before .before .before .before .before .before)) (w .before .nearest .result) (ap (λ (z : ℤ). ltZ z (negsuc 2147483647)) (sym (whole w)) ∙ c .if4 .taken))
+    record { answer = out w (below-least (negative (w .before .before .before .before .before .before)) (w .before .nearest .result) (ap (λ (z : ℤ). ltZ z (negsuc 2147483647)) (sym (whole w)) ∙ c .if4 .taken)) }
 
 -- N is within them
 within : (c : tie.Else4) → let w = c .before .before in w .before .nearest .result ≤ most (negative (w .before .before .before .before .before .before))
@@ -115,11 +115,13 @@ returns-4 c =
     let s = e .before in
     let b = negative s in
     let r = n .nearest .result in
-    c .part .ensures
-    ∙ ap (λ (z : ℤ). given (parted (k .scaled .result) (toZ w32 (ofZ w32 z)))) (whole w)
-    ∙ ap (λ (z : ℤ). given (parted (k .scaled .result) z)) (toZ-ofZ w32 (signed b r) (in-bounds b r (within g)))
-    ∙ ap (λ (x : Float). given (parted x (signed b r))) (k .scaled .ensures)
-    ∙ accepted (s .args .fraction-bits) b r (e .if1 .left) (s .args .tap) (held s) (tested (t .before) true (t .if2 .taken)) (sign s) (counted n) (within g)
+    record {
+      answer = c .part .ensures
+          ∙ ap (λ (z : ℤ). given (parted (k .scaled .result) (toZ w32 (ofZ w32 z)))) (whole w)
+          ∙ ap (λ (z : ℤ). given (parted (k .scaled .result) z)) (toZ-ofZ w32 (signed b r) (in-bounds b r (within g)))
+          ∙ ap (λ (x : Float). given (parted x (signed b r))) (k .scaled .ensures)
+          ∙ accepted (s .args .fraction-bits) b r (e .if1 .left) (s .args .tap) (held s) (tested (t .before) true (t .if2 .taken)) (sign s) (counted n) (within g);
+    }
 
 is-finite-requires : tie.Need-is-finite-requires
 is-finite-requires c κs = search needs
@@ -130,14 +132,14 @@ returns-5 c =
     let u = f .before in
     let e = u .before .before .before in
     let s = e .before in
-    refused-size (s .args .fraction-bits) (s .args .tap) (held s) (e .if1 .left) (sym (f .is-finite .ensures) ∙ c .if5 .taken) (tested (u .before) false (u .if2 .left))
+    record { answer = refused-size (s .args .fraction-bits) (s .args .tap) (held s) (e .if1 .left) (sym (f .is-finite .ensures) ∙ c .if5 .taken) (tested (u .before) false (u .if2 .left)) }
 
 returns-6 : tie.Need-returns-6
 returns-6 c =
     let f = c .before in
     let e = f .before .before .before .before in
     let s = e .before in
-    refused-tap (s .args .fraction-bits) (s .args .tap) (e .if1 .left) (sym (f .is-finite .ensures) ∙ c .if5 .left)
+    record { answer = refused-tap (s .args .fraction-bits) (s .args .tap) (e .if1 .left) (sym (f .is-finite .ensures) ∙ c .if5 .left) }
 
 pub round-tap-spec : {M : Type 1} → statement M
 round-tap-spec =

@@ -4,7 +4,7 @@ use mathlib.Core.Path.{sym, ap}
 use Prim.Native.Nat.{ℕ}
 use Rattle.tap_set.specs.declared.RoundedTaps.{RoundedTaps}
 use Rattle.tap_set.specs.Set.{answerOf}
-use Rattle.tap_set.specs.Steps.{acceptedOf}
+use Rattle.tap_set.specs.Inner.{acceptedOf}
 use Rattle.tap_set.proofs.accepted.Statement.{statement}
 use Rattle.tap_set.proofs.accepted.Tie as tie
 

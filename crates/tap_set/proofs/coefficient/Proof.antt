@@ -6,7 +6,7 @@ use mir.Syntax.{w32}
 use mir.ValLaws.{toZ-ofZ}
 use Rattle.tap.specs.declared.RoundedTap.{RoundedTap}
 use Rattle.tap.specs.Rounding.{answerOf}
-use Rattle.tap_set.specs.Steps.{wholeIn}
+use Rattle.tap_set.specs.Inner.{wholeIn}
 use Rattle.tap_set.proofs.coefficient.Statement.{statement}
 use Rattle.tap_set.proofs.coefficient.Tie as tie
 

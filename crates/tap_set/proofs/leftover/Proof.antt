@@ -5,7 +5,7 @@ use lib.Ieee.{Float}
 use Rattle.tap.specs.declared.RoundedTap.{RoundedTap}
 use Rattle.tap.specs.Rounding.{answerOf}
 use Rattle.tap.proofs.Value.{zero-is}
-use Rattle.tap_set.specs.Steps.{leftIn}
+use Rattle.tap_set.specs.Inner.{leftIn}
 use Rattle.tap_set.proofs.leftover.Statement.{statement}
 use Rattle.tap_set.proofs.leftover.Tie as tie
 

@@ -2,7 +2,7 @@
 use mathlib.Core.Path.{sym, ap}
 use mathlib.Core.Bool.{Bool}
 use Rattle.refusal.specs.Answer.{refused}
-use Rattle.tap_set.specs.Steps.{finiteRule}
+use Rattle.tap_set.specs.Inner.{finiteRule}
 use Rattle.tap_set.proofs.not_finite.Statement.{statement}
 use Rattle.tap_set.proofs.not_finite.Tie as tie
 

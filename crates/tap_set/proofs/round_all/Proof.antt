@@ -15,11 +15,11 @@ use mir.ValLaws.{toZ-ofZ}
 use Rattle.refusal.specs.Answer.{lowestFrom, lowest}
 use Rattle.refusal.proofs.Checks.{lowest-later}
 use Rattle.refusal.proofs.Tables.{front, front-next, front-end, length-map}
-use Rattle.tap.specs.Rounding.{coefficientOf, leftOf, answerOf}
+use Rattle.tap.specs.Rounding.{resultOf, leftOf, answerOf}
 use Rattle.tap.proofs.Value.{zero-is}
 use Rattle.tap_set.specs.declared.Report.{Report}
 use Rattle.tap_set.specs.Set.{reportFrom, reportOf}
-use Rattle.tap_set.specs.Steps.{isRefused, turned, withLeftover}
+use Rattle.tap_set.specs.Inner.{isRefused, turned, withLeftover}
 use Rattle.tap_set.proofs.Rounds.{whole, whole-is, left-is, report-next, tried-stop, tried-end}
 use Rattle.tap_set.proofs.round_all.Statement.{statement}
 use Rattle.tap_set.proofs.round_all.Tie as tie
@@ -70,7 +70,7 @@ returns c =
     let l = t .before in
     let a = l .before .before .args in
     let r = c .before .before in
-    let o : turned (a .f) (getD (a .xs .now) (l .loop .i) nan) ≡ true = ap isRefused (sym (r .round-tap .ensures)) ∙ sym (c .before .is-refused .ensures) ∙ c .if1 .taken in
+    let o : turned (a .f) (getD (a .xs .now) (l .loop .i) nan) ≡ true = ap isRefused (sym (r .round-tap .ensures .answer)) ∙ sym (c .before .is-refused .ensures) ∙ c .if1 .taken in
     (tried-stop (a .f) (a .divisor) (a .xs .now) (l .loop .i) (l .loop .inv .1) (t .loop-test .taken) o, tt)
 
 coefficient-requires : tie.Need-coefficient-requires Inv-loop μ-loop
@@ -106,10 +106,10 @@ loop-again c =
     let no : isRefused p ≡ false = sym (u .before .is-refused .ensures) ∙ u .if1 .left in
     let w : toZ w32 (ofZ w32 (k .coefficient .result)) ≡ whole (a .f) x = toZ-ofZ w32 (k .coefficient .result) (record { sfits = k .coefficient .ok })
     ∙ k .coefficient .ensures
-    ∙ whole-is (a .f) x p (r .round-tap .ensures) no in
-    let q : c .with-tap .result ≡ withLeftover (l .loop .report) (leftOf (coefficientOf (a .f) x)) = c .with-tap .ensures ∙ ap (withLeftover (l .loop .report)) (left-is (a .f) x p (r .round-tap .ensures) no) in (
+    ∙ whole-is (a .f) x p (r .round-tap .ensures .answer) no in
+    let q : c .with-tap .result ≡ withLeftover (l .loop .report) (leftOf (resultOf (a .f) x)) = c .with-tap .ensures ∙ ap (withLeftover (l .loop .report)) (left-is (a .f) x p (r .round-tap .ensures .answer) no) in (
       search needs,
-      sym (lowest-later nan (turned (a .f)) xs i (t .loop-test .taken) (ap isRefused (sym (r .round-tap .ensures)) ∙ no)) ∙ l .loop .inv .1,
+      sym (lowest-later nan (turned (a .f)) xs i (t .loop-test .taken) (ap isRefused (sym (r .round-tap .ensures .answer)) ∙ no)) ∙ l .loop .inv .1,
       ap (λ (y : Report). reportFrom (a .f) y (drop (i + 1) xs)) q ∙ report-next (a .f) (l .loop .report) xs i (t .loop-test .taken) ∙ l .loop .inv .2,
       ap (λ (z : ℤ). set (l .loop .buffer) i z) w
           ∙ ap (λ (b : List ℤ). set b i (whole (a .f) x)) (l .loop .inv .3)

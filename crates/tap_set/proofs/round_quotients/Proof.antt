@@ -15,7 +15,7 @@ use Rattle.refusal.proofs.Tables.{length-map}
 use Rattle.tap_set.specs.declared.Report.{Report}
 use Rattle.normalise.specs.Normalised.{sumOf, unusable, quotients}
 use Rattle.tap_set.specs.Set.{coefficientsOf}
-use Rattle.tap_set.specs.Steps.{checked, settled}
+use Rattle.tap_set.specs.Inner.{checked, settled}
 use Rattle.tap_set.proofs.Rounds.{notFinite}
 use Rattle.tap_set.proofs.Settled.{without-sum, with-sum}
 use Rattle.tap_set.proofs.round_quotients.Statement.{statement}

@@ -10,7 +10,7 @@ use Rattle.refusal.specs.Answer.{Answer, filled}
 use Rattle.tap_set.specs.declared.Report.{Report}
 use Rattle.normalise.specs.Normalised.{used}
 use Rattle.tap_set.specs.Set.{coefficientsOf, roundedTaps}
-use Rattle.tap_set.specs.Steps.{checked, settled}
+use Rattle.tap_set.specs.Inner.{checked, settled}
 use Rattle.tap_set.proofs.Settled.{plain-settled, no-taps, many-taps, short-table, many-bits, few-bits}
 use Rattle.tap_set.proofs.round_taps.Statement.{statement}
 use Rattle.tap_set.proofs.round_taps.Tie as tie
@@ -27,22 +27,12 @@ one-is : ofBits binary64 0x3ff0_0000_0000_0000 ≡ fin false 1 (pos 0)
 unfolding ofBits
 one-is = refl
 
--- the checks 1 to 4 have passed
-settled-is : (c : tie.Else4) → let s = c .before .before .before .before .before in let a = s .args in settled (a .fraction-bits) (a .normalised) (a .taps .now) ≡ answer s
-settled-is c =
-    let e3 = c .before in
-    let e2 = e3 .before in
-    let e1 = e2 .before in
-    let s = e1 .before .before in
-    let a = s .args in
-    few-bits (a .fraction-bits) (a .normalised) (a .taps .now) (length (a .coefficients .now)) (e1 .if1 .left) (e2 .if2 .left) (e3 .if3 .left) (c .if4 .left)
-
 returns : tie.Need-returns
 returns c =
     let s = c .before .before in
     let a = s .args in
     let e = no-taps (a .fraction-bits) (a .normalised) (a .taps .now) (length (a .coefficients .now)) (c .if1 .taken) in
-    (e, ap (table s) e)
+    record { answer = e; written = ap (table s) e }
 
 returns-2 : tie.Need-returns-2
 returns-2 c =
@@ -50,7 +40,7 @@ returns-2 c =
     let s = e1 .before .before in
     let a = s .args in
     let e = many-taps (a .fraction-bits) (a .normalised) (a .taps .now) (length (a .coefficients .now)) (e1 .if1 .left) (c .if2 .taken) in
-    (e, ap (table s) e)
+    record { answer = e; written = ap (table s) e }
 
 returns-3 : tie.Need-returns-3
 returns-3 c =
@@ -59,7 +49,7 @@ returns-3 c =
     let s = e1 .before .before in
     let a = s .args in
     let e = short-table (a .fraction-bits) (a .normalised) (a .taps .now) (length (a .coefficients .now)) (e1 .if1 .left) (e2 .if2 .left) (c .if3 .taken) in
-    (e, ap (table s) e)
+    record { answer = e; written = ap (table s) e }
 
 returns-4 : tie.Need-returns-4
 returns-4 c =
@@ -69,7 +59,17 @@ returns-4 c =
     let s = e1 .before .before in
     let a = s .args in
     let e = many-bits (a .fraction-bits) (a .normalised) (a .taps .now) (length (a .coefficients .now)) (e1 .if1 .left) (e2 .if2 .left) (e3 .if3 .left) (c .if4 .taken) in
-    (e, ap (table s) e)
+    record { answer = e; written = ap (table s) e }
+
+-- the checks 1 to 4 have passed
+settled-is : (c : tie.Else4) → let s = c .before .before .before .before .before in let a = s .args in settled (a .fraction-bits) (a .normalised) (a .taps .now) ≡ answer s
+settled-is c =
+    let e3 = c .before in
+    let e2 = e3 .before in
+    let e1 = e2 .before in
+    let s = e1 .before .before in
+    let a = s .args in
+    few-bits (a .fraction-bits) (a .normalised) (a .taps .now) (length (a .coefficients .now)) (e1 .if1 .left) (e2 .if2 .left) (e3 .if3 .left) (c .if4 .left)
 
 round-quotients-requires : tie.Need-round-quotients-requires
 round-quotients-requires c κs = search needs
@@ -87,12 +87,13 @@ returns-5 c =
     let e4 = t .before in
     let s = e4 .before .before .before .before .before in
     let a = s .args in
-    let b = ap (λ (n : Bool). settled (a .fraction-bits) n (a .taps .now)) (sym (t .if5 .taken)) ∙ settled-is e4 in (
-      k .round-quotients .ensures .0 ∙ b,
-      k .round-quotients .ensures .1
+    let b = ap (λ (n : Bool). settled (a .fraction-bits) n (a .taps .now)) (sym (t .if5 .taken)) ∙ settled-is e4 in
+    record {
+      answer = k .round-quotients .ensures .0 ∙ b;
+      written = k .round-quotients .ensures .1
           ∙ ap (λ (r : Answer Report). filled r (coefficientsOf (a .fraction-bits) (used true (a .taps .now))) (a .coefficients .now)) b
-          ∙ ap (λ (n : Bool). filled (answer s) (coefficientsOf (a .fraction-bits) (used n (a .taps .now))) (a .coefficients .now)) (sym (t .if5 .taken)),
-    )
+          ∙ ap (λ (n : Bool). filled (answer s) (coefficientsOf (a .fraction-bits) (used n (a .taps .now))) (a .coefficients .now)) (sym (t .if5 .taken));
+    }
 
 same-length-2 : tie.Need-same-length-2
 same-length-2 c = search needs
@@ -107,12 +108,13 @@ returns-6 c =
     let b = ap (λ (d : Float). checked false (a .fraction-bits) d (a .taps .now)) one-is
     ∙ plain-settled (a .fraction-bits) (a .taps .now)
     ∙ ap (λ (n : Bool). settled (a .fraction-bits) n (a .taps .now)) (sym (t .if5 .left))
-    ∙ settled-is e4 in (
-      k .settle .ensures .0 ∙ b,
-      k .settle .ensures .1
+    ∙ settled-is e4 in
+    record {
+      answer = k .settle .ensures .0 ∙ b;
+      written = k .settle .ensures .1
           ∙ ap (λ (r : Answer Report). filled r (coefficientsOf (a .fraction-bits) (used false (a .taps .now))) (a .coefficients .now)) b
-          ∙ ap (λ (n : Bool). filled (answer s) (coefficientsOf (a .fraction-bits) (used n (a .taps .now))) (a .coefficients .now)) (sym (t .if5 .left)),
-    )
+          ∙ ap (λ (n : Bool). filled (answer s) (coefficientsOf (a .fraction-bits) (used n (a .taps .now))) (a .coefficients .now)) (sym (t .if5 .left));
+    }
 
 pub round-taps-spec : {M : Type 1} → statement M
 round-taps-spec =

@@ -14,7 +14,7 @@ use Rattle.refusal.proofs.Tables.{length-map}
 use Rattle.tap_set.specs.declared.Report.{Report}
 use Rattle.tap_set.specs.declared.RoundedTaps.{RoundedTaps}
 use Rattle.tap_set.specs.Set.{answerOf, coefficientsOf}
-use Rattle.tap_set.specs.Steps.{Front, acceptedOf}
+use Rattle.tap_set.specs.Inner.{Front, acceptedOf}
 use Rattle.tap_set.proofs.Rounds.{whole, notFinite, checked-all, checked-stop, checked-tried}
 use Rattle.tap_set.proofs.settle.Statement.{statement}
 use Rattle.tap_set.proofs.settle.Tie as tie

@@ -4,7 +4,7 @@ use mathlib.Core.Path.{ap, _∙_}
 use lib.Ieee.{Float}
 use Rattle.tap_set.specs.declared.Report.{Report}
 use Rattle.tap_set.specs.Set.{largerOf}
-use Rattle.tap_set.specs.Steps.{withLeftover}
+use Rattle.tap_set.specs.Inner.{withLeftover}
 use Rattle.tap_set.proofs.with_tap.Statement.{statement}
 use Rattle.tap_set.proofs.with_tap.Tie as tie
 

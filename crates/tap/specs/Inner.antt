@@ -4,7 +4,7 @@ use mathlib.Core.Bool.{false, cond}
 use lib.IntN.{ℤ, pos}
 use lib.Ieee.{Float, nan, inf, fin, binary64, up, down, eq, lt, neg, sub, ofInt}
 use lib.Ieee.Nearest.{closest}
-use Rattle.tap.specs.Rounding.{Coefficient, exact, rounded, nearestWhole}
+use Rattle.tap.specs.Rounding.{TapResult, exact, rounded, nearestWhole}
 
 -- the whole number nearest to a finite x that is not below zero
 unfoldable pub nearestOf : Float → ℕ
@@ -20,7 +20,7 @@ evenOf (inf s) = 0
 evenOf (fin s m e) = closest (m * up e) (down e)
 
 -- x as the whole number z and the rest
-unfoldable pub parted : Float → ℤ → Coefficient
+unfoldable pub parted : Float → ℤ → TapResult
 unfolding eq sub ofInt
 parted x z = cond (eq x (ofInt binary64 z)) (exact z) (rounded z (sub binary64 x (ofInt binary64 z)))
 

@@ -7,7 +7,7 @@ use lib.ListN.{length, drop}
 use mathlib.Core.Path.{_≡_}
 use Rattle.refusal.specs.Answer.{Answer, given, refused, refuseIf, refuseAt, lowest}
 use lib.Ieee.{Float, fin}
-use Rattle.tap.specs.Rounding.{Coefficient, finite, wholeOf, leftOf, roundedTap}
+use Rattle.tap.specs.Rounding.{TapResult, finite, wholeOf, leftOf, roundedTap}
 use Rattle.tap_set.specs.declared.Report.{Report}
 use Rattle.normalise.specs.Normalised.{sumOf, unusable, infinite, used, divisorOf}
 use Rattle.tap_set.specs.Set.{largerOf, reportOf, bounded}
@@ -18,12 +18,12 @@ isRefused (given a) = false
 isRefused (refused number place) = true
 
 -- the whole number of a rounded tap, and 0 where it is refused
-abbrev pub wholeIn : Answer Coefficient → ℤ
+abbrev pub wholeIn : Answer TapResult → ℤ
 wholeIn (given c) = wholeOf c
 wholeIn (refused number place) = pos 0
 
 -- the leftover of a rounded tap, and +0 where it is refused
-abbrev pub leftIn : Answer Coefficient → Float
+abbrev pub leftIn : Answer TapResult → Float
 leftIn (given c) = leftOf c
 leftIn (refused number place) = fin false 0 (pos 0)
 
