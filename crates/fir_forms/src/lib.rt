@@ -2,15 +2,13 @@
 ghost use mathlib.Core.Path.{_≡_};
 ghost use Prim.Native.Nat.{ℕ};
 ghost use lib.IntN.{ℤ};
-ghost use lib.ListN.{length};
 ghost use Rattle.refusal.specs.Answer.{stored};
 ghost use Rattle.signed_digit.specs.Masks.{plusMask, minusMask};
 ghost use Rattle.signed_digit.specs.CanonicalForm.{canonical};
-ghost use Rattle.signed_digit.specs.Forms.{listing};
 ghost use Rattle.form_masks.specs.Value.{valueOf};
 ghost use Rattle.form_masks.specs.Weight.{weightOf};
 ghost use Rattle.fir_words.specs.Words.{refusalWord, formOf};
-ghost use Rattle.fir_forms.specs.Listing.{AnsweredWord};
+ghost use Rattle.fir_forms.specs.Listing.{FormsListedWord, FormsCountedWord};
 use fir_words::refusal_word;
 use form_listing::Listing;
 use form_masks::Form;
@@ -70,7 +68,7 @@ pub extern "C" fn fir_minimal_forms(
     minus: &mut [u32],
     count: &mut u32,
 ) -> u64
-    ensures { λ r. ⌜ AnsweredWord n (now (plus .entry)) (now (minus .entry)) (now (count .entry)) r (now (plus .exit)) (now (minus .exit)) (now (count .exit)) ⌝ }
+    ensures { λ r. ⌜ FormsListedWord n (now (plus .entry)) (now (minus .entry)) (now (count .entry)) r (now (plus .exit)) (now (minus .exit)) (now (count .exit)) ⌝ }
 {
     let answer = form_listing::minimal_forms(n, plus, minus);
     match answer {
@@ -85,8 +83,7 @@ pub extern "C" fn fir_minimal_forms(
 // The number of minimal forms of a coefficient.
 #[no_mangle]
 pub extern "C" fn fir_form_count(n: i32, count: &mut u32) -> u64
-    ensures answer { λ r. ⌜ r ≡ 0 ⌝ }
-    ensures count { λ r. ⌜ now (count .exit) ≡ length (listing 32 n) ⌝ }
+    ensures { λ r. ⌜ FormsCountedWord n r (now (count .exit)) ⌝ }
 {
     *count = form_listing::form_count(n);
     0

@@ -1,12 +1,11 @@
 -- A form by its two masks. Document 01: "A form is stored as two 32-bit masks: places holding 1 and places holding -1. No place is in
 -- both." Definitions only.
-use Prim.Native.Nat.{ℕ, zero, suc, _/_, _%_, _^_}
-use mathlib.Core.Bool.{Bool, _&&_}
+use Prim.Native.Nat.{ℕ, zero, suc}
+use mathlib.Core.Bool.{_&&_}
 use mathlib.Core.List.{List, [], _∷_}
-use lib.Dec.{eqb}
 use Rattle.refusal.specs.Answer.{Place, lowest}
 use Rattle.signed_digit.specs.String.{DigitString}
-use Rattle.signed_digit.specs.Masks.{plusMask, minusMask, fromMasks}
+use Rattle.signed_digit.specs.Masks.{plusMask, minusMask, holds, fromMasks}
 use Rattle.form_masks.specs.declared.Form.{Form}
 
 -- the form of a string
@@ -16,10 +15,6 @@ formOf s = record { plus = plusMask s; minus = minusMask s }
 -- "A form is a string of 32 places": the one with these masks
 unfoldable pub stringOf : Form → DigitString
 stringOf form = fromMasks 32 (form .plus) (form .minus)
-
--- whether a mask holds a place
-abbrev pub holds : ℕ → ℕ → Bool
-holds mask place = eqb (mask / 2 ^ place % 2) 1
 
 -- the p places from k on
 abbrev pub placesFrom : ℕ → ℕ → List ℕ

@@ -13,7 +13,7 @@ use lib.Dec.{eqb}
 use lib.ListN.{length}
 use lib.Pow.{pow-mono, pow-add, shl-shr}
 use Rattle.signed_digit.specs.Digit.{Digit, one, nought, minus-one, nonzero}
-use Rattle.signed_digit.specs.CanonicalForm.{lowest, canonicalNat}
+use Rattle.signed_digit.specs.CanonicalForm.{lowestDigit, canonicalNat}
 use Rattle.signed_digit.proofs.CanonicalForm.{canonicalNat-places}
 use Rattle.form_links.proofs.LinkMasks.{takes-small, taken-small}
 use Rattle.form_links.proofs.Spots.{Spot, Walked, Reads, past, coming, next-digit, walked-room}
@@ -192,7 +192,7 @@ module _ (m : ℕ) (G : Digit → Spot → Type 0) (on : (d : Digit) (s : Spot) 
         (omega (arith, A .stands .forms), omega (arith, A .stands .moved (A .is-taken)), omega (arith, A .stands .bit))
 
     abbrev pub digit : Digit
-    digit = lowest (A .spot .rest % 4)
+    digit = lowestDigit (A .spot .rest % 4)
 
     pub digit-read : Reads digit (A .spot .rest)
     digit-read = next-digit (A .spot .rest)

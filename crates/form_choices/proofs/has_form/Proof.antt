@@ -55,7 +55,7 @@ returns-3 c =
     let r = w .reduction .given .0 .0 in
     let s = w .before .before .before .before in
     counted-choice (partsOf (s .args .n)) (signIf (r .negative)) (r .«odd_part») (r .shift) (s .args .choice) (c .form-count .result) (split w)
-    (c .form-count .ensures ∙ ap (λ (z : ℤ). length (listing 32 z)) (toZ-ofZ w32 (pos (r .«odd_part»)) (record { sfits = small w })))
+    (c .form-count .ensures .number ∙ ap (λ (z : ℤ). length (listing 32 z)) (toZ-ofZ w32 (pos (r .«odd_part»)) (record { sfits = small w })))
 
 pub has-form-spec : {M : Type 1} → statement M
 has-form-spec =

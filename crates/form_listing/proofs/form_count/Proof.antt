@@ -84,7 +84,7 @@ cast-result c =
     record { fits = omega (arith, e, at-most-1597 (s .args .n) (coefficient-magnitude (s .args .n) (i32-coefficient (s .args .n) (s .fits .n)))) }
 
 returns : tie.Need-returns Inv-loop μ-loop
-returns c = counted c
+returns c = record { number = counted c }
 
 pub form-count-spec : {M : Type 1} → statement M
 form-count-spec =

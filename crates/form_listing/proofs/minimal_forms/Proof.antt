@@ -10,8 +10,9 @@ use Rattle.signed_digit.specs.Masks.{plusMask, minusMask}
 use Rattle.signed_digit.specs.Forms.{listing}
 use Rattle.word.proofs.Bounds.{i32-coefficient, coefficient-magnitude}
 use Rattle.signed_digit.proofs.Coefficients.{at-most-1597}
+use Rattle.signed_digit.proofs.FormCount.{plus-short, minus-short}
 use Rattle.form_listing.proofs.Machine.{read-once}
-use Rattle.form_listing.proofs.Entry.{plus-short, minus-short, untouched, answered, left}
+use Rattle.form_listing.proofs.Entry.{untouched, answered, left}
 use borrow.Author.Needs.{needs}
 use Rattle.form_listing.proofs.minimal_forms.Statement.{statement}
 use Rattle.form_listing.proofs.minimal_forms.Tie as tie
