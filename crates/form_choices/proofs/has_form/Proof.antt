@@ -17,7 +17,7 @@ use Rattle.form_choices.proofs.has_form.Tie as tie
 
 -- what `reduce` gave
 reduced : (c : tie.After-reduce) → partsIn (c .reduce .result) ≡ partsOf (c .before .before .args .n)
-reduced c = let s = c .before .before in c .reduce .ensures ∙ ap partsOf (toZ-ofZ w32 (s .args .n) (s .fits .n))
+reduced c = let s = c .before .before in c .reduce .ensures .split ∙ ap partsOf (toZ-ofZ w32 (s .args .n) (s .fits .n))
 
 -- where there is an odd part
 split : (c : tie.After-reduction) → partsIn (Split (c .reduction .given .0 .0)) ≡ partsOf (c .before .before .before .before .args .n)
