@@ -12,7 +12,8 @@ use borrow.Author.Tests.{eq-eqb, ne-eqb}
 use Rattle.refusal.specs.Answer.{nowhere, at-place, lowestFrom}
 use Rattle.refusal.proofs.Checks.{lowest-alike}
 use Rattle.signed_digit.specs.Masks.{holds}
-use Rattle.form_masks.specs.Form.{placesFrom, lowestIn, overlapIn}
+use Rattle.form_masks.specs.Form.{placesFrom, overlapIn}
+use Rattle.form_masks.specs.Inner.{lowestIn}
 
 both-one : (i j : ℕ) → i < 2 → j < 2 → eqb i 1 && eqb j 1 ≡ eqb (min i j) 1
 both-one zero zero h k = refl

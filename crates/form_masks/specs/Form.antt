@@ -1,11 +1,14 @@
 -- A form by its two masks. Document 01: "A form is stored as two 32-bit masks: places holding 1 and places holding -1. No place is in
 -- both." Definitions only.
+use mathlib.Core.Path.{_≡_}
 use Prim.Native.Nat.{ℕ, zero, suc}
 use mathlib.Core.Bool.{_&&_}
 use mathlib.Core.List.{List, [], _∷_}
+use lib.IntN.{ℤ}
 use Rattle.refusal.specs.Answer.{Place, lowest}
 use Rattle.signed_digit.specs.String.{DigitString}
 use Rattle.signed_digit.specs.Masks.{plusMask, minusMask, holds, fromMasks}
+use Rattle.signed_digit.specs.CanonicalForm.{canonical}
 use Rattle.form_masks.specs.declared.Form.{Form}
 
 -- the form of a string
@@ -21,10 +24,6 @@ abbrev pub placesFrom : ℕ → ℕ → List ℕ
 placesFrom k zero = []
 placesFrom k (suc p) = k ∷ placesFrom (suc k) p
 
--- the lowest of p places that a mask holds
-unfoldable pub lowestIn : ℕ → ℕ → Place
-lowestIn p mask = lowest (holds mask) (placesFrom 0 p)
-
 -- the lowest of p places that is in both masks
 unfoldable pub overlapIn : ℕ → ℕ → ℕ → Place
 overlapIn p x y = lowest (λ (place : ℕ). holds x place && holds y place) (placesFrom 0 p)
@@ -32,3 +31,7 @@ overlapIn p x y = lowest (λ (place : ℕ). holds x place && holds y place) (pla
 -- "masks overlap", at the "lowest place"
 abbrev pub overlap : Form → Place
 overlap form = overlapIn 32 (form .plus) (form .minus)
+
+-- the form is the canonical one of n, "the CSD form": the contract of `canonical`, and what every claim about it speaks of
+pub record InCanonicalForm (n : ℤ) (form : Form) : Type 0 where
+  pub masks : form ≡ formOf (canonical 32 n)

@@ -41,7 +41,7 @@ start-requires c κs = search needs
 loop-holds : tie.Need-loop-holds Inv-loop μ-loop
 loop-holds c =
     let s = c .before .before in
-    count-start (given s) (bounded s) (c .before .canonical .result) (c .before .canonical .ensures) (c .start .result) (c .start .ensures)
+    count-start (given s) (bounded s) (c .before .canonical .result) (c .before .canonical .ensures .masks) (c .start .result) (c .start .ensures)
 
 skip-requires : tie.Need-skip-requires Inv-loop μ-loop
 skip-requires c κs =

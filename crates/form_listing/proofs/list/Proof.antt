@@ -44,7 +44,7 @@ minus-start c = set (c .before .before .before .args .minus .now) 0 (c .canonica
 are-ready : (c : tie.After-canonical Inv-loop μ-loop) → Ready (given (c .before .before .before)) (plus-start c) (minus-start c)
 are-ready c =
     let s = c .before .before .before in
-    ready (given s) (bounded s) (c .canonical .result) (c .canonical .ensures) (s .args .plus .now) (s .args .minus .now) (s .pre .0) (s .pre .1)
+    ready (given s) (bounded s) (c .canonical .result) (c .canonical .ensures .masks) (s .args .plus .now) (s .args .minus .now) (s .pre .0) (s .pre .1)
 
 canonical-requires : tie.Need-canonical-requires Inv-loop μ-loop
 canonical-requires c κs = search needs
@@ -61,7 +61,7 @@ start-requires c κs = search needs
 loop-holds : tie.Need-loop-holds Inv-loop μ-loop
 loop-holds c R =
     let k = c .before in
-    list-start (given (k .before .before .before)) (plus-start k) (minus-start k) R (k .canonical .result) (k .canonical .ensures) (c .start .result) (c .start .ensures)
+    list-start (given (k .before .before .before)) (plus-start k) (minus-start k) R (k .canonical .result) (k .canonical .ensures .masks) (c .start .result) (c .start .ensures)
 
 skip-requires : tie.Need-skip-requires Inv-loop μ-loop
 skip-requires c κs =
