@@ -16,7 +16,7 @@ use Rattle.signed_digit.proofs.Same.{same-equal}
 use Rattle.signed_digit.proofs.Value.{values-eq}
 use Rattle.signed_digit.proofs.Canonical.{canonical-pad, canonical-unique}
 use Rattle.signed_digit.proofs.CanonicalForm.{canonicalNat-worth, canonicalNat-places, canonicalNat-canonical}
-use Rattle.form_links.specs.Links.{opposed, linksOf, joined, takes, takenLinks}
+use Rattle.form_links.specs.Inner.{opposed, linksOf, joined, takes, takenLinks}
 use Rattle.form_links.proofs.LinkMasks.{takes-small, taken-top, opposed-top}
 use Rattle.form_links.proofs.Spots.{Spot, Walked, Reads, startOf, past, coming, next-digit, past-less, coming-nought, coming-digit}
 use Rattle.form_links.proofs.Needed.{Sided, needed, needed-nought, needed-digit, needed-end, quiet-forms, quiet-sides}

@@ -11,7 +11,7 @@ use Rattle.signed_digit.specs.Digit.{Digit, one, nought, minus-one, nonzero}
 use Rattle.signed_digit.specs.String.{DigitString}
 use Rattle.signed_digit.specs.CanonicalForm.{lowestDigit, opposite, canonicalNat}
 use Rattle.signed_digit.specs.Forms.{listing}
-use Rattle.form_links.specs.Links.{opposed, joined, takes}
+use Rattle.form_links.specs.Inner.{opposed, joined, takes}
 use Rattle.form_links.proofs.Counts.{ofSide}
 use Rattle.form_links.proofs.LinkMasks.{joined-nought}
 use Rattle.form_links.proofs.Spots.{Spot, Walked, Reads, past, coming, next-digit, past-less, walked-past, walked-most, coming-nought, coming-digit}

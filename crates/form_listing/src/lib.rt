@@ -6,7 +6,7 @@ ghost use lib.ListN.{length, drop};
 ghost use Rattle.signed_digit.specs.Masks.{plusMask, minusMask};
 ghost use Rattle.signed_digit.specs.Forms.{listing};
 ghost use Rattle.signed_digit.specs.Listed.{FormsListed, FormsCounted};
-ghost use Rattle.form_links.specs.Growth.{grown};
+ghost use Rattle.form_links.specs.Inner.{grown};
 ghost use Rattle.form_listing.specs.Listing.{answerOf};
 use form_walk::Walk;
 use form_walk::next;

@@ -21,7 +21,7 @@ use Rattle.form_links.proofs.Spots as Spots
 use Rattle.form_links.proofs.Needed.{Sided, needed, needed-nought, needed-digit, needed-end, link-step}
 use Rattle.form_links.proofs.Found.{linksAt, opposedAt, takes-nought, links-first, links-digit, links-start, past-bit, Found, Ended, find}
 use Rattle.form_walk.specs.declared.Walk.{Walk}
-use Rattle.form_walk.specs.Walk.{startOf, skipOf, nextOf}
+use Rattle.form_walk.specs.Inner.{startOf, skipOf, nextOf}
 use Rattle.form_walk.proofs.TrailingZeros.{factors, zeros-are}
 
 -- the walk w stands at the spot s, d being the digit two places below

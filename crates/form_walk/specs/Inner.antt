@@ -1,4 +1,4 @@
--- What the internal functions of the crate give. Definitions only.
+-- What the functions of the crate give. Definitions of the algorithm's own.
 use Prim.Native.Nat.{ℕ, _+_, _*_, _<_, _/_, _%_, _^_}
 use mathlib.Core.Path.{_≡_}
 use mathlib.Core.Bool.{cond}
@@ -9,7 +9,7 @@ use lib.ListN.{length}
 use Rattle.signed_digit.specs.String.{DigitString}
 use Rattle.form_masks.specs.declared.Form.{Form}
 use Rattle.form_masks.specs.Form.{formOf}
-use Rattle.form_links.specs.Links.{opposed, linksOf, takenLinks}
+use Rattle.form_links.specs.Inner.{opposed, linksOf, takenLinks}
 use Rattle.form_walk.specs.declared.Chains.{Chains}
 use Rattle.form_walk.specs.declared.Walk.{Walk}
 

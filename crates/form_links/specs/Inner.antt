@@ -1,10 +1,13 @@
--- How the minimal forms of a value hang together. Two canonical digits that stand two places apart are linked. A form takes a link by moving
--- its upper digit one place down and turning the sign of its lower digit, as 1 0 -1 becomes 0 1 1. Definitions only: contracts of the
+-- How the minimal forms of a value hang together, and what copies within a mask table leave in it. Definitions of the algorithm's own: contracts of the
 -- lister's inner functions cite them, and no statement of document 01 rests on them.
-use Prim.Native.Nat.{ℕ, _+_, _*_}
-use mathlib.Core.List.{[], _∷_}
+use Prim.Native.Nat.{ℕ, _+_, _*_, _%_, _^_}
+use mathlib.Core.List.{List, [], _∷_, _++_, map}
+use lib.ListN.{take, drop}
 use Rattle.signed_digit.specs.Digit.{Digit, one, nought, minus-one}
 use Rattle.signed_digit.specs.String.{DigitString}
+
+-- Two canonical digits that stand two places apart are linked. A form takes a link by moving its upper digit one place down and turning the sign of its lower
+-- digit, as 1 0 -1 becomes 0 1 1.
 
 -- of a digit and the one two places above it: they are nonzero and opposite, or equal
 abbrev pub opposed : Digit → Digit → ℕ
@@ -55,3 +58,11 @@ takes d (e ∷ f ∷ s) = joined d f (takes f s)
 abbrev pub takenLinks : DigitString → ℕ
 takenLinks [] = 0
 takenLinks (d ∷ s) = takes d s + 2 * takenLinks s
+
+-- a mask with an offset, modulo 2^32
+abbrev pub shifted : ℕ → ℕ → ℕ
+shifted offset mask = (mask + offset) % 2 ^ 32
+
+-- the first n elements, with the offset, are copied to the n places from `at` on
+abbrev pub grown : List ℕ → ℕ → ℕ → ℕ → List ℕ
+grown old at n offset = take at old ++ (map (shifted offset) (take n old) ++ drop (at + n) old)
