@@ -1,8 +1,8 @@
 -- `coefficient::trimmed` meets its contract: the places found are in order and within the slice. Assumes nothing.
 use borrow.Author.Needs.{needs}
-use mathlib.Core.Path.{ap}
+use mathlib.Core.Path.{ap, ap₂}
 use native.Mathlib.Omega.{arith}
-use Rattle.coefficient.specs.Stretch.{further}
+use Rattle.coefficient.specs.Stretch.{stretch, further}
 use Rattle.coefficient.proofs.TheStretch.{trimmed-is}
 use Rattle.coefficient.proofs.trim.trimmed.Statement.{statement}
 use Rattle.coefficient.proofs.trim.trimmed.Tie as tie
@@ -29,7 +29,7 @@ returns : tie.Need-returns
 returns c =
     let s = c .before .before .before .args .h in
     record {
-      contents = rw (c .before .before .first-nonzero .ensures .first, c .before .end-of-nonzero .ensures .past-last);
+      contents = ap₂ (stretch (s .now)) (c .before .before .first-nonzero .ensures .first) (c .before .end-of-nonzero .ensures .past-last);
       place = ap (further (s .ptr)) (c .before .before .first-nonzero .ensures .first);
     }
 
