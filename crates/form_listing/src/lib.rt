@@ -68,13 +68,13 @@ fn list(n: i32, plus: &mut [u32], minus: &mut [u32]) -> usize
     let first = form_masks::canonical(n);
     plus[0] = first.plus;
     minus[0] = first.minus;
-    let mut w = start(first);
-    while w.links != 0 {
-        w = skip(w);
-        widen(plus, minus, w);
-        w = next(w);
+    let mut walk = start(first);
+    while walk.links != 0 {
+        walk = skip(walk);
+        widen(plus, minus, walk);
+        walk = next(walk);
     }
-    w.forms
+    walk.forms
 }
 
 // The minimal forms of n, in order, in the front of the two tables.

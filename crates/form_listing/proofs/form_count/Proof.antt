@@ -77,14 +77,14 @@ counted c =
     let o = c .before .before .before .loop in
     count-end (given s) (bounded s) (o .w) (o .inv) (c .before .if1 .left) ∙ ap (λ (z : ℤ). length (listing 32 z)) (same s)
 
+returns : tie.Need-returns Inv-loop μ-loop
+returns c = record { number = counted c }
+
 cast-result : tie.Need-cast-result Inv-loop μ-loop
 cast-result c =
     let s = c .before .before .before .before .before .before in
     let e = counted c in
     record { fits = omega (arith, e, at-most-1597 (s .args .n) (coefficient-magnitude (s .args .n) (i32-coefficient (s .args .n) (s .fits .n)))) }
-
-returns : tie.Need-returns Inv-loop μ-loop
-returns c = record { number = counted c }
 
 pub form-count-spec : {M : Type 1} → statement M
 form-count-spec =
