@@ -9,6 +9,7 @@ use Rattle.word.specs.Bounds.{Coefficient}
 use Rattle.signed_digit.specs.Reduction.{Sign, signValue, Reduction}
 use Rattle.coefficient.specs.Parts.{Parts, no-odd-part, parts, ReducedTo}
 use Rattle.coefficient.specs.Stretch.{stretch, Location, further, StretchStarts, StretchEnds, TrimmedTo}
+use Rattle.coefficient.specs.Figures.{ReductionFigures, TrimmedFigures}
 
 pub record TheReduction (n : ℤ) (s : Sign) (oddPart shift : ℕ) : Type 0 where
   -- "sign × odd part × 2^shift"
@@ -67,3 +68,6 @@ pub record CoefficientClaims : Type 0 where
   pub stretch-found : (h : List ℤ) (start end : ℕ) → StretchStarts h start → StretchEnds h end → TheStretch h start end
   -- and by the part that is returned
   pub stretch-own : (h : List ℤ) (at : Location) (part : List ℤ) (from : Location) → TrimmedTo h at part from → OwnStretch h at part from
+  -- worked examples
+  pub reductions : ReductionFigures
+  pub stretches : TrimmedFigures

@@ -25,6 +25,7 @@ use Rattle.form_masks.specs.Value.{valueOf, FormValued}
 use Rattle.form_masks.specs.Weight.{weightOf, FormWeighed}
 use Rattle.form_masks.specs.Claims.{TwoMasks, CanonicalOf, FormMaskClaims}
 use Rattle.form_masks.proofs.Forms.{disjoint, form-string, string-value, string-weight, string-form, form-value, form-weight}
+use Rattle.form_masks.proofs.Figures.{form-mask-figures}
 
 module _ (form : Form) (m : TwoMasks form) where
   masks-valued : (answer : Answer ℤ) → FormValued form answer → answer ≡ given (pos (form .plus) -ℤ pos (form .minus))
@@ -69,4 +70,5 @@ form-mask-claims = record {
   masks-weighed = masks-weighed;
   string-weighed = λ s l answer w. w .weighed ∙ form-weight s l;
   canonical-of = λ n c form f. subst (CanonicalOf n) (sym (f .masks)) (canonical-form n c);
+  worked-forms = form-mask-figures;
 }

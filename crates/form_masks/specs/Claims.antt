@@ -17,6 +17,7 @@ use Rattle.form_masks.specs.declared.Form.{Form}
 use Rattle.form_masks.specs.Form.{formOf, stringOf, InCanonicalForm}
 use Rattle.form_masks.specs.Value.{FormValued}
 use Rattle.form_masks.specs.Weight.{FormWeighed}
+use Rattle.form_masks.specs.Figures.{FormMaskFigures}
 
 -- "two 32-bit masks: places holding 1 and places holding -1. No place is in both."
 pub record TwoMasks (form : Form) : Type 0 where
@@ -46,3 +47,5 @@ pub record FormMaskClaims : Type 0 where
   pub string-weighed : (s : DigitString) → length s ≡ 32 → (answer : Answer ℕ) → FormWeighed (formOf s) answer → answer ≡ given (weight s)
   -- "The CSD form"
   pub canonical-of : (n : ℤ) → Coefficient n → (form : Form) → InCanonicalForm n form → CanonicalOf n form
+  -- worked examples
+  pub worked-forms : FormMaskFigures
