@@ -56,7 +56,8 @@ pub extern "C" fn fir_minimal_forms(
     minus: &mut [u32],
     count: &mut u32,
 ) -> u64
-    ensures { λ r. ⌜ FormsListedWord n (now (plus .entry)) (now (minus .entry)) (now (count .entry)) r (now (plus .exit)) (now (minus .exit)) (now (count .exit)) ⌝ }
+    ensures { λ r. ⌜ FormsListedWord n (now (plus .entry)) (now (minus .entry)) (now (count .entry)) r
+        (now (plus .exit)) (now (minus .exit)) (now (count .exit)) ⌝ }
 {
     let answer = form_listing::minimal_forms(n, plus, minus);
     match answer {

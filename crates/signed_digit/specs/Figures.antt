@@ -1,4 +1,5 @@
--- The figures on forms that document 01, "Bench figures", marks [P], and the tables that hold those of 45. Statements only; proofs/Figures.antt proves `Figures`.
+-- The figures on forms that document 01, "Bench figures", marks [P], and the tables that hold the forms of 45. Statements only; proofs/Figures.antt
+-- proves `Figures`.
 use mathlib.Core.Path.{_≡_}
 use mathlib.Core.List.{List, [], _∷_}
 use Prim.Native.Nat.{ℕ, _+_, _-_, _^_, _≤_}
@@ -34,6 +35,7 @@ pub record Figures : Type 0 where
   pub of-greatest : listing 32 (pos (2 ^ 31 - 1)) ≡ form (2 ^ 31) 1 ∷ []
   pub of-least : listing 32 (negℤ (pos (2 ^ 31))) ≡ form 0 (2 ^ 31) ∷ []
   -- 45 as the entries give it: its tables, whatever they held before, tables of 1,597 zeros, and its count
-  pub tables-45 : (plus minus : List ℕ) → 1597 ≤ length plus → 1597 ≤ length minus → FormsListed (pos 45) plus minus (given 5) (plus45 (drop 5 plus)) (minus45 (drop 5 minus))
+  pub tables-45 : (plus minus : List ℕ) → 1597 ≤ length plus → 1597 ≤ length minus
+      → FormsListed (pos 45) plus minus (given 5) (plus45 (drop 5 plus)) (minus45 (drop 5 minus))
   pub listed-45 : FormsListed (pos 45) (replicate 1597 0) (replicate 1597 0) (given 5) (plus45 (replicate 1592 0)) (minus45 (replicate 1592 0))
   pub counted-45 : FormsCounted (pos 45) 5
