@@ -8,7 +8,7 @@ use lib.IntN.{ℤ, pos, _-ℤ_}
 use lib.ListN.{length}
 use Rattle.word.specs.Bounds.{Coefficient}
 use Rattle.word.proofs.Bounds.{coefficient-magnitude}
-use Rattle.refusal.specs.Answer.{Answer, given}
+use Rattle.refusal.specs.Answer.{Answer, given, refused, refuseAt, Place}
 use Rattle.signed_digit.specs.String.{DigitString}
 use Rattle.signed_digit.specs.Value.{value}
 use Rattle.signed_digit.specs.Weight.{weight}
@@ -20,10 +20,11 @@ use Rattle.signed_digit.proofs.Strings.{small}
 use Rattle.signed_digit.proofs.Masks.{masks-disjoint}
 use Rattle.signed_digit.proofs.Coefficients.{canonical-32}
 use Rattle.form_masks.specs.declared.Form.{Form}
-use Rattle.form_masks.specs.Form.{formOf, stringOf, InCanonicalForm}
+use Rattle.form_masks.specs.Form.{formOf, stringOf, TwoMasks, LowestOverlap, InCanonicalForm}
 use Rattle.form_masks.specs.Value.{valueOf, FormValued}
 use Rattle.form_masks.specs.Weight.{weightOf, FormWeighed}
-use Rattle.form_masks.specs.Claims.{TwoMasks, CanonicalOf, FormMaskClaims}
+use Rattle.form_masks.specs.Claims.{CanonicalOf, FormMaskClaims}
+use Rattle.form_masks.proofs.Overlap.{overlap-lowest}
 use Rattle.form_masks.proofs.Forms.{disjoint, form-string, string-value, string-weight, string-form, form-value, form-weight}
 use Rattle.form_masks.proofs.Figures.{form-mask-figures}
 
@@ -41,6 +42,16 @@ module _ (form : Form) (m : TwoMasks form) where
       w .weighed
       ∙ sym (disjoint (form .plus) (form .minus) (given (weight (stringOf form))) (m .no-place-in-both))
       ∙ ap given (string-weight form (m .plus-32) (m .minus-32) (m .no-place-in-both))
+
+-- ---- masks that overlap
+module _ (form : Form) (place : ℕ) (o : LowestOverlap form place) where
+  value-refused : (answer : Answer ℤ) → FormValued form answer → answer ≡ refused 8 place
+  unfolding valueOf
+  value-refused answer v = v .valued ∙ ap (λ (p : Place). refuseAt p 8 (given (value (stringOf form)))) (overlap-lowest (form .plus) (form .minus) 32 place (o .within) (o .in-both) (o .none-lower))
+
+  weight-refused : (answer : Answer ℕ) → FormWeighed form answer → answer ≡ refused 8 place
+  unfolding weightOf
+  weight-refused answer w = w .weighed ∙ ap (λ (p : Place). refuseAt p 8 (given (weight (stringOf form)))) (overlap-lowest (form .plus) (form .minus) 32 place (o .within) (o .in-both) (o .none-lower))
 
 -- ---- the canonical form
 two-masks : (s : DigitString) → length s ≡ 32 → TwoMasks (formOf s)
@@ -69,6 +80,8 @@ form-mask-claims = record {
   string-valued = λ s l answer v. v .valued ∙ form-value s l;
   masks-weighed = masks-weighed;
   string-weighed = λ s l answer w. w .weighed ∙ form-weight s l;
+  value-refused = value-refused;
+  weight-refused = weight-refused;
   canonical-of = λ n c form f. subst (CanonicalOf n) (sym (f .masks)) (canonical-form n c);
   worked-forms = form-mask-figures;
 }

@@ -1,12 +1,11 @@
 -- What is claimed of forms as two masks, in document 01's words, "Digits". Statements only; proofs/Claims.antt proves `FormMaskClaims`.
 use mathlib.Core.Path.{_≡_}
-use Prim.Native.Nat.{ℕ, _+_, _<_, _^_}
-use lib.Bits.{bitAnd}
+use Prim.Native.Nat.{ℕ, _+_}
 use lib.Count.{ones}
 use lib.IntN.{ℤ, pos, _-ℤ_}
 use lib.ListN.{length}
 use Rattle.word.specs.Bounds.{Coefficient}
-use Rattle.refusal.specs.Answer.{Answer, given}
+use Rattle.refusal.specs.Answer.{Answer, given, refused}
 use Rattle.signed_digit.specs.String.{DigitString}
 use Rattle.signed_digit.specs.Value.{value}
 use Rattle.signed_digit.specs.Weight.{weight}
@@ -14,16 +13,10 @@ use Rattle.signed_digit.specs.Same.{Same}
 use Rattle.signed_digit.specs.Minimal.{Minimal}
 use Rattle.signed_digit.specs.Canonical.{Canonical}
 use Rattle.form_masks.specs.declared.Form.{Form}
-use Rattle.form_masks.specs.Form.{formOf, stringOf, InCanonicalForm}
+use Rattle.form_masks.specs.Form.{formOf, stringOf, TwoMasks, LowestOverlap, InCanonicalForm}
 use Rattle.form_masks.specs.Value.{FormValued}
 use Rattle.form_masks.specs.Weight.{FormWeighed}
 use Rattle.form_masks.specs.Figures.{FormMaskFigures}
-
--- "two 32-bit masks: places holding 1 and places holding -1. No place is in both."
-pub record TwoMasks (form : Form) : Type 0 where
-  pub plus-32 : form .plus < 2 ^ 32
-  pub minus-32 : form .minus < 2 ^ 32
-  pub no-place-in-both : bitAnd (form .plus) (form .minus) ≡ 0
 
 -- "The CSD form has no two adjacent nonzero digits .. Every 32-bit coefficient has exactly one, -2^31 included.": the form has it, and both ways lead back:
 -- from the value to the digits, and from the digits to the value
@@ -45,6 +38,9 @@ pub record FormMaskClaims : Type 0 where
   -- "Weight is the number of nonzero digits."
   pub masks-weighed : (form : Form) → TwoMasks form → (answer : Answer ℕ) → FormWeighed form answer → answer ≡ given (ones (form .plus) + ones (form .minus))
   pub string-weighed : (s : DigitString) → length s ≡ 32 → (answer : Answer ℕ) → FormWeighed (formOf s) answer → answer ≡ given (weight s)
+  -- "8, lowest place": "masks overlap"
+  pub value-refused : (form : Form) (place : ℕ) → LowestOverlap form place → (answer : Answer ℤ) → FormValued form answer → answer ≡ refused 8 place
+  pub weight-refused : (form : Form) (place : ℕ) → LowestOverlap form place → (answer : Answer ℕ) → FormWeighed form answer → answer ≡ refused 8 place
   -- "The CSD form"
   pub canonical-of : (n : ℤ) → Coefficient n → (form : Form) → InCanonicalForm n form → CanonicalOf n form
   -- worked examples

@@ -1,9 +1,10 @@
 -- A form by its two masks. Document 01: "A form is stored as two 32-bit masks: places holding 1 and places holding -1. No place is in
 -- both." Definitions only.
 use mathlib.Core.Path.{_≡_}
-use Prim.Native.Nat.{ℕ, zero, suc}
-use mathlib.Core.Bool.{_&&_}
+use Prim.Native.Nat.{ℕ, zero, suc, _<_, _^_}
+use mathlib.Core.Bool.{true, false, _&&_}
 use mathlib.Core.List.{List, [], _∷_}
+use lib.Bits.{bitAnd}
 use lib.IntN.{ℤ}
 use Rattle.refusal.specs.Answer.{Place, lowest}
 use Rattle.signed_digit.specs.String.{DigitString}
@@ -18,6 +19,18 @@ formOf s = record { plus = plusMask s; minus = minusMask s }
 -- "A form is a string of 32 places": the one with these masks
 unfoldable pub stringOf : Form → DigitString
 stringOf form = fromMasks 32 (form .plus) (form .minus)
+
+-- "two 32-bit masks: places holding 1 and places holding -1. No place is in both."
+pub record TwoMasks (form : Form) : Type 0 where
+  pub plus-32 : form .plus < 2 ^ 32
+  pub minus-32 : form .minus < 2 ^ 32
+  pub no-place-in-both : bitAnd (form .plus) (form .minus) ≡ 0
+
+-- the place is in both masks, and no lower one is
+pub record LowestOverlap (form : Form) (place : ℕ) : Type 0 where
+  pub within : place < 32
+  pub in-both : (holds (form .plus) place && holds (form .minus) place) ≡ true
+  pub none-lower : (k : ℕ) → k < place → (holds (form .plus) k && holds (form .minus) k) ≡ false
 
 -- the p places from k on
 abbrev pub placesFrom : ℕ → ℕ → List ℕ

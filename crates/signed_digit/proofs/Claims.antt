@@ -8,7 +8,7 @@ use Rattle.signed_digit.proofs.Order.{never-opposite, comparable}
 use Rattle.signed_digit.proofs.Listing.{listing-is, listing-unique, listing-first, canonical-form}
 use Rattle.signed_digit.proofs.Coefficients.{canonical-32, bound-32, at-most-1597}
 use Rattle.signed_digit.proofs.Demand.{listing-complete}
-use Rattle.signed_digit.proofs.Written.{minimal-forms-written, form-count-held}
+use Rattle.signed_digit.proofs.Written.{minimal-forms-written, minimal-forms-refused, form-count-held}
 use Rattle.signed_digit.proofs.Reduction.{reduction, reduction-only, zero-irreducible}
 
 pub digit-claims : DigitClaims
@@ -31,6 +31,7 @@ digit-claims = record {
   bound = λ n c. bound-32 n (coefficient-magnitude n c);
   at-most-1597 = λ n c. at-most-1597 n (coefficient-magnitude n c);
   minimal-forms-written = minimal-forms-written;
+  minimal-forms-refused = minimal-forms-refused;
   form-count-held = form-count-held;
   reduction = reduction;
   reduction-only = reduction-only;

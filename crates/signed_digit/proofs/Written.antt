@@ -2,6 +2,7 @@
 use mathlib.Core.Path.{_≡_, refl, ap, ap₂, sym, _∙_, subst}
 use mathlib.Core.Bool.{Bool, false, _&&_}
 use mathlib.Core.List.{List, [], _∷_, _++_, map, List·Memᴰ, List·Memᴰ·head, List·Memᴰ·tail}
+use mathlib.Core.Logic.{_⊎_}
 use Prim.Native.Nat.{ℕ, _≤_, _<_, _^_, _/_, _%_}
 use native.Mathlib.Omega.{arith}
 use lib.Dec.{eqb}
@@ -9,7 +10,7 @@ use lib.IntN.{ℤ}
 use lib.ListN.{length, take, drop, getD, length-map, List·getD-map}
 use lib.Seq.{take-at, drop-at, getD-take}
 use Rattle.word.specs.Bounds.{Coefficient}
-use Rattle.refusal.specs.Answer.{Answer, filled}
+use Rattle.refusal.specs.Answer.{Answer, refused, filled}
 use Rattle.signed_digit.specs.Digit.{Digit, one, nought, minus-one}
 use Rattle.signed_digit.specs.String.{DigitString, digitAt}
 use Rattle.signed_digit.specs.Masks.{plusBit, minusBit, plusMask, minusMask, holds, fromMasks}
@@ -18,7 +19,7 @@ use Rattle.signed_digit.specs.Listed.{FormsListed, FormsCounted}
 use Rattle.signed_digit.specs.Claims.{ListingComplete, readBack, Written}
 use Rattle.signed_digit.proofs.Masks.{masks-bits, masks-string}
 use Rattle.signed_digit.proofs.Demand.{listing-complete}
-use Rattle.signed_digit.proofs.FormCount.{long-enough}
+use Rattle.signed_digit.proofs.FormCount.{one-short, long-enough}
 
 read-masks : (l : List DigitString) → ((s : DigitString) → List·Memᴰ s l → length s ≡ 32) → readBack (map plusMask l) (map minusMask l) ≡ l
 read-masks [] h = refl
@@ -86,6 +87,16 @@ minimal-forms-written n c plus minus answer plus′ minus′ hp hm a =
       plus-past = past n plusMask plus plus′ P;
       minus-past = past n minusMask minus minus′ M;
     }
+
+-- for tables of which one is shorter
+pub minimal-forms-refused : (n : ℤ) (plus minus : List ℕ) (answer : Answer ℕ) (plus′ minus′ : List ℕ) → (length plus < 1597) ⊎ (length minus < 1597)
+    → FormsListed n plus minus answer plus′ minus′ → (answer ≡ refused 3 0) × (plus′ ≡ plus) × (minus′ ≡ minus)
+minimal-forms-refused n plus minus answer plus′ minus′ h a =
+    let e = one-short n (length plus) (length minus) h in (
+      a .count ∙ e,
+      a .plus-table ∙ ap (λ (x : Answer ℕ). filled x (map plusMask (listing 32 n)) plus) e,
+      a .minus-table ∙ ap (λ (x : Answer ℕ). filled x (map minusMask (listing 32 n)) minus) e,
+    )
 
 pub form-count-held : (n : ℤ) → Coefficient n → (count : ℕ) → FormsCounted n count → ListingComplete n count (listing 32 n)
 form-count-held n c count f = subst (λ (k : ℕ). ListingComplete n k (listing 32 n)) (sym (f .number)) (listing-complete n c)

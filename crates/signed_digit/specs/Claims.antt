@@ -10,7 +10,7 @@ use lib.Count.{ones}
 use lib.IntN.{ℤ, pos, natAbs, _-ℤ_}
 use lib.ListN.{length, take, drop, getD}
 use Rattle.word.specs.Bounds.{Coefficient}
-use Rattle.refusal.specs.Answer.{Answer, given}
+use Rattle.refusal.specs.Answer.{Answer, given, refused}
 use Rattle.signed_digit.specs.Digit.{one, minus-one}
 use Rattle.signed_digit.specs.String.{DigitString, digitAt}
 use Rattle.signed_digit.specs.Value.{value}
@@ -108,6 +108,9 @@ pub record DigitClaims : Type 0 where
   -- of the tables that `minimal_forms` leaves and the count that it returns, when no table is under its length
   pub minimal-forms-written : (n : ℤ) → Coefficient n → (plus minus : List ℕ) (answer : Answer ℕ) (plus′ minus′ : List ℕ) → 1597 ≤ length plus
       → 1597 ≤ length minus → FormsListed n plus minus answer plus′ minus′ → Written n plus minus answer plus′ minus′
+  -- "3, place 0": "a lent table is under its length", and lent memory is "unchanged"
+  pub minimal-forms-refused : (n : ℤ) (plus minus : List ℕ) (answer : Answer ℕ) (plus′ minus′ : List ℕ) → (length plus < 1597) ⊎ (length minus < 1597)
+      → FormsListed n plus minus answer plus′ minus′ → (answer ≡ refused 3 0) × (plus′ ≡ plus) × (minus′ ≡ minus)
   -- "The form count returned is the number of forms held", of `form_count`
   pub form-count-held : (n : ℤ) → Coefficient n → (count : ℕ) → FormsCounted n count → ListingComplete n count (listing 32 n)
   -- "a nonzero coefficient is sign × odd part × 2^shift", in one way only; "Zero has no odd part."
