@@ -1,7 +1,7 @@
 -- What `trimmed` cuts off is zeros, what it leaves is empty or starts and ends with a nonzero, and where not all is zero there is no
 -- other such stretch. Assumes nothing.
 use mathlib.Core.Path.{_≡_, refl, sym, ap, ap₂, _∙_}
-use mathlib.Core.List.{List, []}
+use mathlib.Core.List.{List}
 use mathlib.Core.Logic.{_≢_, _⊎_, inl, inr, ⊎-elim}
 use Prim.Native.Nat.{ℕ, suc, _+_, _-_, _<_, _≤_}
 use native.Mathlib.Nat.{zero-add, lt-of-not-le, eq-or-lt-of-le, eq-zero-or-pos}

@@ -2,7 +2,6 @@
 use mathlib.Core.Path.{_≡_, sym, ap, _∙_, subst}
 use Prim.Native.Nat.{ℕ, _+_, _^_}
 use native.Mathlib.Omega.{arith}
-use lib.Bits.{bitAnd}
 use lib.Count.{ones}
 use lib.IntN.{ℤ, pos, _-ℤ_}
 use lib.ListN.{length}
@@ -20,7 +19,7 @@ use Rattle.signed_digit.proofs.Strings.{small}
 use Rattle.signed_digit.proofs.Masks.{masks-disjoint}
 use Rattle.signed_digit.proofs.Coefficients.{canonical-32}
 use Rattle.form_masks.specs.declared.Form.{Form}
-use Rattle.form_masks.specs.Form.{formOf, stringOf, TwoMasks, LowestOverlap, InCanonicalForm}
+use Rattle.form_masks.specs.Form.{formOf, stringOf, TwoMasks, LowestOverlap}
 use Rattle.form_masks.specs.Value.{valueOf, FormValued}
 use Rattle.form_masks.specs.Weight.{weightOf, FormWeighed}
 use Rattle.form_masks.specs.Claims.{CanonicalOf, FormMaskClaims}
