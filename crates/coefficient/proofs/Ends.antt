@@ -10,10 +10,7 @@ use lib.IntN.{ℤ, pos, negsuc, natAbs}
 use lib.ListN.{getD}
 use Rattle.coefficient.specs.Zero.{isZero}
 use Rattle.coefficient.specs.Stretch.{firstFrom, startOf, endWith, endOf}
-
--- every coefficient is 0, or there is none
-pub record AllZero (h : List ℤ) : Type 0 where
-  pub zeros : (k : ℕ) → getD h k (pos 0) ≡ pos 0
+use Rattle.coefficient.specs.Claims.{AllZero}
 
 -- a is the place of the first nonzero
 pub record First (h : List ℤ) (a : ℕ) : Type 0 where

@@ -1,8 +1,9 @@
--- The statements to read first:
-pub mod TheReduction
-pub mod TheStretch
+-- The claims of specs/Claims.antt and the figures of specs/Figures.antt:
+pub mod Claims
 pub mod Figures
 -- What they and the functions' proofs rest on:
+pub mod TheReduction
+pub mod TheStretch
 pub mod LowZeros
 pub mod PartsOf
 pub mod Words

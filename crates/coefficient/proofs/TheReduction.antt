@@ -1,36 +1,16 @@
 -- What `reduce` answers is the reduction of n in the sense of signed_digit, and there is no other. Assumes nothing.
 use mathlib.Core.Path.{_≡_, refl, sym, ap, _∙_}
 use mathlib.Core.Logic.{_≢_}
-use Prim.Native.Nat.{ℕ, zero, suc, _%_, _^_, _≤_, _<_}
+use Prim.Native.Nat.{ℕ, zero, suc, _%_, _^_}
 use native.Mathlib.Omega.{arith}
 use lib.IntN.{ℤ, pos, negsuc, _*ℤ_}
-use Rattle.word.specs.Bounds.{Coefficient}
 use Rattle.signed_digit.specs.Reduction.{Sign, signValue, Reduction}
 use Rattle.word.proofs.Bounds.{coefficient-magnitude}
 use Rattle.signed_digit.proofs.Reduction.{reduction}
-use Rattle.coefficient.specs.declared.Reduced.{Reduced}
-use Rattle.coefficient.specs.declared.Reduced.the-variants.{Zero, Split}
-use Rattle.coefficient.specs.Parts.{no-odd-part, parts, signOf, shiftOf, oddPartOf, partsOf, signIf, partsIn}
+use Rattle.coefficient.specs.Parts.{Parts, no-odd-part, parts, signOf, shiftOf, oddPartOf, partsOf, ReducedTo}
+use Rattle.coefficient.specs.Claims.{TheReduction, Right}
 use Rattle.coefficient.proofs.PartsOf as PartsOf
 
--- ---- the statements
-pub record TheReduction (n : ℤ) (s : Sign) (oddPart shift : ℕ) : Type 0 where
-  -- "sign × odd part × 2^shift"
-  pub product : signValue s *ℤ pos oddPart *ℤ pos (2 ^ shift) ≡ n
-  pub odd : oddPart % 2 ≡ 1
-  -- "the odd part positive"
-  pub above-zero : 0 < oddPart
-  -- the only such split
-  pub only : (r : Reduction n) → (r .sign ≡ s) × (r .oddPart ≡ oddPart) × (r .shift ≡ shift)
-  -- of a 32-bit coefficient
-  pub bounds : Coefficient n → (oddPart < 2 ^ 31) × (shift ≤ 31)
-
--- what each case of `Reduced` tells of n
-abbrev pub Right : Reduced → ℤ → Type 0
-Right Zero n = n ≡ pos 0
-Right (Split r) n = TheReduction n (signIf (r .negative)) (r .«odd_part») (r .shift)
-
--- ---- the proofs
 -- every reduction of n has the parts of n
 pub reduction-parts : (n : ℤ) (r : Reduction n) → partsOf n ≡ parts (r .sign) (r .oddPart) (r .shift)
 reduction-parts = PartsOf.reduction-parts
@@ -71,8 +51,6 @@ unfolding partsOf
 split-nonzero n s x i e z = no-parts s x i (sym (e ∙ ap partsOf z))
 
 -- an answer that meets the contract of `reduce` is right
-pub answer-right : (n : ℤ) (r : Reduced) → partsIn r ≡ partsOf n → Right r n
-answer-right n Zero e = zero-only n e
-answer-right n (Split r) e =
-    let s = signIf (r .negative) in
-    the-reduction n (reduction n (split-nonzero n s (r .«odd_part») (r .shift) e)) s (r .«odd_part») (r .shift) e
+pub answer-right : (n : ℤ) (p : Parts) → ReducedTo n p → Right p n
+answer-right n no-odd-part e = zero-only n (e .split)
+answer-right n (parts s x i) e = the-reduction n (reduction n (split-nonzero n s x i (e .split))) s x i (e .split)

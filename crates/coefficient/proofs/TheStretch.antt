@@ -1,33 +1,17 @@
 -- What `trimmed` cuts off is zeros, what it leaves is empty or starts and ends with a nonzero, and where not all is zero there is no
 -- other such stretch. Assumes nothing.
-use mathlib.Core.Path.{_≡_, refl, sym, ap, _∙_}
-use mathlib.Core.List.{List, []}
+use mathlib.Core.Path.{_≡_, refl, sym, ap, ap₂, _∙_}
+use mathlib.Core.List.{List}
 use mathlib.Core.Logic.{_≢_, _⊎_, inl, inr, ⊎-elim}
 use Prim.Native.Nat.{ℕ, suc, _+_, _-_, _<_, _≤_}
-use native.Mathlib.Nat.{lt-of-not-le, eq-or-lt-of-le, eq-zero-or-pos}
+use native.Mathlib.Nat.{zero-add, lt-of-not-le, eq-or-lt-of-le, eq-zero-or-pos}
 use native.Mathlib.Omega.{arith}
 use lib.IntN.{ℤ, pos}
 use lib.ListN.{length, drop, getD, length-drop, List·getD-eq-default}
 use lib.Seq.{length-take-le, getD-take, getD-drop}
-use Rattle.coefficient.specs.Stretch.{startOf, endOf, stretch}
-use Rattle.coefficient.proofs.Ends.{AllZero, First, Last, Nonzeros, none, some, nonzeros, start-none, end-none, start-is, end-is}
-
--- ---- the statements
--- "from the first nonzero to the last": nothing, or a nonzero at either end
-abbrev pub Bare : List ℤ → Type 0
-Bare t = (t ≡ []) ⊎ ((getD t 0 (pos 0) ≢ pos 0) × (getD t (length t - 1) (pos 0) ≢ pos 0))
-
--- the stretch of h from the place a up to the place e is what trimming leaves
-pub record Trimmed (h : List ℤ) (a e : ℕ) : Type 0 where
-  pub in-order : a ≤ e
-  pub within : e ≤ length h
-  pub zeros-before : (k : ℕ) → k < a → getD h k (pos 0) ≡ pos 0
-  pub zeros-after : (k : ℕ) → e ≤ k → getD h k (pos 0) ≡ pos 0
-  pub bare : Bare (stretch h a e)
-
--- "for all zeros or no coefficients, the empty stretch at the start"
-pub all-zeros : (h : List ℤ) → AllZero h → (startOf h ≡ 0) × (endOf h ≡ 0)
-all-zeros h z = (start-none h z, end-none h z)
+use Rattle.coefficient.specs.Stretch.{startOf, endOf, stretch, Location, further, StretchStarts, StretchEnds, TrimmedTo}
+use Rattle.coefficient.specs.Claims.{AllZero, Bare, Trimmed, TheStretch, OwnStretch}
+use Rattle.coefficient.proofs.Ends.{First, Last, Nonzeros, none, some, nonzeros, start-none, end-none, start-is, end-is}
 
 -- ---- the stretch from a up to e, element by element
 module _ (h : List ℤ) (a e : ℕ) (w : e ≤ length h) where
@@ -94,3 +78,27 @@ module _ (h : List ℤ) (a e : ℕ) (t : Trimmed h a e) where
       go : (a ≡ e) ⊎ (a < e) → (a ≡ startOf h) × (e ≡ endOf h)
       go (inl q) = absurd (s (empty-zeros q))
       go (inr o) = let n = ends-of o (t .bare) in (sym (start-is h a (n .0)), omega (arith, end-is h (e - 1) (n .1)))
+
+-- ---- the claims
+the-stretch : (h : List ℤ) → TheStretch h (startOf h) (endOf h)
+the-stretch h = record {
+  trimmed = trimmed-is h;
+  only = λ s a e t. trimmed-only h a e t s;
+  empty = λ z. (start-none h z, end-none h z);
+}
+
+pub stretch-found : (h : List ℤ) (start end : ℕ) → StretchStarts h start → StretchEnds h end → TheStretch h start end
+stretch-found h start end s e = rw (s .first, e .past-last) (the-stretch h)
+
+pub stretch-own : (h : List ℤ) (at : Location) (part : List ℤ) (from : Location) → TrimmedTo h at part from → OwnStretch h at part from
+stretch-own h at part from t = record {
+  start = startOf h;
+  end = endOf h;
+  the-stretch = the-stretch h;
+  elements = t .contents;
+  stands = t .place;
+  at-the-start = λ z. (
+    t .contents ∙ ap₂ (stretch h) (start-none h z) (end-none h z),
+    t .place ∙ ap (further at) (start-none h z) ∙ ap (λ (k : ℕ). (at .0, k)) (zero-add (at .1)),
+  );
+}

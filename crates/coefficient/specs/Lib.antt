@@ -1,3 +1,5 @@
 pub mod Zero
 pub mod Parts
 pub mod Stretch
+pub mod Claims
+pub mod Figures

@@ -1,4 +1,5 @@
 -- Document 01: "Reduction: a nonzero coefficient is sign × odd part × 2^shift, the odd part positive. Zero has no odd part." Definitions only.
+use mathlib.Core.Path.{_≡_}
 use mathlib.Core.Bool.{Bool, true, false, cond}
 use Prim.Native.Nat.{ℕ, _/_, _^_}
 use lib.Count.{trailingZeros}
@@ -38,3 +39,7 @@ signIf false = positive
 abbrev pub partsIn : Reduced → Parts
 partsIn Zero = no-odd-part
 partsIn (Split r) = parts (signIf (r .negative)) (r .«odd_part») (r .shift)
+
+-- p are the parts of n: the contract of `reduce`, and what every claim about it speaks of
+pub record ReducedTo (n : ℤ) (p : Parts) : Type 0 where
+  pub split : p ≡ partsOf n

@@ -1,8 +1,9 @@
 -- Document 01: "The trimmed filter is the caller's own stretch of coefficients from the first nonzero to the last; for all zeros or no
 -- coefficients, the empty stretch at the start." Definitions only.
+use mathlib.Core.Path.{_≡_}
 use mathlib.Core.Bool.{cond}
 use mathlib.Core.List.{List, [], _∷_}
-use Prim.Native.Nat.{ℕ, zero, suc, _-_}
+use Prim.Native.Nat.{ℕ, zero, suc, _+_, _*_, _-_}
 use lib.IntN.{ℤ}
 use lib.ListN.{take, drop}
 use Rattle.coefficient.specs.Zero.{isZero}
@@ -33,3 +34,25 @@ stretch h a e = take (e - a) (drop a h)
 -- "The trimmed filter"
 abbrev pub trimmedFilter : List ℤ → List ℤ
 trimmedFilter h = stretch h (startOf h) (endOf h)
+
+-- where a slice stands in memory: the number of its block, and the bytes of the block in front of it
+abbrev pub Location : Type 0
+Location = ℕ × ℕ
+
+-- the location of the element at a place of a slice of 32-bit numbers
+abbrev pub further : Location → ℕ → Location
+further at place = (at .0, place * 4 + at .1)
+
+-- the stretch starts at the place: the contract of `first_nonzero`, and what every claim about it speaks of
+pub record StretchStarts (h : List ℤ) (place : ℕ) : Type 0 where
+  pub first : place ≡ startOf h
+
+-- the stretch ends before the place: the contract of `end_of_nonzero`, and what every claim about it speaks of
+pub record StretchEnds (h : List ℤ) (place : ℕ) : Type 0 where
+  pub past-last : place ≡ endOf h
+
+-- of the slice h that stands at the location `at`, the part that stands at the location `from` is the trimmed filter, "the caller's own stretch": the contract
+-- of `trimmed`, and what every claim about it speaks of
+pub record TrimmedTo (h : List ℤ) (at : Location) (part : List ℤ) (from : Location) : Type 0 where
+  pub contents : part ≡ trimmedFilter h
+  pub place : from ≡ further at (startOf h)

@@ -4,8 +4,7 @@ mod trim;
 pub use trim::end_of_nonzero;
 pub use trim::first_nonzero;
 pub use trim::trimmed;
-ghost use mathlib.Core.Path.{_≡_};
-ghost use Rattle.coefficient.specs.Parts.{partsIn, partsOf};
+ghost use Rattle.coefficient.specs.Parts.{partsIn, ReducedTo};
 
 // The coefficient is sign * odd part * 2^shift.
 pub struct Reduction {
@@ -23,7 +22,7 @@ pub enum Reduced {
 // The sign, the odd part and the shift of n. Nothing is negated, so that -2^31 needs no case of its
 // own.
 pub fn reduce(n: i32) -> Reduced
-    ensures { λ r. ⌜ partsIn r ≡ partsOf n ⌝ }
+    ensures { λ r. ⌜ ReducedTo n (partsIn r) ⌝ }
 {
     if n == 0 {
         return Reduced::Zero;

@@ -1,10 +1,9 @@
 // The stretch of a filter from its first nonzero coefficient to its last.
-ghost use mathlib.Core.Path.{_≡_};
-ghost use Rattle.coefficient.specs.Stretch.{startOf, endOf, trimmedFilter};
+ghost use Rattle.coefficient.specs.Stretch.{StretchStarts, StretchEnds, TrimmedTo};
 
 // The place of the first nonzero coefficient, or 0 where there is none.
 pub fn first_nonzero(h: &[i32]) -> usize
-    ensures { λ r. ⌜ r ≡ startOf (now (h .entry)) ⌝ }
+    ensures { λ r. ⌜ StretchStarts (now (h .entry)) r ⌝ }
 {
     let mut i = 0;
     while i < h.len() {
@@ -18,7 +17,7 @@ pub fn first_nonzero(h: &[i32]) -> usize
 
 // The place after the last nonzero coefficient, or 0 where there is none.
 pub fn end_of_nonzero(h: &[i32]) -> usize
-    ensures { λ r. ⌜ r ≡ endOf (now (h .entry)) ⌝ }
+    ensures { λ r. ⌜ StretchEnds (now (h .entry)) r ⌝ }
 {
     let mut end = h.len();
     while end > 0 {
@@ -27,13 +26,13 @@ pub fn end_of_nonzero(h: &[i32]) -> usize
         }
         end -= 1;
     }
-    0
+    end
 }
 
 // The part of h from its first nonzero coefficient to its last, nothing copied. For all zeros or no
 // coefficients it is the empty part at the start.
 pub fn trimmed(h: &[i32]) -> &[i32]
-    ensures { λ r. ⌜ now r ≡ trimmedFilter (now (h .entry)) ⌝ }
+    ensures { λ r. ⌜ TrimmedTo (now (h .entry)) (h .entry .ptr) (now r) (r .ptr) ⌝ }
 {
     let start = first_nonzero(h);
     let end = end_of_nonzero(h);

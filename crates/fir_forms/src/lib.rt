@@ -1,16 +1,6 @@
 // Minimal signed-digit forms: functions for C, declared in include/fir.h.
-ghost use mathlib.Core.Path.{_≡_};
-ghost use Prim.Native.Nat.{ℕ};
-ghost use lib.IntN.{ℤ};
-ghost use lib.ListN.{length};
-ghost use Rattle.refusal.specs.Answer.{stored};
-ghost use Rattle.signed_digit.specs.Masks.{plusMask, minusMask};
-ghost use Rattle.signed_digit.specs.CanonicalForm.{canonical};
-ghost use Rattle.signed_digit.specs.Forms.{listing};
-ghost use Rattle.form_masks.specs.Value.{valueOf};
-ghost use Rattle.form_masks.specs.Weight.{weightOf};
-ghost use Rattle.fir_words.specs.Words.{refusalWord, formOf};
-ghost use Rattle.fir_forms.specs.Listing.{AnsweredWord};
+ghost use Rattle.fir_forms.specs.Form.{FormValuedWord, FormWeighedWord, InCanonicalFormWord};
+ghost use Rattle.fir_forms.specs.Listing.{FormsListedWord, FormsCountedWord};
 use fir_words::refusal_word;
 use form_listing::Listing;
 use form_masks::Form;
@@ -20,8 +10,7 @@ use form_masks::FormWeight;
 // The value of a form.
 #[no_mangle]
 pub extern "C" fn fir_form_value(plus: u32, minus: u32, value: &mut i64) -> u64
-    ensures answer { λ r. ⌜ r ≡ refusalWord (valueOf (formOf plus minus)) ⌝ }
-    ensures value { λ r. ⌜ now (value .exit) ≡ stored (valueOf (formOf plus minus)) (λ (v : ℤ). v) (now (value .entry)) ⌝ }
+    ensures { λ r. ⌜ FormValuedWord plus minus (now (value .entry)) r (now (value .exit)) ⌝ }
 {
     let answer = form_masks::value(Form { plus, minus });
     match answer {
@@ -36,8 +25,7 @@ pub extern "C" fn fir_form_value(plus: u32, minus: u32, value: &mut i64) -> u64
 // The weight of a form.
 #[no_mangle]
 pub extern "C" fn fir_form_weight(plus: u32, minus: u32, weight: &mut u32) -> u64
-    ensures answer { λ r. ⌜ r ≡ refusalWord (weightOf (formOf plus minus)) ⌝ }
-    ensures weight { λ r. ⌜ now (weight .exit) ≡ stored (weightOf (formOf plus minus)) (λ (w : ℕ). w) (now (weight .entry)) ⌝ }
+    ensures { λ r. ⌜ FormWeighedWord plus minus (now (weight .entry)) r (now (weight .exit)) ⌝ }
 {
     let answer = form_masks::weight(Form { plus, minus });
     match answer {
@@ -52,9 +40,7 @@ pub extern "C" fn fir_form_weight(plus: u32, minus: u32, weight: &mut u32) -> u6
 // The canonical form of a coefficient.
 #[no_mangle]
 pub extern "C" fn fir_canonical(n: i32, plus: &mut u32, minus: &mut u32) -> u64
-    ensures answer { λ r. ⌜ r ≡ 0 ⌝ }
-    ensures plus { λ r. ⌜ now (plus .exit) ≡ plusMask (canonical 32 n) ⌝ }
-    ensures minus { λ r. ⌜ now (minus .exit) ≡ minusMask (canonical 32 n) ⌝ }
+    ensures { λ r. ⌜ InCanonicalFormWord n r (now (plus .exit)) (now (minus .exit)) ⌝ }
 {
     let form = form_masks::canonical(n);
     *plus = form.plus;
@@ -70,7 +56,8 @@ pub extern "C" fn fir_minimal_forms(
     minus: &mut [u32],
     count: &mut u32,
 ) -> u64
-    ensures { λ r. ⌜ AnsweredWord n (now (plus .entry)) (now (minus .entry)) (now (count .entry)) r (now (plus .exit)) (now (minus .exit)) (now (count .exit)) ⌝ }
+    ensures { λ r. ⌜ FormsListedWord n (now (plus .entry)) (now (minus .entry)) (now (count .entry)) r
+        (now (plus .exit)) (now (minus .exit)) (now (count .exit)) ⌝ }
 {
     let answer = form_listing::minimal_forms(n, plus, minus);
     match answer {
@@ -85,8 +72,7 @@ pub extern "C" fn fir_minimal_forms(
 // The number of minimal forms of a coefficient.
 #[no_mangle]
 pub extern "C" fn fir_form_count(n: i32, count: &mut u32) -> u64
-    ensures answer { λ r. ⌜ r ≡ 0 ⌝ }
-    ensures count { λ r. ⌜ now (count .exit) ≡ length (listing 32 n) ⌝ }
+    ensures { λ r. ⌜ FormsCountedWord n r (now (count .exit)) ⌝ }
 {
     *count = form_listing::form_count(n);
     0

@@ -7,7 +7,6 @@ use mir.Val.{ofZ}
 use Rattle.refusal.specs.Answer.{Answer, given, refused}
 use Rattle.signed_digit.specs.Reduction.{positive, negative}
 use Rattle.coefficient.specs.Parts.{Parts, no-odd-part, parts}
-use Rattle.form_masks.specs.declared.Form.{Form}
 use Rattle.tap.specs.Rounding.{TapResult, wholeOf}
 
 -- document 01: "refusal number (0 for none) in the upper half, N's 32-bit pattern in the lower (0 when turned down)"
@@ -23,10 +22,6 @@ refusalWord (refused number place) = number * 4294967296 + place
 -- a flag that C hands over: 0 is no, any other number is yes
 abbrev pub isSet : ℕ → Bool
 isSet n = not (eqb n 0)
-
--- a form by its two masks
-abbrev pub formOf : ℕ → ℕ → Form
-formOf plus minus = record { plus = plus; minus = minus }
 
 -- the parts of a coefficient as numbers: a sign of 1 for negative, and 0 each where there is no odd part
 abbrev pub negativeIn : Parts → ℕ

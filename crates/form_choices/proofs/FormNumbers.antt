@@ -25,7 +25,7 @@ use Rattle.building.specs.Answer.{noSuchForm}
 
 -- the odd part of a coefficient is below 2^31
 pub split-small : (n : ℤ) → SFits w32 n → (r : Reduction) → partsIn (Split r) ≡ partsOf n → r .«odd_part» < 2 ^ 31
-split-small n f r e = answer-right n (Split r) e .bounds (i32-coefficient n f) .0
+split-small n f r e = answer-right n (partsIn (Split r)) (record { split = e }) .bounds (i32-coefficient n f) .0
 
 -- every odd part has a form
 some-form : (v : ℕ) → v ≤ 2 ^ 31 → 0 < length (listing 32 (pos v))

@@ -19,7 +19,7 @@ use Rattle.signed_digit.specs.Forms.{top, forms, listing}
 use Rattle.signed_digit.proofs.Strings.{small, opposite-bits}
 use Rattle.signed_digit.proofs.Forms.{sound}
 use Rattle.signed_digit.proofs.Listing.{listing-forms, listing-is}
-use Rattle.form_links.specs.Growth.{shifted}
+use Rattle.form_links.specs.Inner.{shifted}
 use Rattle.form_links.proofs.Growth.{grownIf}
 use Rattle.form_links.proofs.Lists.{raised}
 use Rattle.form_links.proofs.Steps.{two}

@@ -13,7 +13,7 @@ use Rattle.signed_digit.specs.CanonicalForm.{opposite, canonicalNat}
 use Rattle.signed_digit.specs.Forms.{listing}
 use Rattle.signed_digit.proofs.Strings.{small}
 use Rattle.signed_digit.proofs.CanonicalForm.{canonicalNat-places}
-use Rattle.form_links.specs.Links.{joined}
+use Rattle.form_links.specs.Inner.{joined}
 use Rattle.form_links.proofs.Passed.{passed-digit, more}
 use Rattle.form_links.proofs.Counts.{ofSide}
 use Rattle.form_links.proofs.Growth.{grownIf, if-rest}

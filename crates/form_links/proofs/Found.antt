@@ -9,14 +9,14 @@ use native.Mathlib.Omega.{arith}
 use Rattle.signed_digit.specs.Digit.{Digit, one, nought, minus-one, nonzero}
 use Rattle.signed_digit.specs.String.{DigitString}
 use Rattle.signed_digit.specs.Masks.{plusBit, minusBit}
-use Rattle.signed_digit.specs.CanonicalForm.{lowest, canonicalNat}
+use Rattle.signed_digit.specs.CanonicalForm.{lowestDigit, canonicalNat}
 use Rattle.signed_digit.specs.Forms.{top}
 use Rattle.signed_digit.proofs.Strings.{pad, pad-places, pad-mask}
 use Rattle.signed_digit.proofs.Same.{same-equal}
 use Rattle.signed_digit.proofs.Value.{values-eq}
 use Rattle.signed_digit.proofs.Canonical.{canonical-pad, canonical-unique}
 use Rattle.signed_digit.proofs.CanonicalForm.{canonicalNat-worth, canonicalNat-places, canonicalNat-canonical}
-use Rattle.form_links.specs.Links.{opposed, linksOf, joined, takes, takenLinks}
+use Rattle.form_links.specs.Inner.{opposed, linksOf, joined, takes, takenLinks}
 use Rattle.form_links.proofs.LinkMasks.{takes-small, taken-top, opposed-top}
 use Rattle.form_links.proofs.Spots.{Spot, Walked, Reads, startOf, past, coming, next-digit, past-less, coming-nought, coming-digit}
 use Rattle.form_links.proofs.Needed.{Sided, needed, needed-nought, needed-digit, needed-end, quiet-forms, quiet-sides}
@@ -280,4 +280,4 @@ module _ (p m : ℕ) (G : Digit → Spot → Type 0) (on : (d : Digit) (w : Spot
     where
       go : (y : ℕ) → w .rest ≡ y → ((d : Digit) (w : Spot) → G d w → w .rest ≤ i → Found d w ⊎ Ended d w) → Found d w ⊎ Ended d w
       go zero e ih = inr (at-the-end d w g e)
-      go (suc y) e ih = by-digit d w g (omega arith) i l ih (lowest (w .rest % 4)) (next-digit (w .rest))
+      go (suc y) e ih = by-digit d w g (omega arith) i l ih (lowestDigit (w .rest % 4)) (next-digit (w .rest))

@@ -6,7 +6,7 @@ use Prim.Native.Nat.{ℕ, zero, suc, _+_, _-_, _≤_, _<_}
 use native.Mathlib.Omega.{arith}
 use lib.ListN.{length, take-append-drop, take, drop, set, getD, length-append, length-take, length-drop, length-map}
 use lib.Seq.{length-take-le, take-at, drop-at, drop-drop}
-use Rattle.form_links.specs.Growth.{shifted, grown}
+use Rattle.form_links.specs.Inner.{shifted, grown}
 
 -- ---- the copies down to the element i are made
 abbrev pub Part : List ℕ → ℕ → ℕ → ℕ → ℕ → List ℕ → Type 0

@@ -11,7 +11,7 @@ use Rattle.signed_digit.specs.String.{DigitString}
 use Rattle.signed_digit.specs.Masks.{mask, plusBit, minusBit, plusMask, minusMask}
 use Rattle.signed_digit.specs.CanonicalForm.{opposite, negated}
 use Rattle.signed_digit.specs.Forms.{top}
-use Rattle.form_links.specs.Links.{opposed, alike, second, linksOf, joined, takes, takenLinks}
+use Rattle.form_links.specs.Inner.{opposed, alike, second, linksOf, joined, takes, takenLinks}
 
 -- ---- one binary digit at a time
 module _ (i j a b : ℕ) (h : i < 2) (k : j < 2) where

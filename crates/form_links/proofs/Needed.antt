@@ -9,9 +9,9 @@ use lib.IntN.{pos}
 use lib.ListN.{length}
 use Rattle.signed_digit.specs.Digit.{Digit, one, nought, minus-one, nonzero}
 use Rattle.signed_digit.specs.String.{DigitString}
-use Rattle.signed_digit.specs.CanonicalForm.{lowest, opposite, canonicalNat}
+use Rattle.signed_digit.specs.CanonicalForm.{lowestDigit, opposite, canonicalNat}
 use Rattle.signed_digit.specs.Forms.{listing}
-use Rattle.form_links.specs.Links.{opposed, joined, takes}
+use Rattle.form_links.specs.Inner.{opposed, joined, takes}
 use Rattle.form_links.proofs.Counts.{ofSide}
 use Rattle.form_links.proofs.LinkMasks.{joined-nought}
 use Rattle.form_links.proofs.Spots.{Spot, Walked, Reads, past, coming, next-digit, past-less, walked-past, walked-most, coming-nought, coming-digit}
@@ -150,6 +150,6 @@ module _ (p m : ℕ) (hm : 3 * m ≤ 2 * 2 ^ p) where
           go zero e ih = λ n. absurd (omega (arith, needed-end d w e))
           go (suc y) e ih =
               let h : 1 ≤ w .rest = omega arith in
-              let f = lowest (w .rest % 4) in
+              let f = lowestDigit (w .rest % 4) in
               let r = next-digit (w .rest) in
               digit-fits w W d S h f r (λ u. ih f (past f w) (walked-past p m w W h f r) (sided-past f w) (omega (arith, past-less f w r h)))

@@ -7,7 +7,7 @@ use mathlib.Core.Logic.{_⊎_, ⊎-elim}
 use Prim.Native.Nat.{ℕ, _+_, _*_, _-_, _≤_, _/_, _%_, _^_}
 use native.Mathlib.Omega.{arith}
 use lib.ListN.{length, take, length-append, length-map}
-use Rattle.form_links.specs.Growth.{shifted}
+use Rattle.form_links.specs.Inner.{shifted}
 use Rattle.form_links.proofs.Growth.{grownIf, if-front, if-all}
 
 abbrev pub plus : ℕ → ℕ → ℕ

@@ -10,7 +10,7 @@ use lib.ListN.{length}
 use Rattle.signed_digit.specs.Digit.{Digit, one, nought, minus-one, nonzero}
 use Rattle.signed_digit.specs.String.{DigitString}
 use Rattle.signed_digit.specs.Masks.{plusBit, minusBit}
-use Rattle.signed_digit.specs.CanonicalForm.{lowest, canonicalNat}
+use Rattle.signed_digit.specs.CanonicalForm.{lowestDigit, canonicalNat}
 use Rattle.signed_digit.specs.Forms.{listing}
 use Rattle.form_links.proofs.Passed.{Passed, passed-start, passed-nought, passed-digit, more}
 use Rattle.form_links.proofs.Counts.{Counts, counts-start, counts-room, counts-nought, counts-digit, counts-end}
@@ -55,10 +55,10 @@ Reads one y = y + 0 ≡ 4 * (y / 4) + 1
 Reads nought y = y ≡ 2 * (y / 2)
 Reads minus-one y = y + 1 ≡ 4 * (y / 4 + 1) + 0
 
-pub next-digit : (y : ℕ) → Reads (lowest (y % 4)) y
+pub next-digit : (y : ℕ) → Reads (lowestDigit (y % 4)) y
 next-digit y = go (y % 4) refl
   where
-    go : (r : ℕ) → y % 4 ≡ r → Reads (lowest r) y
+    go : (r : ℕ) → y % 4 ≡ r → Reads (lowestDigit r) y
     go zero e = omega arith
     go (suc zero) e = omega arith
     go (suc (suc zero)) e = omega arith
@@ -75,7 +75,7 @@ even-over : (k y : ℕ) → y ≡ 2 * (y / 2) → canonicalNat (suc k) y ≡ nou
 unfolding canonicalNat
 even-over k y r = go (y % 4) refl
   where
-    go : (x : ℕ) → y % 4 ≡ x → lowest x ∷ canonicalNat k ((y + minusBit (lowest x)) / 2) ≡ nought ∷ canonicalNat k (y / 2)
+    go : (x : ℕ) → y % 4 ≡ x → lowestDigit x ∷ canonicalNat k ((y + minusBit (lowestDigit x)) / 2) ≡ nought ∷ canonicalNat k (y / 2)
     go zero e = let q : (y + 0) / 2 ≡ y / 2 = omega arith in ap (λ (z : ℕ). nought ∷ canonicalNat k z) q
     go (suc zero) e = absurd (omega arith)
     go (suc (suc zero)) e = let q : (y + 0) / 2 ≡ y / 2 = omega arith in ap (λ (z : ℕ). nought ∷ canonicalNat k z) q
@@ -95,7 +95,7 @@ odd-over d k y y′ u r = go d (y % 4) refl u r
         even-over k z r ∙ ap (λ (i : ℕ). nought ∷ canonicalNat k i) q
 
     go : (d : Digit) (x : ℕ) → y % 4 ≡ x → nonzero d ≡ 1 → y + minusBit d ≡ 4 * y′ + plusBit d
-        → lowest x ∷ canonicalNat (suc k) ((y + minusBit (lowest x)) / 2) ≡ d ∷ nought ∷ canonicalNat k y′
+        → lowestDigit x ∷ canonicalNat (suc k) ((y + minusBit (lowestDigit x)) / 2) ≡ d ∷ nought ∷ canonicalNat k y′
     go one zero e u r = absurd (omega arith)
     go one (suc zero) e u r = ap (λ (s : DigitString). one ∷ s) (over ((y + 0) / 2) (omega arith))
     go one (suc (suc zero)) e u r = absurd (omega arith)
@@ -163,7 +163,7 @@ walked-most p m h w W = from (w .rest) w W (omega arith)
         go : (y : ℕ) → w .rest ≡ y → ((w : Spot) → Walked p m w → w .rest ≤ i → w .forms ≤ length (listing p (pos m))) → w .forms ≤ length (listing p (pos m))
         go zero e ih = omega (arith, walked-end p m w W h e)
         go (suc y) e ih =
-            let d = lowest (w .rest % 4) in
+            let d = lowestDigit (w .rest % 4) in
             let r = next-digit (w .rest) in
             let f = past-less d w r (omega arith) in
             omega (arith, ih (past d w) (walked-past p m w W (omega arith) d r) (omega arith))

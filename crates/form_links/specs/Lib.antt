@@ -1,2 +1,1 @@
-pub mod Growth
-pub mod Links
+pub mod Inner

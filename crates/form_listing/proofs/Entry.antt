@@ -1,33 +1,14 @@
--- What `minimal_forms` answers, by the lengths of its tables, and what it leaves where it refuses. Assumes nothing.
-use mathlib.Core.Path.{_≡_, ap, ap₂, sym, _∙_}
-use mathlib.Core.Bool.{Bool, true, _||_}
+-- What `minimal_forms` leaves where it refuses, and where it lists. Assumes nothing.
+use mathlib.Core.Path.{_≡_, ap, sym, _∙_}
 use mathlib.Core.List.{List, _++_, map}
-use Prim.Native.Nat.{ℕ, _≤_, _<_}
-use borrow.Author.Tests.{lt-ltb, le-ltb}
-use lib.Dec.{ltb}
+use Prim.Native.Nat.{ℕ, _≤_}
 use lib.IntN.{ℤ}
 use lib.ListN.{length, drop, length-map}
 use Rattle.refusal.specs.Answer.{Answer, given, refused, filled}
-use Rattle.refusal.proofs.Checks.{check-applies, check-passes}
 use Rattle.signed_digit.specs.String.{DigitString}
 use Rattle.signed_digit.specs.Forms.{listing}
-use Rattle.form_listing.specs.Listing.{formCount}
-
--- ---- the check 3
-module _ (n : ℤ) (p m : ℕ) where
-  short : ltb p 1597 || ltb m 1597 ≡ true → formCount n p m ≡ refused 3 0
-  unfolding formCount
-  short h = check-applies (ltb p 1597 || ltb m 1597) 3 (given (length (listing 32 n))) h
-
-  pub plus-short : p < 1597 → formCount n p m ≡ refused 3 0
-  plus-short h = short (ap (λ (b : Bool). b || ltb m 1597) (lt-ltb p 1597 h))
-
-  pub minus-short : 1597 ≤ p → m < 1597 → formCount n p m ≡ refused 3 0
-  minus-short h k = short (ap₂ (λ (a b : Bool). a || b) (le-ltb p 1597 h) (lt-ltb m 1597 k))
-
-  pub long-enough : 1597 ≤ p → 1597 ≤ m → formCount n p m ≡ given (length (listing 32 n))
-  unfolding formCount
-  long-enough h k = check-passes (ltb p 1597 || ltb m 1597) 3 (given (length (listing 32 n))) (ap₂ (λ (a b : Bool). a || b) (le-ltb p 1597 h) (le-ltb m 1597 k))
+use Rattle.signed_digit.specs.Listed.{formCount}
+use Rattle.signed_digit.proofs.FormCount.{long-enough}
 
 -- a table that a refusal leaves
 pub untouched : {A B : Type 0} (a : Answer A) (number place : ℕ) (results old : List B) → a ≡ refused number place → old ≡ filled a results old

@@ -19,14 +19,14 @@ use Rattle.signed_digit.proofs.Strings.{negated-is}
 use Rattle.signed_digit.proofs.Coefficients.{at-most-1597, canonical-32}
 use Rattle.form_masks.specs.declared.Form.{Form}
 use Rattle.form_masks.specs.Form.{formOf}
-use Rattle.form_links.specs.Growth.{grown}
+use Rattle.form_links.specs.Inner.{grown}
 use Rattle.form_links.proofs.Lists.{listing-negated, listing-length}
 use Rattle.form_links.proofs.Spots.{Spot, Walked, Reads, past, walked-end}
 use Rattle.form_links.proofs.Spots as Spots
 use Rattle.form_links.proofs.Needed.{Sided, needed}
 use Rattle.form_links.proofs.Filled.{Filled, firstOf, filled-start, filled-fits, filled-room, filled-nought, filled-digit, filled-end}
 use Rattle.form_walk.specs.declared.Walk.{Walk}
-use Rattle.form_walk.specs.Walk.{IsStart, skipOf, nextOf}
+use Rattle.form_walk.specs.Inner.{IsStart, skipOf, nextOf}
 use Rattle.form_walk.proofs.Stands.{At, AtLink, stands-start, at-link, at-end, skip-fits, digit, digit-nonzero, digit-read, some-left, next-fits, stands-next}
 use Rattle.form_walk.proofs.Counted.{small-enough, started}
 

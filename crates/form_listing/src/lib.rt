@@ -5,8 +5,9 @@ ghost use Prim.Native.Nat.{_+_, _-_, _≤_, _<_, _/_, _%_, _^_};
 ghost use lib.ListN.{length, drop};
 ghost use Rattle.signed_digit.specs.Masks.{plusMask, minusMask};
 ghost use Rattle.signed_digit.specs.Forms.{listing};
-ghost use Rattle.form_links.specs.Growth.{grown};
-ghost use Rattle.form_listing.specs.Listing.{answerOf, Answered};
+ghost use Rattle.signed_digit.specs.Listed.{FormsListed, FormsCounted};
+ghost use Rattle.form_links.specs.Inner.{grown};
+ghost use Rattle.form_listing.specs.Listing.{answerOf};
 use form_walk::Walk;
 use form_walk::next;
 use form_walk::skip;
@@ -46,7 +47,7 @@ fn widen(plus: &mut [u32], minus: &mut [u32], w: Walk)
 
 // The number of minimal forms of n.
 pub fn form_count(n: i32) -> u32
-    ensures { λ r. ⌜ r ≡ length (listing 32 n) ⌝ }
+    ensures { λ r. ⌜ FormsCounted n r ⌝ }
 {
     let mut w = start(form_masks::canonical(n));
     while w.links != 0 {
@@ -67,18 +68,18 @@ fn list(n: i32, plus: &mut [u32], minus: &mut [u32]) -> usize
     let first = form_masks::canonical(n);
     plus[0] = first.plus;
     minus[0] = first.minus;
-    let mut w = start(first);
-    while w.links != 0 {
-        w = skip(w);
-        widen(plus, minus, w);
-        w = next(w);
+    let mut walk = start(first);
+    while walk.links != 0 {
+        walk = skip(walk);
+        widen(plus, minus, walk);
+        walk = next(walk);
     }
-    w.forms
+    walk.forms
 }
 
 // The minimal forms of n, in order, in the front of the two tables.
 pub fn minimal_forms(n: i32, plus: &mut [u32], minus: &mut [u32]) -> Listing
-    ensures { λ r. ⌜ Answered n (answerOf r) (now (plus .entry)) (now (minus .entry)) (now (plus .exit)) (now (minus .exit)) ⌝ }
+    ensures { λ r. ⌜ FormsListed n (now (plus .entry)) (now (minus .entry)) (answerOf r) (now (plus .exit)) (now (minus .exit)) ⌝ }
 {
     if plus.len() < 1597 {
         return Listing::Refused(Refusal::ShortTable);

@@ -8,7 +8,7 @@ use native.Mathlib.Omega.{arith}
 use lib.Bits.{bitXor, xor-step, differ}
 use Rattle.signed_digit.specs.String.{DigitString}
 use Rattle.signed_digit.specs.Masks.{minusBit, plusMask, minusMask}
-use Rattle.signed_digit.specs.CanonicalForm.{lowest, canonicalNat}
+use Rattle.signed_digit.specs.CanonicalForm.{lowestDigit, canonicalNat}
 use Rattle.signed_digit.proofs.Strings.{small}
 use Rattle.signed_digit.proofs.CanonicalForm.{canonicalNat-worth, canonicalNat-places}
 
@@ -77,7 +77,7 @@ Tripled p = (n : ℕ) → 3 * n ≤ 2 * 2 ^ p → tripled 0 n ≡ 2 * nonzeros (
 
 -- by the remainder r that gives the lowest digit
 by-remainder : (p n r : ℕ) → n % 4 ≡ r → 3 * n ≤ 4 * 2 ^ p → Tripled p
-    → tripled 0 n ≡ 2 * nonzeros (lowest r ∷ canonicalNat p ((n + minusBit (lowest r)) / 2))
+    → tripled 0 n ≡ 2 * nonzeros (lowestDigit r ∷ canonicalNat p ((n + minusBit (lowestDigit r)) / 2))
 by-remainder p n zero e h ih =
     let m : ℕ = (n + 0) / 2 in
     let q : n ≡ 2 * m = omega arith in

@@ -1,5 +1,4 @@
--- Forms and strings, there and back: a form read back gives its string's value and weight, a string's form gives the string, and the
--- canonical form of a coefficient gives its digits and the coefficient. Assumes nothing.
+-- Forms and strings, there and back: a form read back gives its string's value and weight, and a string's form gives the string. Assumes nothing.
 use mathlib.Core.Path.{_≡_, sym, ap, ap₂, _∙_}
 use mathlib.Core.Bool.{Bool, true, false, cond}
 use Prim.Native.Nat.{ℕ, zero, suc, _+_, _-_, _<_, _^_}
@@ -7,7 +6,7 @@ use native.Mathlib.Omega.{arith}
 use lib.Bits.{bitAnd}
 use lib.Count.{ones}
 use lib.Dec.{ltb}
-use lib.IntN.{ℤ, pos, negsuc, _-ℤ_}
+use lib.IntN.{pos, negsuc, _-ℤ_}
 use lib.ListN.{length}
 use lib.Signed.{mag}
 use mir.Syntax.{w64}
@@ -17,14 +16,11 @@ use Rattle.signed_digit.specs.String.{DigitString}
 use Rattle.signed_digit.specs.Value.{value}
 use Rattle.signed_digit.specs.Weight.{weight}
 use Rattle.signed_digit.specs.Masks.{plusMask, minusMask, fromMasks}
-use Rattle.signed_digit.specs.CanonicalForm.{canonical}
-use Rattle.word.specs.Bounds.{Coefficient}
 use Rattle.signed_digit.proofs.Value.{value-masks}
 use Rattle.signed_digit.proofs.Masks.{masks-disjoint, masks-string, masks-weight, fromMasks-plus, fromMasks-minus}
-use Rattle.signed_digit.proofs.CanonicalForm.{canonical-places, canonical-value}
-use Rattle.word.proofs.Bounds.{coefficient-magnitude}
 use Rattle.form_masks.specs.declared.Form.{Form}
-use Rattle.form_masks.specs.Form.{formOf, stringOf, lowestIn, overlapIn}
+use Rattle.form_masks.specs.Form.{formOf, stringOf, overlapIn}
+use Rattle.form_masks.specs.Inner.{lowestIn}
 use Rattle.form_masks.specs.Value.{valueOf}
 use Rattle.form_masks.specs.Weight.{weightOf}
 use Rattle.form_masks.proofs.Overlap.{overlap-and, lowest-nowhere}
@@ -79,16 +75,3 @@ module _ (s : DigitString) (l : length s ≡ 32) where
   pub form-weight : weightOf (formOf s) ≡ given (weight s)
   unfolding weightOf
   form-weight = sym (disjoint (plusMask s) (minusMask s) (given (weight (stringOf (formOf s)))) (masks-disjoint s)) ∙ ap (λ (t : DigitString). given (weight t)) string-form
-
--- ---- the canonical form
--- a coefficient written as its canonical form gives its canonical digits
-pub canonical-digits : (n : ℤ) → stringOf (formOf (canonical 32 n)) ≡ canonical 32 n
-canonical-digits n = string-form (canonical 32 n) (canonical-places 32 n)
-
--- and read back it gives the coefficient
-pub canonical-read : (n : ℤ) → Coefficient n → valueOf (formOf (canonical 32 n)) ≡ given n
-canonical-read n c =
-    form-value (canonical 32 n) (canonical-places 32 n) ∙ ap given (canonical-value 32 n (omega (arith, coefficient-magnitude n c)))
-
-pub canonical-weighed : (n : ℤ) → weightOf (formOf (canonical 32 n)) ≡ given (weight (canonical 32 n))
-canonical-weighed n = form-weight (canonical 32 n) (canonical-places 32 n)

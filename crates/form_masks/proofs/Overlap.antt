@@ -1,9 +1,9 @@
 -- The lowest place in both of two masks is the lowest place that their bitwise and holds, and a mask that is not 0 holds one. Assumes nothing.
 use mathlib.Core.Path.{_≡_, refl, sym, ap, _∙_, subst}
 use mathlib.Core.Bool.{Bool, true, false, cond, _&&_}
-use mathlib.Core.Logic.{_≢_}
-use Prim.Native.Nat.{ℕ, zero, suc, _+_, _<_, _^_, _/_, _%_, min}
-use native.Mathlib.Nat.{pow-suc, zero-div, div-div-eq-div-mul}
+use mathlib.Core.Logic.{_≢_, _⊎_, inl, inr}
+use Prim.Native.Nat.{ℕ, zero, suc, _+_, _≤_, _<_, _^_, _/_, _%_, min}
+use native.Mathlib.Nat.{eq-or-lt-of-le, pow-suc, zero-div, div-div-eq-div-mul}
 use native.Mathlib.Omega.{arith}
 use native.Mathlib.Numerals.{add-one}
 use lib.Bits.{bitAnd, and-step, and-shr}
@@ -11,7 +11,9 @@ use lib.Dec.{eqb}
 use borrow.Author.Tests.{eq-eqb, ne-eqb}
 use Rattle.refusal.specs.Answer.{nowhere, at-place, lowestFrom}
 use Rattle.refusal.proofs.Checks.{lowest-alike}
-use Rattle.form_masks.specs.Form.{holds, placesFrom, lowestIn, overlapIn}
+use Rattle.signed_digit.specs.Masks.{holds}
+use Rattle.form_masks.specs.Form.{placesFrom, overlapIn}
+use Rattle.form_masks.specs.Inner.{lowestIn}
 
 both-one : (i j : ℕ) → i < 2 → j < 2 → eqb i 1 && eqb j 1 ≡ eqb (min i j) 1
 both-one zero zero h k = refl
@@ -37,6 +39,24 @@ overlap-and p x y = from 0 p
     from : (k p : ℕ) → lowestFrom k (λ (place : ℕ). holds x place && holds y place) (placesFrom k p) ≡ lowestFrom k (holds (bitAnd x y)) (placesFrom k p)
     from k zero = refl
     from k (suc p) = lowest-alike (λ (place : ℕ). holds x place && holds y place) (holds (bitAnd x y)) k k (placesFrom (suc k) p) (and-holds x y k) (from (suc k) p)
+
+-- a place that is in both, with none lower in both, is the lowest
+pub overlap-lowest : (x y p place : ℕ) → place < p → (holds x place && holds y place) ≡ true
+    → ((k : ℕ) → k < place → (holds x k && holds y k) ≡ false) → overlapIn p x y ≡ at-place place
+unfolding overlapIn lowestFrom
+overlap-lowest x y p place h b none = from 0 p (omega arith) (omega arith)
+  where
+    both : ℕ → Bool
+    both k = holds x k && holds y k
+
+    from : (k p : ℕ) → k ≤ place → place < k + p → lowestFrom k both (placesFrom k p) ≡ at-place place
+    from k zero l u = absurd (omega arith)
+    from k (suc p) l u = go (eq-or-lt-of-le l) (from (suc k) p)
+      where
+        go : (k ≡ place) ⊎ (k < place) → (suc k ≤ place → place < suc k + p → lowestFrom (suc k) both (placesFrom (suc k) p) ≡ at-place place)
+            → cond (both k) (at-place k) (lowestFrom (suc k) both (placesFrom (suc k) p)) ≡ at-place place
+        go (inl e) ih = ap (λ (t : Bool). cond t (at-place k) (lowestFrom (suc k) both (placesFrom (suc k) p))) (ap both e ∙ b) ∙ ap at-place e
+        go (inr m) ih = ap (λ (t : Bool). cond t (at-place k) (lowestFrom (suc k) both (placesFrom (suc k) p))) (none k m) ∙ ih (omega arith) (omega arith)
 
 module _ (x k p : ℕ) where
   opened : lowestFrom k (holds x) (placesFrom k (suc p)) ≡ cond (holds x k) (at-place k) (lowestFrom (suc k) (holds x) (placesFrom (suc k) p))

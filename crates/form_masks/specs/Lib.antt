@@ -1,3 +1,6 @@
 pub mod Form
 pub mod Value
 pub mod Weight
+pub mod Claims
+pub mod Figures
+pub mod Inner

@@ -5,8 +5,9 @@ ghost use mathlib.Core.Path.{_≡_};
 ghost use Prim.Native.Nat.{_≤_, _<_};
 ghost use lib.Count as Count;
 ghost use Rattle.refusal.specs.Answer.{at-place};
-ghost use Rattle.signed_digit.specs.CanonicalForm.{canonicalNat, canonical};
-ghost use Rattle.form_masks.specs.Form.{formOf, lowestIn};
+ghost use Rattle.signed_digit.specs.CanonicalForm.{canonicalNat};
+ghost use Rattle.form_masks.specs.Form.{formOf, InCanonicalForm};
+ghost use Rattle.form_masks.specs.Inner.{lowestIn};
 ghost use Rattle.form_masks.specs.Value as Value;
 ghost use Rattle.form_masks.specs.Weight as Weight;
 use refusal::Refusal;
@@ -62,7 +63,7 @@ fn lowest_one(x: u32) -> u32
 
 // The first mask minus the second.
 pub fn value(form: Form) -> FormValue
-    ensures { λ r. ⌜ Value.answerOf r ≡ Value.valueOf form ⌝ }
+    ensures { λ r. ⌜ Value.FormValued form (Value.answerOf r) ⌝ }
 {
     let both = form.plus & form.minus;
     if both != 0 {
@@ -73,7 +74,7 @@ pub fn value(form: Form) -> FormValue
 
 // The number of nonzero digits.
 pub fn weight(form: Form) -> FormWeight
-    ensures { λ r. ⌜ Weight.answerOf r ≡ Weight.weightOf form ⌝ }
+    ensures { λ r. ⌜ Weight.FormWeighed form (Weight.answerOf r) ⌝ }
 {
     let both = form.plus & form.minus;
     if both > 0 {
@@ -99,7 +100,7 @@ fn canonical_of(m: u64) -> Form
 // The canonical form of a coefficient. The form of a negative one is that of its magnitude with the
 // masks exchanged.
 pub fn canonical(n: i32) -> Form
-    ensures { λ r. ⌜ r ≡ formOf (canonical 32 n) ⌝ }
+    ensures { λ r. ⌜ InCanonicalForm n r ⌝ }
 {
     let form = canonical_of(word::magnitude(n) as u64);
     if n < 0 {

@@ -18,7 +18,7 @@ use Rattle.form_links.proofs.Spots.{Spot, Walked, Reads, past, walked-start, wa
 use Rattle.form_links.proofs.Spots as Spots
 use Rattle.form_links.proofs.Needed.{Sided, sided-past, needed}
 use Rattle.form_walk.specs.declared.Walk.{Walk}
-use Rattle.form_walk.specs.Walk.{IsStart, startOf, skipOf, nextOf}
+use Rattle.form_walk.specs.Inner.{IsStart, startOf, skipOf, nextOf}
 use Rattle.form_walk.proofs.Parts.{start-same}
 use Rattle.form_walk.proofs.Stands.{At, AtLink, stands-start, at-end, digit, digit-read, some-left, stands-next}
 

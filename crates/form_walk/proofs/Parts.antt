@@ -6,12 +6,12 @@ use lib.Bits.{bitAnd, bitOr, and-le-l, or-lt}
 use lib.IntN.{ℤ, pos, negsuc, natAbs}
 use Rattle.signed_digit.specs.CanonicalForm.{canonicalNat, canonical}
 use Rattle.form_masks.specs.declared.Form.{Form}
-use Rattle.form_links.specs.Links.{opposed, alike, linksOf, takenLinks}
+use Rattle.form_links.specs.Inner.{opposed, alike, linksOf, takenLinks}
 use Rattle.form_links.proofs.LinkMasks.{opposed-links, alike-links, taken-links, taken-small, opposed-negated, taken-negated}
 use Rattle.form_links.proofs.LookAhead.{four-times}
 use Rattle.form_walk.specs.declared.Chains.{Chains}
 use Rattle.form_walk.specs.declared.Walk.{Walk}
-use Rattle.form_walk.specs.Walk.{aheadOf, IsTaken, IsStart, startOf}
+use Rattle.form_walk.specs.Inner.{aheadOf, IsTaken, IsStart, startOf}
 
 -- two walks are the same by their numbers
 pub walk : {links links′ opposite opposite′ bit bit′ forms forms′ moved moved′ : ℕ} → links ≡ links′ → opposite ≡ opposite′ → bit ≡ bit′ → forms ≡ forms′ → moved ≡ moved′

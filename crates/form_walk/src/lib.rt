@@ -4,7 +4,7 @@ ghost use mathlib.Core.Path.{_≡_};
 ghost use mathlib.Core.Logic.{_≢_};
 ghost use mathlib.Core.Bool.{cond};
 ghost use Prim.Native.Nat.{_*_, _≤_, _<_, _^_};
-ghost use Rattle.form_walk.specs.Walk.{aheadOf, IsTaken, IsStart, skipOf, nextOf};
+ghost use Rattle.form_walk.specs.Inner.{aheadOf, IsTaken, IsStart, skipOf, nextOf};
 use form_masks::Form;
 
 // Two canonical digits that stand two places apart are linked. A form takes a link by moving its

@@ -10,7 +10,7 @@ use lib.ListN.{length, getD}
 use Rattle.refusal.specs.Answer.{Answer, given}
 use Rattle.signed_digit.specs.Forms.{listing}
 use Rattle.coefficient.specs.Parts.{Parts, no-odd-part, parts, partsOf}
-use Rattle.form_listing.proofs.Written.{minimal-forms-written}
+use Rattle.signed_digit.proofs.Claims.{digit-claims}
 use Rattle.network.specs.Rows.{Network, networkOf, rowWords, tapWords}
 use Rattle.building.specs.TapRows.{built}
 use Rattle.building.specs.Answer.{noSuchForm, buildAnswer, rowCount}
@@ -59,4 +59,4 @@ module _ (cs : List ℤ) (ks rows taps : List ℕ) (answer : Answer ℕ) (rows�
   guaranteed = record { accepts = left .answer ∙ ap rowCount accepted; holds = held; sums = sums }
 
 pub demand-3 : Demand3
-demand-3 = record { listings = minimal-forms-written; networks = guaranteed }
+demand-3 = record { listings = digit-claims .minimal-forms-written; networks = guaranteed }

@@ -8,9 +8,9 @@ use lib.ListN.{length, getD}
 use Rattle.refusal.specs.Answer.{Answer, given}
 use Rattle.word.specs.Bounds.{Coefficient}
 use Rattle.signed_digit.specs.Forms.{listing}
+use Rattle.signed_digit.specs.Listed.{FormsListed}
+use Rattle.signed_digit.specs.Claims.{Written}
 use Rattle.coefficient.specs.Parts.{Parts, no-odd-part, parts, partsOf}
-use Rattle.form_listing.specs.Listing.{Answered}
-use Rattle.form_listing.proofs.Written.{Written}
 use Rattle.network.specs.Rows.{networkOf, rowWords, tapWords}
 use Rattle.building.specs.TapRows.{built}
 use Rattle.builder.specs.Built.{BuiltInto}
@@ -44,8 +44,8 @@ pub record Guaranteed (coefficients : List ℤ) (choices : List ℕ) (answer : A
 pub record Demand3 : Type 0 where
   -- "For every 32-bit coefficient, a signed-digit string .. stands in the listing ..": of the mask tables that `minimal_forms` leaves and the count that it
   -- returns. "Its listing and its network are what the entries yield when no table lent to them is under its length."
-  pub listings : (n : ℤ) → Coefficient n → (answer : Answer ℕ) (plus minus plus′ minus′ : List ℕ) → 1597 ≤ length plus → 1597 ≤ length minus
-      → Answered n answer plus minus plus′ minus′ → Written n answer plus minus plus′ minus′
+  pub listings : (n : ℤ) → Coefficient n → (plus minus : List ℕ) (answer : Answer ℕ) (plus′ minus′ : List ℕ) → 1597 ≤ length plus → 1597 ≤ length minus
+      → FormsListed n plus minus answer plus′ minus′ → Written n plus minus answer plus′ minus′
   pub networks : (coefficients : List ℤ) (choices rows taps : List ℕ) (answer : Answer ℕ) (rows′ taps′ : List ℕ) → Taken coefficients choices
       → 4096 * rowWords ≤ length rows → 256 * tapWords ≤ length taps
       → BuiltInto coefficients choices rows taps answer rows′ taps′ → Guaranteed coefficients choices answer rows′ taps′

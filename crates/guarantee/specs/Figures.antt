@@ -5,7 +5,7 @@ use Prim.Native.Nat.{ℕ, _*_, _≤_}
 use lib.IntN.{ℤ, pos, negℤ}
 use lib.ListN.{length, replicate}
 use Rattle.refusal.specs.Answer.{Answer, given, refused}
-use Rattle.signed_digit.proofs.Figures.{Figures}
+use Rattle.signed_digit.specs.Figures.{Figures}
 use Rattle.tap.specs.Figures.{TapFigures}
 use Rattle.network.specs.Rows.{rowWords, tapWords}
 use Rattle.building.specs.TapRows.{built}
@@ -40,7 +40,7 @@ pub record SheetCalls : Type 0 where
   pub full-length : FullLength (acceptedCall (replicate 20465 0) (replicate 756 0) .call)
 
 pub record ProvedFigures : Type 0 where
-  -- "Forms of 45 .. in order", of 180, -45, 3, 11, 13, 0, 1, 2^31 - 1 and -2^31
+  -- "Forms of 45 .. in order", of 180, -45, 3, 11, 13, 0, 1, 2^31 - 1 and -2^31; and the tables that `minimal_forms` leaves for 45
   pub forms : Figures
   -- "0.625 at F = 2", and its neighbours
   pub taps : TapFigures

@@ -10,7 +10,7 @@ use Rattle.signed_digit.specs.String.{DigitString, digitAt}
 use Rattle.signed_digit.specs.Value.{value}
 use Rattle.signed_digit.specs.Canonical.{Canonical}
 use Rattle.signed_digit.specs.Masks.{plusBit, minusBit}
-use Rattle.signed_digit.specs.CanonicalForm.{lowest, canonicalNat, negated, canonical}
+use Rattle.signed_digit.specs.CanonicalForm.{lowestDigit, canonicalNat, negated, canonical}
 use Rattle.signed_digit.specs.Forms.{positivePart, negativePart}
 use Rattle.signed_digit.proofs.Strings.{bit, opposite-bits, negated-is, negated-digit}
 use Rattle.signed_digit.proofs.Value.{value-eq}
@@ -24,10 +24,10 @@ record Low (n : ℕ) (d : Digit) (m : ℕ) : Type 0 where
   left : m ≡ 2 * quarter + 2 * minusBit d + two
   alone : two + nonzero d ≤ 1
 
-low : (n : ℕ) → Low n (lowest (n % 4)) ((n + minusBit (lowest (n % 4))) / 2)
+low : (n : ℕ) → Low n (lowestDigit (n % 4)) ((n + minusBit (lowestDigit (n % 4))) / 2)
 low n = go (n % 4) refl
   where
-    go : (r : ℕ) → n % 4 ≡ r → Low n (lowest r) ((n + minusBit (lowest r)) / 2)
+    go : (r : ℕ) → n % 4 ≡ r → Low n (lowestDigit r) ((n + minusBit (lowestDigit r)) / 2)
     go zero e = record { quarter = n / 4; two = 0; number = omega arith; left = omega arith; alone = omega arith }
     go (suc zero) e = record { quarter = n / 4; two = 0; number = omega arith; left = omega arith; alone = omega arith }
     go (suc (suc zero)) e = record { quarter = n / 4; two = 1; number = omega arith; left = omega arith; alone = omega arith }
@@ -57,7 +57,7 @@ pub canonicalNat-worth : (p n : ℕ) → 3 * n ≤ 2 * 2 ^ p → Worth n 0 (cano
 unfolding canonicalNat
 canonicalNat-worth zero n h = omega arith
 canonicalNat-worth (suc p) n h =
-    let d : Digit = lowest (n % 4) in
+    let d : Digit = lowestDigit (n % 4) in
     let l = low n in
     let f = fits (l .quarter) (plusBit d) (minusBit d) (l .two) (2 ^ p) (omega (arith, bit d)) (omega (arith, pow-suc 2 p)) in
     omega (arith, canonicalNat-worth p ((n + minusBit d) / 2) (omega arith))
@@ -65,16 +65,16 @@ canonicalNat-worth (suc p) n h =
 pub canonicalNat-places : (p n : ℕ) → length (canonicalNat p n) ≡ p
 unfolding canonicalNat
 canonicalNat-places zero n = refl
-canonicalNat-places (suc p) n = ap suc (canonicalNat-places p ((n + minusBit (lowest (n % 4))) / 2))
+canonicalNat-places (suc p) n = ap suc (canonicalNat-places p ((n + minusBit (lowestDigit (n % 4))) / 2))
 
 pub canonicalNat-canonical : (p n : ℕ) → Canonical (canonicalNat p n)
 unfolding canonicalNat
 canonicalNat-canonical zero n i = omega arith
-canonicalNat-canonical (suc zero) n zero = omega (arith, bit (lowest (n % 4)))
+canonicalNat-canonical (suc zero) n zero = omega (arith, bit (lowestDigit (n % 4)))
 canonicalNat-canonical (suc (suc p)) n zero =
-    let m : ℕ = (n + minusBit (lowest (n % 4))) / 2 in
-    not-adjacent n m ((m + minusBit (lowest (m % 4))) / 2) (lowest (n % 4)) (lowest (m % 4)) (low n) (low m)
-canonicalNat-canonical (suc p) n (suc i) = canonicalNat-canonical p ((n + minusBit (lowest (n % 4))) / 2) i
+    let m : ℕ = (n + minusBit (lowestDigit (n % 4))) / 2 in
+    not-adjacent n m ((m + minusBit (lowestDigit (m % 4))) / 2) (lowestDigit (n % 4)) (lowestDigit (m % 4)) (low n) (low m)
+canonicalNat-canonical (suc p) n (suc i) = canonicalNat-canonical p ((n + minusBit (lowestDigit (n % 4))) / 2) i
 
 pub negated-canonical : (s : DigitString) → Canonical s → Canonical (negated s)
 negated-canonical s h i =

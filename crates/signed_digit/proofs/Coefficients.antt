@@ -14,9 +14,10 @@ use Rattle.signed_digit.specs.Listing.{Once, StandsIn}
 use Rattle.signed_digit.specs.Fibonacci.{fibonacci}
 use Rattle.signed_digit.specs.CanonicalForm.{canonical}
 use Rattle.signed_digit.specs.Forms.{listing}
+use Rattle.signed_digit.specs.Claims.{TheCanonical}
 use Rattle.signed_digit.proofs.Canonical.{canonical-weight}
 use Rattle.signed_digit.proofs.Fibonacci.{fibonacci-monotone}
-use Rattle.signed_digit.proofs.Listing.{CanonicalForm, listing-stands, listing-count, listing-bound, canonical-form}
+use Rattle.signed_digit.proofs.Listing.{listing-stands, listing-count, listing-bound, canonical-form}
 
 -- ---- 32 places
 module _ (n : ℤ) (h : natAbs n ≤ 2 ^ 31) where
@@ -26,7 +27,7 @@ module _ (n : ℤ) (h : natAbs n ≤ 2 ^ 31) where
   pub count-32 : (l : List DigitString) → Once l → ((s : DigitString) → StandsIn s l ↔ Minimal n s) → length l ≡ length (listing 32 n)
   count-32 = listing-count 31 n h
 
-  pub canonical-32 : CanonicalForm 32 n
+  pub canonical-32 : TheCanonical 32 n
   canonical-32 = canonical-form 32 n (omega arith)
 
   pub weight-32 : weight (canonical 32 n) ≤ 16

@@ -1,13 +1,16 @@
--- The statements to read first, Demand before all:
+-- The claims of specs/Claims.antt and the figures of specs/Figures.antt:
+pub mod Claims
+pub mod Figures
+-- What they rest on, and a caller's proof may cite too:
 pub mod Demand
+pub mod Written
+pub mod FormCount
 pub mod Coefficients
 pub mod Listing
 pub mod Order
 pub mod Canonical
 pub mod Masks
 pub mod Reduction
-pub mod Figures
--- What they rest on, and a caller's proof may cite too:
 pub mod Strings
 pub mod Same
 pub mod Value

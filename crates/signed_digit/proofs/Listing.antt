@@ -11,7 +11,6 @@ use lib.ListN.{length}
 use Rattle.signed_digit.specs.String.{DigitString}
 use Rattle.signed_digit.specs.Value.{value}
 use Rattle.signed_digit.specs.Weight.{weight}
-use Rattle.signed_digit.specs.Same.{Same}
 use Rattle.signed_digit.specs.Minimal.{Minimal}
 use Rattle.signed_digit.specs.Canonical.{Canonical}
 use Rattle.signed_digit.specs.Order.{Earlier}
@@ -19,6 +18,7 @@ use Rattle.signed_digit.specs.Listing.{Ordered, Once, StandsIn, IsListin
 use Rattle.signed_digit.specs.Fibonacci.{fibonacci}
 use Rattle.signed_digit.specs.CanonicalForm.{canonical}
 use Rattle.signed_digit.specs.Forms.{forms, positivePart, negativePart, listing}
+use Rattle.signed_digit.specs.Claims.{TheCanonical}
 use Rattle.signed_digit.proofs.Strings.{small}
 use Rattle.signed_digit.proofs.Same.{same-equal}
 use Rattle.signed_digit.proofs.Value.{value-eq, values-eq}
@@ -134,15 +134,8 @@ listing-first p n c l h v = at-head c (listing p n) (listing-is p n .ordered) (l
         let o = listing-is p n .only t m .1 in
         canonical-first c t h (minimal-lightest n t .0 o .1) (values-eq t c .0 (o .has-value ∙ sym v)) e
 
--- ---- the canonical form: there is one, and no other, leading zeros aside; it is minimal, and it is first
-pub record CanonicalForm (p : ℕ) (n : ℤ) : Type 0 where
-  pub places : length (canonical p n) ≡ p
-  pub is-canonical : Canonical (canonical p n)
-  pub minimal : Minimal n (canonical p n)
-  pub only : (s : DigitString) → Canonical s → value s ≡ n → Same s (canonical p n)
-  pub first : (rest : List DigitString) × (listing p n ≡ canonical p n ∷ rest)
-
-pub canonical-form : (p : ℕ) (n : ℤ) → 3 * natAbs n ≤ 2 * 2 ^ p → CanonicalForm p n
+-- ---- the canonical form
+pub canonical-form : (p : ℕ) (n : ℤ) → 3 * natAbs n ≤ 2 * 2 ^ p → TheCanonical p n
 canonical-form p n h =
     let c : DigitString = canonical p n in
     let k = canonical-canonical p n in

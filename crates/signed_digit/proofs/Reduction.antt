@@ -86,11 +86,6 @@ reduction (pos (suc m)) h = reduced positive (suc m) (pos (suc m)) (omega arith)
 reduction (negsuc m) h = reduced negative (suc m) (negsuc m) (omega arith) (record { above = refl; under = refl })
 
 -- ---- in one way only
-pub record SameReduction {n : ℤ} (r q : Reduction n) : Type 0 where
-  pub sign : r .sign ≡ q .sign
-  pub oddPart : r .oddPart ≡ q .oddPart
-  pub shift : r .shift ≡ q .shift
-
 signed-of : {n : ℤ} (r : Reduction n) → Signed (r .sign) (r .oddPart * 2 ^ r .shift) n
 signed-of r =
     let p = product-signed (r .sign) (r .oddPart) (r .shift) in
@@ -106,17 +101,13 @@ same-sign negative negative m n i s t = refl
 same-sign positive negative m n i s t = absurd (omega (arith, s .above, t .above))
 same-sign negative positive m n i s t = absurd (omega (arith, s .above, t .above))
 
-pub reduction-unique : (n : ℤ) (r q : Reduction n) → SameReduction r q
-reduction-unique n r q =
+pub reduction-only : (n : ℤ) (r q : Reduction n) → (r .sign ≡ q .sign) × (r .oddPart ≡ q .oddPart) × (r .shift ≡ q .shift)
+reduction-only n r q =
     let m : ℕ = r .oddPart * 2 ^ r .shift in
     let e = magnitude (r .sign) m n (signed-of r) ∙ sym (magnitude (q .sign) (q .oddPart * 2 ^ q .shift) n (signed-of q)) in
     let s = one-odd-part (r .oddPart) (q .oddPart) (r .shift) (q .shift) (r .odd) (q .odd) e in
     let t = subst (λ (x : ℕ). Signed (q .sign) x n) (sym e) (signed-of q) in
-    record {
-      sign = same-sign (r .sign) (q .sign) m n (at-least-one (r .oddPart) (r .shift) (r .odd)) (signed-of r) t;
-      oddPart = s .0;
-      shift = s .1;
-    }
+    (same-sign (r .sign) (q .sign) m n (at-least-one (r .oddPart) (r .shift) (r .odd)) (signed-of r) t, s .0, s .1)
 
 -- Document 01: "Zero has no odd part."
 pub zero-irreducible : Reduction (pos 0) → ⊥

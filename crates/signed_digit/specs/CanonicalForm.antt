@@ -1,5 +1,5 @@
 -- The canonical string of a number over p places, worked out from the low end. Contracts cite it. A reader need not believe it:
--- `canonical-form` (proofs/Listing) shows that it is the one canonical string of its value.
+-- `canonical-form` (specs/Claims) says that it is the one canonical string of its value.
 use Prim.Native.Nat.{ℕ, zero, suc, _+_, _/_, _%_}
 use mathlib.Core.List.{[], _∷_}
 use lib.IntN.{ℤ, pos, negsuc}
@@ -8,16 +8,16 @@ use Rattle.signed_digit.specs.String.{DigitString}
 use Rattle.signed_digit.specs.Masks.{minusBit}
 
 -- the lowest digit, by the number's remainder by 4
-abbrev pub lowest : ℕ → Digit
-lowest zero = nought
-lowest (suc zero) = one
-lowest (suc (suc zero)) = nought
-lowest (suc (suc (suc r))) = minus-one
+abbrev pub lowestDigit : ℕ → Digit
+lowestDigit zero = nought
+lowestDigit (suc zero) = one
+lowestDigit (suc (suc zero)) = nought
+lowestDigit (suc (suc (suc r))) = minus-one
 
 -- of a natural number
 unfoldable pub canonicalNat : ℕ → ℕ → DigitString
 canonicalNat zero n = []
-canonicalNat (suc p) n = lowest (n % 4) ∷ canonicalNat p ((n + minusBit (lowest (n % 4))) / 2)
+canonicalNat (suc p) n = lowestDigit (n % 4) ∷ canonicalNat p ((n + minusBit (lowestDigit (n % 4))) / 2)
 
 -- the digit of the opposite value
 abbrev pub opposite : Digit → Digit

@@ -1,5 +1,5 @@
 -- The listing of a number over p places, worked out from the high end. Contracts cite it. A reader need not believe it:
--- `listing-is` and `listing-unique` (proofs/Listing) show that it is the listing, and that no other list is.
+-- `listing-is` and `listing-unique` (specs/Claims) say that it is the listing, and that no other list is.
 use Prim.Native.Nat.{ℕ, zero, suc, _+_, _^_}
 use mathlib.Core.Bool.{Bool, true, false}
 use mathlib.Core.List.{List, [], _∷_, _++_, map}

@@ -1,4 +1,3 @@
--- What a reader has to believe of digit strings and the listing, in document 01's words:
 pub mod Digit
 pub mod String
 pub mod Value
@@ -11,6 +10,8 @@ pub mod Listing
 pub mod Masks
 pub mod Reduction
 pub mod Fibonacci
--- What contracts cite besides, and the theorems vouch for:
 pub mod CanonicalForm
 pub mod Forms
+pub mod Listed
+pub mod Claims
+pub mod Figures

@@ -1,6 +1,8 @@
 -- Document 01: "A form is stored as two 32-bit masks: places holding 1 and places holding -1."
-use Prim.Native.Nat.{ℕ, zero, suc, _+_, _*_, _/_, _%_}
+use Prim.Native.Nat.{ℕ, zero, suc, _+_, _*_, _/_, _%_, _^_}
+use mathlib.Core.Bool.{Bool}
 use mathlib.Core.List.{[], _∷_}
+use lib.Dec.{eqb}
 use Rattle.signed_digit.specs.Digit.{Digit, one, nought, minus-one}
 use Rattle.signed_digit.specs.String.{DigitString}
 
@@ -26,6 +28,10 @@ plusMask s = mask plusBit s
 -- the places holding -1
 abbrev pub minusMask : DigitString → ℕ
 minusMask s = mask minusBit s
+
+-- whether a mask holds a place
+abbrev pub holds : ℕ → ℕ → Bool
+holds mask place = eqb (mask / 2 ^ place % 2) 1
 
 -- the digit of a place, by its bits in the two masks
 abbrev pub digitOf : ℕ → ℕ → Digit

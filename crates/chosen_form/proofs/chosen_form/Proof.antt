@@ -23,7 +23,7 @@ returns : tie.Need-returns
 returns c =
     let s = c .before .before in
     let v = s .args .v in
-    c .canonical .ensures
+    c .canonical .ensures .masks
     ∙ ap (λ (z : ℤ). formOf (canonical 32 z)) (toZ-ofZ w32 (pos v) (record { sfits = s .pre .0 }))
     ∙ ap formOf (first-chosen v (omega (arith, s .pre .0)))
     ∙ ap (λ (k : ℕ). formOf (chosenForm v k)) (sym (c .before .if1 .taken))

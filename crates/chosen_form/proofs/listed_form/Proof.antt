@@ -12,7 +12,7 @@ use Rattle.signed_digit.specs.String.{DigitString}
 use Rattle.signed_digit.specs.Masks.{plusMask, minusMask}
 use Rattle.signed_digit.specs.Forms.{listing}
 use Rattle.signed_digit.proofs.Coefficients.{at-most-1597}
-use Rattle.form_listing.specs.Listing.{formCount}
+use Rattle.signed_digit.specs.Listed.{formCount}
 use Rattle.building.specs.Chain.{chosenForm}
 use Rattle.chosen_form.proofs.Listed.{listed}
 use Rattle.chosen_form.proofs.listed_form.Statement.{statement}

@@ -7,7 +7,7 @@ use Rattle.coefficient.proofs.reduce.Tie as tie
 
 returns : tie.Need-returns
 unfolding partsOf
-returns c = rw (zero-word (c .before .args .n) (c .before .fits .n) (c .if1 .taken))
+returns c = record { split = rw (zero-word (c .before .args .n) (c .before .fits .n) (c .if1 .taken)) }
 
 magnitude-requires : tie.Need-magnitude-requires
 magnitude-requires c κs = search needs
@@ -20,7 +20,7 @@ shr-odd-part c =
 returns-2 : tie.Need-returns-2
 returns-2 c =
     let s = c .before .before in
-    parts-32 (s .args .n) (s .fits .n) (c .before .if1 .left) (c .magnitude .result) (c .magnitude .ensures)
+    record { split = parts-32 (s .args .n) (s .fits .n) (c .before .if1 .left) (c .magnitude .result) (c .magnitude .ensures) }
 
 pub reduce-spec : {M : Type 1} → statement M
 reduce-spec = tie.close (tie.spec returns magnitude-requires shr-odd-part returns-2)

@@ -28,14 +28,24 @@ enum-known-answer-2 c = search needs
 returns : tie.Need-returns
 returns c =
     let k = c .before .before .before .before in
-    let e = ap answerOf (sym (c .before .before .answer .given .1)) ∙ k .value .ensures in
-    (c .refusal-word .ensures ∙ ap refusalWord e, ap (kept (k .before .args .value .now)) e)
+    let e = ap answerOf (c .before .before .answer .given .1) in
+    record {
+      answer = answerOf (k .value .result);
+      word = c .refusal-word .ensures ∙ sym (ap refusalWord e);
+      value = sym (ap (kept (k .before .args .value .now)) e);
+      valued = k .value .ensures;
+    }
 
 returns-2 : tie.Need-returns-2
 returns-2 c =
     let k = c .before .before .before in
-    let e = ap answerOf (sym (c .before .answer2 .given .1)) ∙ k .value .ensures in
-    (ap refusalWord e, toZ-ofZ w64 (c .before .answer2 .given .0 .0) (record { sfits = c .known-told2 .given .0 .1 }) ∙ ap (kept (k .before .args .value .now)) e)
+    let e = ap answerOf (c .before .answer2 .given .1) in
+    record {
+      answer = answerOf (k .value .result);
+      word = sym (ap refusalWord e);
+      value = toZ-ofZ w64 (c .before .answer2 .given .0 .0) (record { sfits = c .known-told2 .given .0 .1 }) ∙ sym (ap (kept (k .before .args .value .now)) e);
+      valued = k .value .ensures;
+    }
 
 pub fir-form-value-spec : {M : Type 1} → statement M
 fir-form-value-spec =

@@ -26,14 +26,24 @@ enum-known-answer-2 c = search needs
 returns : tie.Need-returns
 returns c =
     let k = c .before .before .before .before in
-    let e = ap answerOf (sym (c .before .before .answer .given .1)) ∙ k .weight .ensures in
-    (c .refusal-word .ensures ∙ ap refusalWord e, ap (kept (k .before .args .weight .now)) e)
+    let e = ap answerOf (c .before .before .answer .given .1) in
+    record {
+      answer = answerOf (k .weight .result);
+      word = c .refusal-word .ensures ∙ sym (ap refusalWord e);
+      weight = sym (ap (kept (k .before .args .weight .now)) e);
+      weighed = k .weight .ensures;
+    }
 
 returns-2 : tie.Need-returns-2
 returns-2 c =
     let k = c .before .before .before in
-    let e = ap answerOf (sym (c .before .answer2 .given .1)) ∙ k .weight .ensures in
-    (ap refusalWord e, ap (kept (k .before .args .weight .now)) e)
+    let e = ap answerOf (c .before .answer2 .given .1) in
+    record {
+      answer = answerOf (k .weight .result);
+      word = sym (ap refusalWord e);
+      weight = sym (ap (kept (k .before .args .weight .now)) e);
+      weighed = k .weight .ensures;
+    }
 
 pub fir-form-weight-spec : {M : Type 1} → statement M
 fir-form-weight-spec =

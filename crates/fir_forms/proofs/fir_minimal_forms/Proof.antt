@@ -6,7 +6,8 @@ use lib.IntN.{ℤ}
 use mir.Syntax.{w32}
 use mir.ValLaws.{toZ-ofZ}
 use Rattle.refusal.specs.Answer.{Answer, stored}
-use Rattle.form_listing.specs.Listing.{answerOf, Answered}
+use Rattle.signed_digit.specs.Listed.{FormsListed}
+use Rattle.form_listing.specs.Listing.{answerOf}
 use Rattle.fir_words.specs.Words.{refusalWord}
 use Rattle.fir_forms.proofs.fir_minimal_forms.Statement.{statement}
 use Rattle.fir_forms.proofs.fir_minimal_forms.Tie as tie
@@ -42,7 +43,7 @@ returns c =
       answer = answerOf (k .minimal-forms .result);
       word = c .refusal-word .ensures ∙ sym (ap refusalWord e);
       form-count = sym (ap (kept (a .count .now)) e);
-      answered = subst (λ (z : ℤ). Answered z (answerOf (k .minimal-forms .result)) (a .plus .now) (a .minus .now) (k .minimal-forms .last .1 .0) (k .minimal-forms .last .1 .1 .0)) (toZ-ofZ w32 (a .n) (s .fits .n)) (k .minimal-forms .ensures);
+      listed = subst (λ (z : ℤ). FormsListed z (a .plus .now) (a .minus .now) (answerOf (k .minimal-forms .result)) (k .minimal-forms .last .1 .0) (k .minimal-forms .last .1 .1 .0)) (toZ-ofZ w32 (a .n) (s .fits .n)) (k .minimal-forms .ensures);
     }
 
 same-length-3 : tie.Need-same-length-3
@@ -61,7 +62,7 @@ returns-2 c =
       answer = answerOf (k .minimal-forms .result);
       word = sym (ap refusalWord e);
       form-count = sym (ap (kept (a .count .now)) e);
-      answered = subst (λ (z : ℤ). Answered z (answerOf (k .minimal-forms .result)) (a .plus .now) (a .minus .now) (k .minimal-forms .last .1 .0) (k .minimal-forms .last .1 .1 .0)) (toZ-ofZ w32 (a .n) (s .fits .n)) (k .minimal-forms .ensures);
+      listed = subst (λ (z : ℤ). FormsListed z (a .plus .now) (a .minus .now) (answerOf (k .minimal-forms .result)) (k .minimal-forms .last .1 .0) (k .minimal-forms .last .1 .1 .0)) (toZ-ofZ w32 (a .n) (s .fits .n)) (k .minimal-forms .ensures);
     }
 
 pub fir-minimal-forms-spec : {M : Type 1} → statement M

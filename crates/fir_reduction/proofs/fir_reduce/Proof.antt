@@ -1,12 +1,13 @@
 -- `fir_reduction::fir_reduce` meets its contract. Assumes nothing.
 use borrow.Author.Needs.{needs}
-use mathlib.Core.Path.{_≡_, refl, sym, ap, _∙_}
+use mathlib.Core.Path.{_≡_, refl, sym, ap, _∙_, subst}
 use mathlib.Core.Bool.{Bool, true, false}
 use Prim.Native.Nat.{ℕ}
+use lib.IntN.{ℤ}
 use mir.Syntax.{w32}
 use mir.Val.{boolByte}
 use mir.ValLaws.{toZ-ofZ}
-use Rattle.coefficient.specs.Parts.{parts, partsOf, partsIn, signIf}
+use Rattle.coefficient.specs.Parts.{parts, partsIn, signIf, ReducedTo}
 use Rattle.fir_words.specs.Words.{negativeIn, oddPartIn, shiftIn}
 use Rattle.fir_reduction.proofs.fir_reduce.Statement.{statement}
 use Rattle.fir_reduction.proofs.fir_reduce.Tie as tie
@@ -31,16 +32,31 @@ returns : tie.Need-returns
 returns c =
     let r = c .before .before in
     let s = r .before in
-    let e = ap partsIn (sym (c .enum-told .given .1)) ∙ r .reduce .ensures ∙ ap partsOf (toZ-ofZ w32 (s .args .n) (s .fits .n)) in
-    (refl, (ap negativeIn e, (ap oddPartIn e, ap shiftIn e)))
+    let e = ap partsIn (c .enum-told .given .1) in
+    record {
+      answer = partsIn (r .reduce .result);
+      word = refl;
+      negative = sym (ap negativeIn e);
+      odd-part = sym (ap oddPartIn e);
+      shift = sym (ap shiftIn e);
+      reduced = subst (λ (n : ℤ). ReducedTo n (partsIn (r .reduce .result))) (toZ-ofZ w32 (s .args .n) (s .fits .n)) (r .reduce .ensures);
+    }
 
 returns-2 : tie.Need-returns-2
 returns-2 c =
     let m = c .before .before in
     let r = m .before .before in
     let s = r .before in
-    let e = ap partsIn (sym (m .reduction .given .1)) ∙ r .reduce .ensures ∙ ap partsOf (toZ-ofZ w32 (s .args .n) (s .fits .n)) in
-    (refl, (byte-of (m .reduction .given .0 .0 .negative) (m .reduction .given .0 .0 .«odd_part») (m .reduction .given .0 .0 .shift) ∙ ap negativeIn e, (ap oddPartIn e, ap shiftIn e)))
+    let e = ap partsIn (m .reduction .given .1) in
+    let q = m .reduction .given .0 .0 in
+    record {
+      answer = partsIn (r .reduce .result);
+      word = refl;
+      negative = byte-of (q .negative) (q .«odd_part») (q .shift) ∙ sym (ap negativeIn e);
+      odd-part = sym (ap oddPartIn e);
+      shift = sym (ap shiftIn e);
+      reduced = subst (λ (n : ℤ). ReducedTo n (partsIn (r .reduce .result))) (toZ-ofZ w32 (s .args .n) (s .fits .n)) (r .reduce .ensures);
+    }
 
 pub fir-reduce-spec : {M : Type 1} → statement M
 fir-reduce-spec =

@@ -17,7 +17,7 @@ use Rattle.form_choices.proofs.has_form.Tie as tie
 
 -- what `reduce` gave
 reduced : (c : tie.After-reduce) → partsIn (c .reduce .result) ≡ partsOf (c .before .before .args .n)
-reduced c = let s = c .before .before in c .reduce .ensures ∙ ap partsOf (toZ-ofZ w32 (s .args .n) (s .fits .n))
+reduced c = let s = c .before .before in c .reduce .ensures .split ∙ ap partsOf (toZ-ofZ w32 (s .args .n) (s .fits .n))
 
 -- where there is an odd part
 split : (c : tie.After-reduction) → partsIn (Split (c .reduction .given .0 .0)) ≡ partsOf (c .before .before .before .before .args .n)
@@ -55,7 +55,7 @@ returns-3 c =
     let r = w .reduction .given .0 .0 in
     let s = w .before .before .before .before in
     counted-choice (partsOf (s .args .n)) (signIf (r .negative)) (r .«odd_part») (r .shift) (s .args .choice) (c .form-count .result) (split w)
-    (c .form-count .ensures ∙ ap (λ (z : ℤ). length (listing 32 z)) (toZ-ofZ w32 (pos (r .«odd_part»)) (record { sfits = small w })))
+    (c .form-count .ensures .number ∙ ap (λ (z : ℤ). length (listing 32 z)) (toZ-ofZ w32 (pos (r .«odd_part»)) (record { sfits = small w })))
 
 pub has-form-spec : {M : Type 1} → statement M
 has-form-spec =

@@ -41,7 +41,7 @@ start-requires c κs = search needs
 loop-holds : tie.Need-loop-holds Inv-loop μ-loop
 loop-holds c =
     let s = c .before .before in
-    count-start (given s) (bounded s) (c .before .canonical .result) (c .before .canonical .ensures) (c .start .result) (c .start .ensures)
+    count-start (given s) (bounded s) (c .before .canonical .result) (c .before .canonical .ensures .masks) (c .start .result) (c .start .ensures)
 
 skip-requires : tie.Need-skip-requires Inv-loop μ-loop
 skip-requires c κs =
@@ -77,14 +77,14 @@ counted c =
     let o = c .before .before .before .loop in
     count-end (given s) (bounded s) (o .w) (o .inv) (c .before .if1 .left) ∙ ap (λ (z : ℤ). length (listing 32 z)) (same s)
 
+returns : tie.Need-returns Inv-loop μ-loop
+returns c = record { number = counted c }
+
 cast-result : tie.Need-cast-result Inv-loop μ-loop
 cast-result c =
     let s = c .before .before .before .before .before .before in
     let e = counted c in
     record { fits = omega (arith, e, at-most-1597 (s .args .n) (coefficient-magnitude (s .args .n) (i32-coefficient (s .args .n) (s .fits .n)))) }
-
-returns : tie.Need-returns Inv-loop μ-loop
-returns c = counted c
 
 pub form-count-spec : {M : Type 1} → statement M
 form-count-spec =

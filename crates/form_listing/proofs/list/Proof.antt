@@ -19,10 +19,10 @@ use Rattle.form_listing.proofs.list.Tie as tie
 
 -- where the tables are ready, the walk stands on its way
 abbrev Inv-loop : tie.InvT-loop
-Inv-loop n plus₀ minus₀ w₀ plus minus w = (R : Ready (toZ w32 n) plus₀ minus₀) → Listing (toZ w32 n) plus₀ minus₀ R plus minus w
+Inv-loop n plus₀ minus₀ walk₀ plus minus walk = (R : Ready (toZ w32 n) plus₀ minus₀) → Listing (toZ w32 n) plus₀ minus₀ R plus minus walk
 
 abbrev μ-loop : tie.MeasureT-loop
-μ-loop n plus₀ minus₀ w₀ plus minus w = w .links
+μ-loop n plus₀ minus₀ walk₀ plus minus walk = walk .links
 
 -- n as the machine hands it on
 abbrev given : tie.Start Inv-loop μ-loop → ℤ
@@ -44,7 +44,23 @@ minus-start c = set (c .before .before .before .args .minus .now) 0 (c .canonica
 are-ready : (c : tie.After-canonical Inv-loop μ-loop) → Ready (given (c .before .before .before)) (plus-start c) (minus-start c)
 are-ready c =
     let s = c .before .before .before in
-    ready (given s) (bounded s) (c .canonical .result) (c .canonical .ensures) (s .args .plus .now) (s .args .minus .now) (s .pre .0) (s .pre .1)
+    ready (given s) (bounded s) (c .canonical .result) (c .canonical .ensures .masks) (s .args .plus .now) (s .args .minus .now) (s .pre .0) (s .pre .1)
+
+returns : tie.Need-returns Inv-loop μ-loop
+returns c =
+    let k = c .before .before .before .before in
+    let s = k .before .before .before in
+    let o = c .before .before .loop in
+    let n = given s in
+    let e = list-end n (plus-start k) (minus-start k) (are-ready k) (o .plus) (o .minus) (o .walk) (o .inv (are-ready k)) (c .if1 .left) in (
+      e .0 ∙ ap (λ (z : ℤ). length (listing 32 z)) (same s),
+      (
+        e .1 ∙ ap (λ (t : List ℕ). map plusMask (listing 32 n) ++ t) (past-front n (bounded s) (s .args .plus .now) (k .canonical .result .plus))
+            ∙ ap (λ (z : ℤ). map plusMask (listing 32 z) ++ drop (length (listing 32 z)) (s .args .plus .now)) (same s),
+        e .2 ∙ ap (λ (t : List ℕ). map minusMask (listing 32 n) ++ t) (past-front n (bounded s) (s .args .minus .now) (k .canonical .result .minus))
+            ∙ ap (λ (z : ℤ). map minusMask (listing 32 z) ++ drop (length (listing 32 z)) (s .args .minus .now)) (same s),
+      ),
+    )
 
 canonical-requires : tie.Need-canonical-requires Inv-loop μ-loop
 canonical-requires c κs = search needs
@@ -61,13 +77,13 @@ start-requires c κs = search needs
 loop-holds : tie.Need-loop-holds Inv-loop μ-loop
 loop-holds c R =
     let k = c .before in
-    list-start (given (k .before .before .before)) (plus-start k) (minus-start k) R (k .canonical .result) (k .canonical .ensures) (c .start .result) (c .start .ensures)
+    list-start (given (k .before .before .before)) (plus-start k) (minus-start k) R (k .canonical .result) (k .canonical .ensures .masks) (c .start .result) (c .start .ensures)
 
 skip-requires : tie.Need-skip-requires Inv-loop μ-loop
 skip-requires c κs =
     let k = c .before .before .before .before in
     let o = c .before .before .loop in
-    list-skip (given (k .before .before .before)) (plus-start k) (minus-start k) (are-ready k) (o .plus) (o .minus) (o .w) (o .inv (are-ready k)) (c .if1 .taken)
+    list-skip (given (k .before .before .before)) (plus-start k) (minus-start k) (are-ready k) (o .plus) (o .minus) (o .walk) (o .inv (are-ready k)) (c .if1 .taken)
 
 widen-requires : tie.Need-widen-requires Inv-loop μ-loop
 widen-requires c κs =
@@ -75,7 +91,7 @@ widen-requires c κs =
     let o = c .before .before .before .before .before .loop in
     let v = c .before .before .skip in
     widen-fits (given (k .before .before .before)) (plus-start k) (minus-start k) (are-ready k) (o .plus) (o .minus) (v .result)
-    (list-link (given (k .before .before .before)) (plus-start k) (minus-start k) (are-ready k) (o .plus) (o .minus) (o .w) (o .inv (are-ready k)) (c .before .before .before .if1 .taken) (v .result) (v .ensures))
+    (list-link (given (k .before .before .before)) (plus-start k) (minus-start k) (are-ready k) (o .plus) (o .minus) (o .walk) (o .inv (are-ready k)) (c .before .before .before .if1 .taken) (v .result) (v .ensures))
 
 next-requires : tie.Need-next-requires Inv-loop μ-loop
 next-requires c κs =
@@ -83,13 +99,13 @@ next-requires c κs =
     let o = c .before .before .before .before .before .before .before .before .before .before .loop in
     let v = c .before .before .before .before .before .before .before .skip in
     link-fits (given (k .before .before .before)) (plus-start k) (minus-start k) (are-ready k) (o .plus) (o .minus) (v .result)
-    (list-link (given (k .before .before .before)) (plus-start k) (minus-start k) (are-ready k) (o .plus) (o .minus) (o .w) (o .inv (are-ready k)) (c .before .before .before .before .before .before .before .before .if1 .taken) (v .result) (v .ensures))
+    (list-link (given (k .before .before .before)) (plus-start k) (minus-start k) (are-ready k) (o .plus) (o .minus) (o .walk) (o .inv (are-ready k)) (c .before .before .before .before .before .before .before .before .if1 .taken) (v .result) (v .ensures))
 
 loop-less : tie.Need-loop-less Inv-loop μ-loop
 loop-less c =
     let o = c .before .before .before .before .before .before .before .before .before .before .before .loop in
     let v = c .before .before .before .before .before .before .before .before .skip in
-    fewer (o .w) (v .result) (c .next .result) (c .before .before .before .before .before .before .before .before .before .if1 .taken) (v .ensures) (c .next .ensures)
+    fewer (o .walk) (v .result) (c .next .result) (c .before .before .before .before .before .before .before .before .before .if1 .taken) (v .ensures) (c .next .ensures)
 
 loop-again : tie.Need-loop-again Inv-loop μ-loop
 loop-again c R =
@@ -98,38 +114,22 @@ loop-again c R =
     let v = c .before .before .before .before .before .before .before .before .skip in
     let x = c .before .before .before .before .before .widen in
     list-next (given (k .before .before .before)) (plus-start k) (minus-start k) R (o .plus) (o .minus) (v .result)
-    (list-link (given (k .before .before .before)) (plus-start k) (minus-start k) R (o .plus) (o .minus) (o .w) (o .inv R) (c .before .before .before .before .before .before .before .before .before .if1 .taken) (v .result) (v .ensures))
+    (list-link (given (k .before .before .before)) (plus-start k) (minus-start k) R (o .plus) (o .minus) (o .walk) (o .inv R) (c .before .before .before .before .before .before .before .before .before .if1 .taken) (v .result) (v .ensures))
     (c .next .result) (x .last .0) (x .last .1 .0) (c .next .ensures) (x .ensures .0) (x .ensures .1)
 
 same-length : tie.Need-same-length Inv-loop μ-loop
 same-length c =
     let k = c .before .before .before .before in
     let o = c .before .before .loop in
-    same-lengths (given (k .before .before .before)) (plus-start k) (minus-start k) (are-ready k) (o .plus) (o .minus) (o .w) (o .inv (are-ready k)) .0
+    same-lengths (given (k .before .before .before)) (plus-start k) (minus-start k) (are-ready k) (o .plus) (o .minus) (o .walk) (o .inv (are-ready k)) .0
     ∙ length-set (k .before .before .before .args .plus .now) 0 (k .canonical .result .plus)
 
 same-length-2 : tie.Need-same-length-2 Inv-loop μ-loop
 same-length-2 c =
     let k = c .before .before .before .before in
     let o = c .before .before .loop in
-    same-lengths (given (k .before .before .before)) (plus-start k) (minus-start k) (are-ready k) (o .plus) (o .minus) (o .w) (o .inv (are-ready k)) .1
+    same-lengths (given (k .before .before .before)) (plus-start k) (minus-start k) (are-ready k) (o .plus) (o .minus) (o .walk) (o .inv (are-ready k)) .1
     ∙ length-set (k .before .before .before .args .minus .now) 0 (k .canonical .result .minus)
-
-returns : tie.Need-returns Inv-loop μ-loop
-returns c =
-    let k = c .before .before .before .before in
-    let s = k .before .before .before in
-    let o = c .before .before .loop in
-    let n = given s in
-    let e = list-end n (plus-start k) (minus-start k) (are-ready k) (o .plus) (o .minus) (o .w) (o .inv (are-ready k)) (c .if1 .left) in (
-      e .0 ∙ ap (λ (z : ℤ). length (listing 32 z)) (same s),
-      (
-        e .1 ∙ ap (λ (t : List ℕ). map plusMask (listing 32 n) ++ t) (past-front n (bounded s) (s .args .plus .now) (k .canonical .result .plus))
-            ∙ ap (λ (z : ℤ). map plusMask (listing 32 z) ++ drop (length (listing 32 z)) (s .args .plus .now)) (same s),
-        e .2 ∙ ap (λ (t : List ℕ). map minusMask (listing 32 n) ++ t) (past-front n (bounded s) (s .args .minus .now) (k .canonical .result .minus))
-            ∙ ap (λ (z : ℤ). map minusMask (listing 32 z) ++ drop (length (listing 32 z)) (s .args .minus .now)) (same s),
-      ),
-    )
 
 pub list-spec : {M : Type 1} → statement M
 list-spec =

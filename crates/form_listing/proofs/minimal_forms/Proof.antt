@@ -10,8 +10,9 @@ use Rattle.signed_digit.specs.Masks.{plusMask, minusMask}
 use Rattle.signed_digit.specs.Forms.{listing}
 use Rattle.word.proofs.Bounds.{i32-coefficient, coefficient-magnitude}
 use Rattle.signed_digit.proofs.Coefficients.{at-most-1597}
+use Rattle.signed_digit.proofs.FormCount.{plus-short, minus-short}
 use Rattle.form_listing.proofs.Machine.{read-once}
-use Rattle.form_listing.proofs.Entry.{plus-short, minus-short, untouched, answered, left}
+use Rattle.form_listing.proofs.Entry.{untouched, answered, left}
 use borrow.Author.Needs.{needs}
 use Rattle.form_listing.proofs.minimal_forms.Statement.{statement}
 use Rattle.form_listing.proofs.minimal_forms.Tie as tie
@@ -28,9 +29,6 @@ returns-2 c =
     let e = minus-short (s .args .n) (length (s .args .plus .now)) (length (s .args .minus .now)) (omega (arith, c .before .if1 .left)) (omega (arith, c .if2 .taken)) in
     record { count = sym e; plus-table = untouched _ 3 0 _ (s .args .plus .now) e; minus-table = untouched _ 3 0 _ (s .args .minus .now) e }
 
-list-requires : tie.Need-list-requires
-list-requires c κs = search needs
-
 -- the number of forms, of n itself
 counted : (c : tie.After-slice-known4) → c .before .before .before .before .list .result ≡ length (listing 32 (c .before .before .before .before .before .before .before .before .before .before .before .args .n))
 counted c =
@@ -41,18 +39,6 @@ counted c =
 table : (s : tie.Start) (f : DigitString → ℕ) (t new : List ℕ) (z : ℤ) → z ≡ s .args .n → new ≡ map f (listing 32 z) ++ drop (length (listing 32 z)) t
     → new ≡ map f (listing 32 (s .args .n)) ++ drop (length (listing 32 (s .args .n))) t
 table s f t new z e h = h ∙ ap (λ (i : ℤ). map f (listing 32 i) ++ drop (length (listing 32 i)) t) e
-
-cast-t12 : tie.Need-cast-t12
-cast-t12 c =
-    let s = c .before .before .before .before .before .before .before .before .before .before .before in
-    let e = counted c in
-    record { fits = omega (arith, e, at-most-1597 (s .args .n) (coefficient-magnitude (s .args .n) (i32-coefficient (s .args .n) (s .fits .n)))) }
-
-same-length : tie.Need-same-length
-same-length c = search needs
-
-same-length-2 : tie.Need-same-length-2
-same-length-2 c = search needs
 
 returns-3 : tie.Need-returns-3
 returns-3 c =
@@ -68,6 +54,21 @@ returns-3 c =
       plus-table = left (s .args .n) P M hp hm plusMask P (l .last .1 .0) (table s plusMask P (l .last .1 .0) _ k (l .ensures .1 .0));
       minus-table = left (s .args .n) P M hp hm minusMask M (l .last .1 .1 .0) (table s minusMask M (l .last .1 .1 .0) _ k (l .ensures .1 .1));
     }
+
+list-requires : tie.Need-list-requires
+list-requires c κs = search needs
+
+cast-t12 : tie.Need-cast-t12
+cast-t12 c =
+    let s = c .before .before .before .before .before .before .before .before .before .before .before in
+    let e = counted c in
+    record { fits = omega (arith, e, at-most-1597 (s .args .n) (coefficient-magnitude (s .args .n) (i32-coefficient (s .args .n) (s .fits .n)))) }
+
+same-length : tie.Need-same-length
+same-length c = search needs
+
+same-length-2 : tie.Need-same-length-2
+same-length-2 c = search needs
 
 pub minimal-forms-spec : {M : Type 1} → statement M
 minimal-forms-spec =

@@ -2,7 +2,7 @@
 use mathlib.Core.Path.{_≡_, ap, _∙_}
 use Prim.Native.Nat.{ℕ, _+_, _-_, _≤_, _<_, _/_, _%_, _^_}
 use native.Mathlib.Omega.{arith}
-use Rattle.form_links.specs.Growth.{grown}
+use Rattle.form_links.specs.Inner.{grown}
 use borrow.Author.Needs.{needs}
 use Rattle.form_listing.proofs.widen.Statement.{statement}
 use Rattle.form_listing.proofs.widen.Tie as tie

@@ -43,12 +43,12 @@ canonical-of-requires c κs =
 returns : tie.Need-returns
 returns c =
     let s = c .before .before .before in
-    ap exchanged (form (c .before)) ∙ canonical-negative (s .args .n) (tested s _ (c .if1 .taken))
+    record { masks = ap exchanged (form (c .before)) ∙ canonical-negative (s .args .n) (tested s _ (c .if1 .taken)) }
 
 returns-2 : tie.Need-returns-2
 returns-2 c =
     let s = c .before .before .before in
-    form (c .before) ∙ canonical-not-negative (s .args .n) (tested s _ (c .if1 .left))
+    record { masks = form (c .before) ∙ canonical-not-negative (s .args .n) (tested s _ (c .if1 .left)) }
 
 pub canonical-spec : {M : Type 1} → statement M
 canonical-spec =

@@ -35,7 +35,7 @@ returns : tie.Need-returns
 unfolding valueOf
 returns c =
     let form = c .before .before .before .args .form in
-    overlapping (form .plus) (form .minus) (given (value (stringOf form))) (c .lowest-one .result) (c .lowest-one .ensures)
+    record { valued = overlapping (form .plus) (form .minus) (given (value (stringOf form))) (c .lowest-one .result) (c .lowest-one .ensures) }
 
 cast-t6 : tie.Need-cast-t6
 cast-t6 c = search needs
@@ -50,8 +50,11 @@ returns-2 c =
     let hx : form .plus < 2 ^ 32 = omega arith in
     let hy : form .minus < 2 ^ 32 = omega arith in
     let z = c .before .before .if1 .left in
-    ap given (toZ-ofZ w64 _ (fits form hx hy) ∙ difference (form .plus) (form .minus) hx hy ∙ sym (string-value form hx hy z))
-    ∙ disjoint (form .plus) (form .minus) (given (value (stringOf form))) z
+    record {
+      valued =
+          ap given (toZ-ofZ w64 _ (fits form hx hy) ∙ difference (form .plus) (form .minus) hx hy ∙ sym (string-value form hx hy z))
+          ∙ disjoint (form .plus) (form .minus) (given (value (stringOf form))) z;
+    }
 
 sub-t8 : tie.Need-sub-t8
 sub-t8 c =

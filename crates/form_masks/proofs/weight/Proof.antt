@@ -20,7 +20,7 @@ returns : tie.Need-returns
 unfolding weightOf
 returns c =
     let form = c .before .before .before .args .form in
-    overlapping (form .plus) (form .minus) (given (weight (stringOf form))) (c .lowest-one .result) (c .lowest-one .ensures)
+    record { weighed = overlapping (form .plus) (form .minus) (given (weight (stringOf form))) (c .lowest-one .result) (c .lowest-one .ensures) }
 
 ones-requires : tie.Need-ones-requires
 ones-requires c κs = search needs
@@ -40,8 +40,11 @@ unfolding weightOf
 returns-2 c =
     let form = c .before .before .before .before .args .form in
     let z : bitAnd (form .plus) (form .minus) ≡ 0 = omega (arith, c .before .before .if1 .left) in
-    ap given (ap₂ (λ (x y : ℕ). x + y) (c .before .ones .ensures) (c .ones2 .ensures) ∙ sym (string-weight form (omega arith) (omega arith) z))
-    ∙ disjoint (form .plus) (form .minus) (given (weight (stringOf form))) z
+    record {
+      weighed =
+          ap given (ap₂ (λ (x y : ℕ). x + y) (c .before .ones .ensures) (c .ones2 .ensures) ∙ sym (string-weight form (omega arith) (omega arith) z))
+          ∙ disjoint (form .plus) (form .minus) (given (weight (stringOf form))) z;
+    }
 
 pub weight-spec : {M : Type 1} → statement M
 weight-spec =

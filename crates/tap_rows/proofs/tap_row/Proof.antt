@@ -15,7 +15,7 @@ start c = c .before .before .before .before
 
 -- what `reduce` gave
 reduced : (c : tie.After-reduce) → partsIn (c .reduce .result) ≡ partsOf (start c .args .coefficient)
-reduced c = let s = start c in c .reduce .ensures ∙ ap partsOf (toZ-ofZ w32 (s .args .coefficient) (s .fits .coefficient))
+reduced c = let s = start c in c .reduce .ensures .split ∙ ap partsOf (toZ-ofZ w32 (s .args .coefficient) (s .fits .coefficient))
 
 reduce-requires : tie.Need-reduce-requires
 reduce-requires c κs = search needs

@@ -2,6 +2,7 @@
 use mathlib.Core.Path.{_≡_, sym, ap, _∙_}
 use Prim.Native.Nat.{_-_, _≤_}
 use borrow.Author.Needs.{needs}
+use native.Mathlib.Omega.{arith}
 use lib.IntN.{pos}
 use lib.ListN.{length, take, getD}
 use lib.Seq.{take-length}
@@ -35,7 +36,7 @@ returns c =
     let l = t .before in
     let h = l .before .args .h .now in
     let n = nonzero-word (getD h (l .loop .end - 1) (pos 0)) (c .if1 .taken) in
-    sym (end-here h (l .loop .end) (t .loop-test .taken) (l .loop .inv .0) n) ∙ l .loop .inv .1
+    record { past-last = sym (end-here h (l .loop .end) (t .loop-test .taken) (l .loop .inv .0) n) ∙ l .loop .inv .1 }
 
 sub-end : tie.Need-sub-end Inv-loop μ-loop
 sub-end c = search needs
@@ -54,7 +55,8 @@ loop-again c =
 returns-2 : tie.Need-returns-2 Inv-loop μ-loop
 returns-2 c =
     let l = c .before in
-    sym (end-none (l .before .args .h .now) (l .loop .end) (c .loop-test .left)) ∙ l .loop .inv .1
+    let z : l .loop .end ≡ 0 = omega (arith, c .loop-test .left) in
+    record { past-last = z ∙ sym (end-none (l .before .args .h .now) (l .loop .end) (c .loop-test .left)) ∙ l .loop .inv .1 }
 
 pub end-of-nonzero-spec : {M : Type 1} → statement M
 end-of-nonzero-spec =

@@ -30,7 +30,7 @@ returns c =
     let t = c .before .before in
     let l = t .before in
     let h = l .before .args .h .now in
-    sym (first-here h (l .loop .i) (t .loop-test .taken) (nonzero-word (getD h (l .loop .i) (pos 0)) (c .if1 .taken))) ∙ l .loop .inv .1
+    record { first = sym (first-here h (l .loop .i) (t .loop-test .taken) (nonzero-word (getD h (l .loop .i) (pos 0)) (c .if1 .taken))) ∙ l .loop .inv .1 }
 
 add-i : tie.Need-add-i Inv-loop μ-loop
 add-i c = search needs
@@ -49,7 +49,7 @@ loop-again c =
 returns-2 : tie.Need-returns-2 Inv-loop μ-loop
 returns-2 c =
     let l = c .before in
-    sym (first-none (l .before .args .h .now) (l .loop .i) (c .loop-test .left)) ∙ l .loop .inv .1
+    record { first = sym (first-none (l .before .args .h .now) (l .loop .i) (c .loop-test .left)) ∙ l .loop .inv .1 }
 
 pub first-nonzero-spec : {M : Type 1} → statement M
 first-nonzero-spec =

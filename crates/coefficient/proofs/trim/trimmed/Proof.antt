@@ -1,6 +1,8 @@
 -- `coefficient::trimmed` meets its contract: the places found are in order and within the slice. Assumes nothing.
 use borrow.Author.Needs.{needs}
+use mathlib.Core.Path.{ap, ap₂}
 use native.Mathlib.Omega.{arith}
+use Rattle.coefficient.specs.Stretch.{stretch, further}
 use Rattle.coefficient.proofs.TheStretch.{trimmed-is}
 use Rattle.coefficient.proofs.trim.trimmed.Statement.{statement}
 use Rattle.coefficient.proofs.trim.trimmed.Tie as tie
@@ -24,7 +26,12 @@ part-result-end : tie.Need-part-result-end
 part-result-end c = let t = trimmed-is (c .before .before .args .h .now) in omega (arith, t .within)
 
 returns : tie.Need-returns
-returns c = rw (c .before .before .first-nonzero .ensures, c .before .end-of-nonzero .ensures)
+returns c =
+    let s = c .before .before .before .args .h in
+    record {
+      contents = ap₂ (stretch (s .now)) (c .before .before .first-nonzero .ensures .first) (c .before .end-of-nonzero .ensures .past-last);
+      place = ap (further (s .ptr)) (c .before .before .first-nonzero .ensures .first);
+    }
 
 pub trimmed-spec : {M : Type 1} → statement M
 trimmed-spec =
