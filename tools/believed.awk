@@ -127,10 +127,11 @@ function read_file(file, why, i) {
 # Whether a file is another, or imports one that leads to it.
 function leads(file, other, i) {
     if (file == other) return 1
-    if ((file, other) in tried) return 0
-    tried[file, other] = 1
-    for (i = 1; i <= edges[file]; i++) if (leads(edge[file, i], other)) return 1
-    return 0
+    if (!((file, other) in led)) {
+        led[file, other] = 0
+        for (i = 1; i <= edges[file]; i++) if (leads(edge[file, i], other)) led[file, other] = 1
+    }
+    return led[file, other]
 }
 
 # An entry, or its function for C: it has one ensures, which is the relation, and no requires.
@@ -163,7 +164,7 @@ function names_of(row, text, n, i, t, file, folder) {
     file = ""
     for (i = 1; i <= n; i++) {
         t = token[i]
-        if (t ~ /^[a-z_]+\/(specs|proofs)\/[A-Za-z_\/]+\.antt$/) {
+        if (t ~ /^[a-z_]+\/(specs|proofs)\/[A-Za-z0-9_\/]+\.antt$/) {
             file = "crates/" t
             if (!(file in exists)) wrong("STATEMENTS, line " row ": no file " t)
         } else if (t ~ /^[a-z_]+::[a-z_]+(::[a-z_]+)*$/) {
