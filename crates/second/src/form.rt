@@ -1,5 +1,6 @@
 // The least weight of a number and how many strings have it, from the high end: of the number x made
 // of the bits passed, and of x + 1.
+ghost use Rattle.second.specs.Second.{LeastFound};
 
 pub struct Minimal {
     pub weight: u32,
@@ -27,7 +28,9 @@ fn of_odd(below: Minimal, above: Minimal) -> Minimal {
 }
 
 // Of a magnitude of 32 bits.
-pub fn least(magnitude: u32) -> Minimal {
+pub fn least(magnitude: u32) -> Minimal
+    ensures { λ r. ⌜ LeastFound magnitude (r .weight) (r .count) ⌝ }
+{
     let mut bit: u32 = 2147483648;
     let mut here = Minimal {
         weight: 0,

@@ -1,0 +1,45 @@
+-- What the second implementation promises. The crates that it is compared with are not named here. Definitions only.
+use mathlib.Core.Path.{_≡_}
+use mathlib.Core.Bool.{Bool, false}
+use mathlib.Core.List.{List, [], foldl}
+use Prim.Native.Nat.{ℕ, _≤_, _<_}
+use lib.IntN.{pos}
+use lib.Ieee.{Float, fin, binary64, add}
+
+-- +0
+abbrev pub nought : Float
+nought = fin false 0 (pos 0)
+
+-- the contract of `form::least`
+pub record LeastFound (magnitude weight count : ℕ) : Type 0 where
+  pub zero-weight : magnitude ≡ 0 → weight ≡ 0
+  pub zero-count : magnitude ≡ 0 → count ≡ 1
+
+-- the contract of `tap::round`, over the refusal number (0 for none), the sign and the magnitude of N:
+-- refusal 4 exactly where F is above 31, else none, 5 or 6; N within the bounds, and 0 where it is refused
+pub record Rounding (f refusal : ℕ) (negative : Bool) (size : ℕ) : Type 0 where
+  pub four-above : 31 < f → refusal ≡ 4
+  pub four-only : refusal ≡ 4 → 31 < f
+  pub lowest-number : 0 < refusal → 4 ≤ refusal
+  pub highest-number : refusal ≤ 6
+  pub least-bound : size ≤ 2147483648
+  pub greatest-bound : negative ≡ false → size ≤ 2147483647
+  pub refused-size : 0 < refusal → size ≡ 0
+
+-- the contract of `tap::sum`: from +0 in order, each addition rounded once
+pub record Summed (taps : List Float) (s : Float) : Type 0 where
+  pub sum : s ≡ foldl (add binary64) nought taps
+
+-- the contract of `tap::largest_leftover`
+pub record LargestFound (taps : List Float) (leftover : Float) : Type 0 where
+  pub no-taps : taps ≡ [] → leftover ≡ nought
+
+-- the contract of `tap::refusal_of_set`, over the number of taps:
+-- 1, 2 and 4 in this order, each exactly where it applies, else none, 5, 6 or 7; the place of a tap
+pub record SetJudged (count f refusal place : ℕ) : Type 0 where
+  pub no-taps : count ≡ 0 → refusal ≡ 1
+  pub too-many : 256 < count → refusal ≡ 2
+  pub fraction : 0 < count → count ≤ 256 → 31 < f → refusal ≡ 4
+  pub lowest-number : 0 < count → count ≤ 256 → f ≤ 31 → 0 < refusal → 5 ≤ refusal
+  pub highest-number : refusal ≤ 7
+  pub tap-place : 0 < place → place < count
