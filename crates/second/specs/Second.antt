@@ -1,23 +1,47 @@
 -- What the second implementation promises. The crates that it is compared with are not named here. Definitions only.
 use mathlib.Core.Path.{_≡_}
-use mathlib.Core.Bool.{Bool, false}
+use mathlib.Core.Bool.{Bool, false, cond}
 use mathlib.Core.List.{List, [], foldl}
-use Prim.Native.Nat.{ℕ, _≤_, _<_}
+use Prim.Native.Nat.{ℕ, zero, suc, _+_, _/_, _%_, _≤_, _<_}
+use lib.Dec.{ltb}
 use lib.IntN.{pos}
 use lib.Ieee.{Float, fin, binary64, add}
+use Rattle.second.specs.declared.form.Minimal.{Minimal}
 
 -- +0
 abbrev pub nought : Float
 nought = fin false 0 (pos 0)
 
+-- the least weight of the number 2m + 1, and how many strings have it, by those of m and of m + 1:
+-- its lowest digit is 1 over a string of m, or -1 over a string of m + 1
+unfoldable pub ofOdd : Minimal → Minimal → Minimal
+ofOdd a b =
+    cond (ltb (a .weight) (b .weight)) (record { weight = a .weight + 1; count = a .count })
+    (cond (ltb (b .weight) (a .weight)) (record { weight = b .weight + 1; count = b .count })
+    (record { weight = a .weight + 1; count = a .count + b .count }))
+
+-- those of a number and of the next
+pub record Both : Type 0 where
+  pub this : Minimal
+  pub next : Minimal
+
+-- by those of the number's half, and its lowest bit: an even number has the strings of its half
+unfoldable pub withBit : ℕ → Both → Both
+withBit zero h = record { this = h .this; next = ofOdd (h .this) (h .next) }
+withBit (suc b) h = record { this = ofOdd (h .this) (h .next); next = h .next }
+
+-- those of a number m of n bits and of m + 1: 0 has the string without a nonzero digit, and 1 one of weight 1
+unfoldable pub leastBoth : ℕ → ℕ → Both
+leastBoth zero m = record { this = record { weight = 0; count = 1 }; next = record { weight = 1; count = 1 } }
+leastBoth (suc n) m = withBit (m % 2) (leastBoth n (m / 2))
+
 -- the contract of `form::least`
-pub record LeastFound (magnitude weight count : ℕ) : Type 0 where
-  pub zero-weight : magnitude ≡ 0 → weight ≡ 0
-  pub zero-count : magnitude ≡ 0 → count ≡ 1
+pub record LeastFound (magnitude : ℕ) (found : Minimal) : Type 0 where
+  pub least : found ≡ leastBoth 32 magnitude .this
 
 -- the contract of `tap::round`, over the refusal number (0 for none), the sign and the magnitude of N:
 -- refusal 4 exactly where F is above 31, else none, 5 or 6; N within the bounds, and 0 where it is refused
-pub record Rounding (f refusal : ℕ) (negative : Bool) (size : ℕ) : Type 0 where
+pub record RoundedByDigits (f refusal : ℕ) (negative : Bool) (size : ℕ) : Type 0 where
   pub four-above : 31 < f → refusal ≡ 4
   pub four-only : refusal ≡ 4 → 31 < f
   pub lowest-number : 0 < refusal → 4 ≤ refusal

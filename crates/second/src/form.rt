@@ -1,6 +1,8 @@
 // The least weight of a number and how many strings have it, from the high end: of the number x made
 // of the bits passed, and of x + 1.
-ghost use Rattle.second.specs.Second.{LeastFound};
+ghost use mathlib.Core.Path.{_≡_};
+ghost use Prim.Native.Nat.{_+_, _≤_};
+ghost use Rattle.second.specs.Second.{ofOdd, LeastFound};
 
 pub struct Minimal {
     pub weight: u32,
@@ -8,28 +10,31 @@ pub struct Minimal {
 }
 
 // Of an odd number, by the halves of its two neighbours.
-fn of_odd(below: Minimal, above: Minimal) -> Minimal {
+fn of_odd(below: Minimal, above: Minimal) -> Minimal
+    requires { ⌜ ((below .weight ≤ 33) × (above .weight ≤ 33)) × (below .count + above .count ≤ 4294967295) ⌝ }
+    ensures { λ r. ⌜ r ≡ ofOdd below above ⌝ }
+{
     if below.weight < above.weight {
         return Minimal {
-            weight: std::num::wrapping_add_u32(below.weight, 1),
+            weight: below.weight + 1,
             count: below.count,
         };
     }
     if above.weight < below.weight {
         return Minimal {
-            weight: std::num::wrapping_add_u32(above.weight, 1),
+            weight: above.weight + 1,
             count: above.count,
         };
     }
     Minimal {
-        weight: std::num::wrapping_add_u32(below.weight, 1),
-        count: std::num::wrapping_add_u32(below.count, above.count),
+        weight: below.weight + 1,
+        count: below.count + above.count,
     }
 }
 
 // Of a magnitude of 32 bits.
 pub fn least(magnitude: u32) -> Minimal
-    ensures { λ r. ⌜ LeastFound magnitude (r .weight) (r .count) ⌝ }
+    ensures { λ r. ⌜ LeastFound magnitude r ⌝ }
 {
     let mut bit: u32 = 2147483648;
     let mut here = Minimal {

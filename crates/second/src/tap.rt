@@ -3,7 +3,7 @@ ghost use mathlib.Core.Path.{_≡_};
 ghost use mathlib.Core.Bool.{false};
 ghost use Prim.Native.Nat.{_≤_};
 ghost use lib.ListN.{length};
-ghost use Rattle.second.specs.Second.{Rounding, Summed, LargestFound, SetJudged};
+ghost use Rattle.second.specs.Second.{RoundedByDigits, Summed, LargestFound, SetJudged};
 ghost use Rattle.second.specs.Inner.{Judged};
 
 pub struct Rounded {
@@ -71,7 +71,7 @@ fn signed(negative: bool, x: f64) -> f64 {
 
 // The refusal number, and the sign and the magnitude of N with the leftover.
 pub fn round(tap: f64, f: u32) -> Rounded
-    ensures { λ r. ⌜ Rounding f (r .refusal) (r .negative) (r .size) ⌝ }
+    ensures { λ r. ⌜ RoundedByDigits f (r .refusal) (r .negative) (r .size) ⌝ }
 {
     if f > 31 {
         return refused(4);
