@@ -7,11 +7,11 @@ use native.Mathlib.Omega.{arith}
 use borrow.Author.Tests.{lt-ltb, le-ltb, ltb-true, ltb-false}
 use lib.Dec.{ltb}
 use lib.Pow.{pow-pos, pow-mono}
-use Rattle.second.specs.declared.form.Minimal.{Minimal}
+use Rattle.second.specs.declared.form.LeastWeight.{LeastWeight}
 use Rattle.second.specs.Second.{ofOdd, Both, withBit, leastBoth}
 
 -- ---- the three cases of an odd number
-module _ (a b : Minimal) where
+module _ (a b : LeastWeight) where
   pub odd-less : a .weight < b .weight → ofOdd a b ≡ record { weight = a .weight + 1; count = a .count }
   unfolding ofOdd
   odd-less h = rw (lt-ltb (a .weight) (b .weight) h)
@@ -34,7 +34,7 @@ pub record Bounded (t : ℕ) (p : Both) : Type 0 where
   pub next-count : 1 ≤ p .next .count
   pub both-count : p .this .count + p .next .count ≤ 2 ^ t + 1
 
-record OddBounded (t : ℕ) (p : Both) (o : Minimal) : Type 0 where
+record OddBounded (t : ℕ) (p : Both) (o : LeastWeight) : Type 0 where
   weight-to : o .weight ≤ t + 1
   count-from : 1 ≤ o .count
   with-this : p .this .count + o .count ≤ 2 ^ suc t + 1
@@ -68,14 +68,14 @@ bounded zero m = record { this-weight = omega arith; next-weight = omega arith; 
 bounded (suc t) m = bounded-bit t (m % 2) (leastBoth t (m / 2)) (bounded t (m / 2))
 
 -- ---- the walk: `left` bits are still to come
-pub record Walked (m bit : ℕ) (h x : Minimal) : Type 0 where
+pub record Walked (m bit : ℕ) (h x : LeastWeight) : Type 0 where
   pub left : ℕ
   pub within : left ≤ 32
   pub bit-is : bit ≡ 2 ^ left / 2
   pub this-is : h ≡ leastBoth (32 - left) (m / 2 ^ left) .this
   pub next-is : x ≡ leastBoth (32 - left) (m / 2 ^ left) .next
 
-pub walked-by : {m bit : ℕ} {h x : Minimal} → Walked m bit h x → (a b : Minimal) → a ≡ h → b ≡ x → Walked m bit a b
+pub walked-by : {m bit : ℕ} {h x : LeastWeight} → Walked m bit h x → (a b : LeastWeight) → a ≡ h → b ≡ x → Walked m bit a b
 walked-by w a b e f = record { left = w .left; within = w .within; bit-is = w .bit-is; this-is = e ∙ w .this-is; next-is = f ∙ w .next-is }
 
 half : (k : ℕ) → 2 ^ suc k / 2 ≡ 2 ^ k
@@ -98,7 +98,7 @@ unfolding withBit
 bit-odd zero p e = absurd (e refl)
 bit-odd (suc b) p e = refl
 
-abbrev both : Minimal → Minimal → Both
+abbrev both : LeastWeight → LeastWeight → Both
 both a b = record { this = a; next = b }
 
 -- the place of the bit
@@ -106,7 +106,7 @@ place : (bit n : ℕ) → bit ≡ 2 ^ n / 2 → 0 < bit → (k : ℕ) × (n ≡ 
 place bit zero e p = absurd (omega (arith, e))
 place bit (suc k) e p = (k, refl, e ∙ half k)
 
-module _ (m bit : ℕ) (h x : Minimal) where
+module _ (m bit : ℕ) (h x : LeastWeight) where
   pub room : Walked m bit h x → 0 < bit → ((h .weight ≤ 33) × (x .weight ≤ 33)) × (h .count + x .count ≤ 4294967295)
   room w p =
       let n = w .left in
@@ -122,7 +122,7 @@ module _ (m bit : ℕ) (h x : Minimal) where
       let l = place bit (w .left) (w .bit-is) p in
       let k = l .0 in
       let n = w .left in
-      let known : leastBoth (32 - n) (m / 2 ^ n) ≡ both h x = ap (λ (a : Minimal). both a (leastBoth (32 - n) (m / 2 ^ n) .next)) (sym (w .this-is)) ∙ ap (both h) (sym (w .next-is)) in
+      let known : leastBoth (32 - n) (m / 2 ^ n) ≡ both h x = ap (λ (a : LeastWeight). both a (leastBoth (32 - n) (m / 2 ^ n) .next)) (sym (w .this-is)) ∙ ap (both h) (sym (w .next-is)) in
       one-more m k (omega (arith, l .1, w .within))
       ∙ ap (λ (j : ℕ). withBit (m / 2 ^ k % 2) (leastBoth (32 - j) (m / 2 ^ j))) (sym (l .1))
       ∙ ap (λ (b : ℕ). withBit (m / b % 2) (leastBoth (32 - n) (m / 2 ^ n))) (sym (l .2))

@@ -6,7 +6,7 @@ use Prim.Native.Nat.{ℕ, zero, suc, _+_, _/_, _%_, _≤_, _<_}
 use lib.Dec.{ltb}
 use lib.IntN.{pos}
 use lib.Ieee.{Float, fin, binary64, add}
-use Rattle.second.specs.declared.form.Minimal.{Minimal}
+use Rattle.second.specs.declared.form.LeastWeight.{LeastWeight}
 
 -- +0
 abbrev pub nought : Float
@@ -14,7 +14,7 @@ nought = fin false 0 (pos 0)
 
 -- the least weight of the number 2m + 1, and how many strings have it, by those of m and of m + 1:
 -- its lowest digit is 1 over a string of m, or -1 over a string of m + 1
-unfoldable pub ofOdd : Minimal → Minimal → Minimal
+unfoldable pub ofOdd : LeastWeight → LeastWeight → LeastWeight
 ofOdd a b =
     cond (ltb (a .weight) (b .weight)) (record { weight = a .weight + 1; count = a .count })
     (cond (ltb (b .weight) (a .weight)) (record { weight = b .weight + 1; count = b .count })
@@ -22,8 +22,8 @@ ofOdd a b =
 
 -- those of a number and of the next
 pub record Both : Type 0 where
-  pub this : Minimal
-  pub next : Minimal
+  pub this : LeastWeight
+  pub next : LeastWeight
 
 -- by those of the number's half, and its lowest bit: an even number has the strings of its half
 unfoldable pub withBit : ℕ → Both → Both
@@ -36,7 +36,7 @@ leastBoth zero m = record { this = record { weight = 0; count = 1 }; next = reco
 leastBoth (suc n) m = withBit (m % 2) (leastBoth n (m / 2))
 
 -- the contract of `form::least`
-pub record LeastFound (magnitude : ℕ) (found : Minimal) : Type 0 where
+pub record LeastFound (magnitude : ℕ) (found : LeastWeight) : Type 0 where
   pub least : found ≡ leastBoth 32 magnitude .this
 
 -- the contract of `tap::round`, over the refusal number (0 for none), the sign and the magnitude of N:
