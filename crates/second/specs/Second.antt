@@ -1,11 +1,11 @@
 -- What the second implementation promises. The crates that it is compared with are not named here. Definitions only.
 use mathlib.Core.Path.{_≡_}
-use mathlib.Core.Bool.{Bool, false, cond}
+use mathlib.Core.Bool.{Bool, true, false, cond}
 use mathlib.Core.List.{List, [], foldl}
 use Prim.Native.Nat.{ℕ, zero, suc, _+_, _/_, _%_, _≤_, _<_}
 use lib.Dec.{ltb}
 use lib.IntN.{pos}
-use lib.Ieee.{Float, fin, binary64, add}
+use lib.Ieee.{Float, nan, inf, fin, binary64, add}
 use Rattle.second.specs.declared.form.LeastWeight.{LeastWeight}
 
 -- +0
@@ -39,11 +39,19 @@ leastBoth (suc n) m = withBit (m % 2) (leastBoth n (m / 2))
 pub record LeastFound (magnitude : ℕ) (found : LeastWeight) : Type 0 where
   pub least : found ≡ leastBoth 32 magnitude .this
 
+-- neither infinite nor not-a-number
+abbrev pub isFinite : Float → Bool
+isFinite nan = false
+isFinite (inf s) = false
+isFinite (fin s m e) = true
+
 -- the contract of `tap::round`, over the refusal number (0 for none), the sign and the magnitude of N:
--- refusal 4 exactly where F is above 31, else none, 5 or 6; N within the bounds, and 0 where it is refused
-pub record RoundedByDigits (f refusal : ℕ) (negative : Bool) (size : ℕ) : Type 0 where
+-- refusal 4 exactly where F is above 31, else 5 exactly where the tap is not finite, else none or 6; N within the bounds, and 0 where it is refused
+pub record RoundedByDigits (tap : Float) (f refusal : ℕ) (negative : Bool) (size : ℕ) : Type 0 where
   pub four-above : 31 < f → refusal ≡ 4
   pub four-only : refusal ≡ 4 → 31 < f
+  pub five-there : f ≤ 31 → isFinite tap ≡ false → refusal ≡ 5
+  pub five-only : refusal ≡ 5 → isFinite tap ≡ false
   pub lowest-number : 0 < refusal → 4 ≤ refusal
   pub highest-number : refusal ≤ 6
   pub least-bound : size ≤ 2147483648

@@ -71,7 +71,7 @@ fn signed(negative: bool, x: f64) -> f64 {
 
 // The refusal number, and the sign and the magnitude of N with the leftover.
 pub fn round(tap: f64, f: u32) -> Rounded
-    ensures { λ r. ⌜ RoundedByDigits f (r .refusal) (r .negative) (r .size) ⌝ }
+    ensures { λ r. ⌜ RoundedByDigits tap f (r .refusal) (r .negative) (r .size) ⌝ }
 {
     if f > 31 {
         return refused(4);
