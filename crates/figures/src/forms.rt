@@ -43,7 +43,7 @@ fn figure(n: i32) {
     text(b"\n");
 }
 
-pub fn counts() {
+pub(crate) fn counts() {
     figure(0);
     figure(1);
     figure(3);

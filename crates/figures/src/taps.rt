@@ -61,7 +61,7 @@ fn figure(tap: f64, f: u32) {
     text(b"\n");
 }
 
-pub fn one_by_one() {
+pub(crate) fn one_by_one() {
     figure(0.625, 2);
     figure(-0.625, 2);
     figure(0.5, 2);
@@ -139,7 +139,7 @@ fn set(taps: &[f64], f: u32, normalised: bool) {
     text(b"\n");
 }
 
-pub fn sets() {
+pub(crate) fn sets() {
     set(&[1.0, 1.0, 1.0, 1.0], 2, true);
     set(&[1.0, -1.0], 2, true);
     set(&[1.0; 0], 2, true);

@@ -1,9 +1,9 @@
 // What the figures are written with.
-pub fn text(bytes: &[u8]) {
+pub(crate) fn text(bytes: &[u8]) {
     io::write_all(1, bytes);
 }
 
-pub fn whole(negative: bool, size: u64) {
+pub(crate) fn whole(negative: bool, size: u64) {
     if negative {
         if size > 0 {
             text(b"-");
@@ -12,11 +12,11 @@ pub fn whole(negative: bool, size: u64) {
     io::print_decimal(1, size);
 }
 
-pub fn coefficient(n: i32) {
+pub(crate) fn coefficient(n: i32) {
     whole(n < 0, word::magnitude(n) as u64);
 }
 
-pub fn refused(number: u32, place: u32) {
+pub(crate) fn refused(number: u32, place: u32) {
     text(b"refusal ");
     io::print_decimal(1, number as u64);
     text(b" place ");

@@ -1,39 +1,47 @@
 // The least weight of a number and how many strings have it, from the high end: of the number x made
 // of the bits passed, and of x + 1.
+ghost use mathlib.Core.Path.{_≡_};
+ghost use Prim.Native.Nat.{_+_, _≤_};
+ghost use Rattle.second.specs.Second.{ofOdd, LeastFound};
 
-pub struct Minimal {
+pub struct LeastWeight {
     pub weight: u32,
     pub count: u32,
 }
 
 // Of an odd number, by the halves of its two neighbours.
-fn of_odd(below: Minimal, above: Minimal) -> Minimal {
+fn of_odd(below: LeastWeight, above: LeastWeight) -> LeastWeight
+    requires { ⌜ ((below .weight ≤ 33) × (above .weight ≤ 33)) × (below .count + above .count ≤ 4294967295) ⌝ }
+    ensures { λ r. ⌜ r ≡ ofOdd below above ⌝ }
+{
     if below.weight < above.weight {
-        return Minimal {
-            weight: std::num::wrapping_add_u32(below.weight, 1),
+        return LeastWeight {
+            weight: below.weight + 1,
             count: below.count,
         };
     }
     if above.weight < below.weight {
-        return Minimal {
-            weight: std::num::wrapping_add_u32(above.weight, 1),
+        return LeastWeight {
+            weight: above.weight + 1,
             count: above.count,
         };
     }
-    Minimal {
-        weight: std::num::wrapping_add_u32(below.weight, 1),
-        count: std::num::wrapping_add_u32(below.count, above.count),
+    LeastWeight {
+        weight: below.weight + 1,
+        count: below.count + above.count,
     }
 }
 
 // Of a magnitude of 32 bits.
-pub fn least(magnitude: u32) -> Minimal {
+pub fn least(magnitude: u32) -> LeastWeight
+    ensures { λ r. ⌜ LeastFound magnitude r ⌝ }
+{
     let mut bit: u32 = 2147483648;
-    let mut here = Minimal {
+    let mut here = LeastWeight {
         weight: 0,
         count: 1,
     };
-    let mut next = Minimal {
+    let mut next = LeastWeight {
         weight: 1,
         count: 1,
     };

@@ -1,4 +1,10 @@
 // Rounding a tap digit by digit, by exact sums and differences of floats.
+ghost use mathlib.Core.Path.{_≡_};
+ghost use mathlib.Core.Bool.{false};
+ghost use Prim.Native.Nat.{_≤_};
+ghost use lib.ListN.{length};
+ghost use Rattle.second.specs.Second.{RoundedByDigits, Summed, LargestFound, SetJudged};
+ghost use Rattle.second.specs.Inner.{Judged};
 
 pub struct Rounded {
     // The refusal number, 0 for none.
@@ -8,7 +14,9 @@ pub struct Rounded {
     pub leftover: f64,
 }
 
-fn refused(refusal: u32) -> Rounded {
+fn refused(refusal: u32) -> Rounded
+    ensures { λ r. ⌜ (r .refusal ≡ refusal) × (r .size ≡ 0) ⌝ }
+{
     Rounded {
         refusal,
         negative: false,
@@ -51,7 +59,9 @@ fn whole_part(x: f64) -> Parts {
     Parts { whole, rest }
 }
 
-fn most(negative: bool) -> u64 {
+fn most(negative: bool) -> u64
+    ensures { λ r. ⌜ (r ≤ 2147483648) × (negative ≡ false → r ≤ 2147483647) ⌝ }
+{
     if negative { 2147483648 } else { 2147483647 }
 }
 
@@ -59,7 +69,10 @@ fn signed(negative: bool, x: f64) -> f64 {
     if negative { -x } else { x }
 }
 
-pub fn round(tap: f64, f: u32) -> Rounded {
+// The refusal number, and the sign and the magnitude of N with the leftover.
+pub fn round(tap: f64, f: u32) -> Rounded
+    ensures { λ r. ⌜ RoundedByDigits tap f (r .refusal) (r .negative) (r .size) ⌝ }
+{
     if f > 31 {
         return refused(4);
     }
@@ -91,7 +104,9 @@ pub fn round(tap: f64, f: u32) -> Rounded {
 }
 
 // The taps added in order.
-pub fn sum(taps: &[f64]) -> f64 {
+pub fn sum(taps: &[f64]) -> f64
+    ensures { λ r. ⌜ Summed (now (taps .entry)) r ⌝ }
+{
     let mut s = 0.0;
     for i in 0..taps.len() {
         s = s + taps[i];
@@ -100,7 +115,9 @@ pub fn sum(taps: &[f64]) -> f64 {
 }
 
 // The first number of a set that is refused so, or the length.
-fn first_refused(taps: &[f64], divisor: f64, f: u32, refusal: u32) -> usize {
+fn first_refused(taps: &[f64], divisor: f64, f: u32, refusal: u32) -> usize
+    ensures { λ r. ⌜ r ≤ length (now (taps .entry)) ⌝ }
+{
     for i in 0..taps.len() {
         if round(taps[i] / divisor, f).refusal == refusal {
             return i;
@@ -110,7 +127,9 @@ fn first_refused(taps: &[f64], divisor: f64, f: u32, refusal: u32) -> usize {
 }
 
 // The leftover of a set that is largest in size, and the earliest of equals.
-pub fn largest_leftover(taps: &[f64], divisor: f64, f: u32) -> f64 {
+pub fn largest_leftover(taps: &[f64], divisor: f64, f: u32) -> f64
+    ensures { λ r. ⌜ LargestFound (now (taps .entry)) r ⌝ }
+{
     let mut largest = 0.0;
     for i in 0..taps.len() {
         let l = round(taps[i] / divisor, f).leftover;
@@ -126,12 +145,16 @@ pub struct SetRefusal {
     pub place: usize,
 }
 
-fn turned_down(refusal: u32, place: usize) -> SetRefusal {
+fn turned_down(refusal: u32, place: usize) -> SetRefusal
+    ensures { λ r. ⌜ (r .refusal ≡ refusal) × (r .place ≡ place) ⌝ }
+{
     SetRefusal { refusal, place }
 }
 
 // Why a set of finite taps is refused: 0 for none.
-fn refusal_of_numbers(taps: &[f64], divisor: f64, f: u32) -> SetRefusal {
+fn refusal_of_numbers(taps: &[f64], divisor: f64, f: u32) -> SetRefusal
+    ensures { λ r. ⌜ Judged (length (now (taps .entry))) (r .refusal) (r .place) ⌝ }
+{
     let infinite = first_refused(taps, divisor, f, 5);
     if infinite < taps.len() {
         return turned_down(7, infinite);
@@ -144,7 +167,9 @@ fn refusal_of_numbers(taps: &[f64], divisor: f64, f: u32) -> SetRefusal {
 }
 
 // Why a set with room for its coefficients is refused: 0 for none.
-pub fn refusal_of_set(taps: &[f64], f: u32, normalised: bool) -> SetRefusal {
+pub fn refusal_of_set(taps: &[f64], f: u32, normalised: bool) -> SetRefusal
+    ensures { λ r. ⌜ SetJudged (length (now (taps .entry))) f (r .refusal) (r .place) ⌝ }
+{
     if taps.len() == 0 {
         return turned_down(1, 0);
     }

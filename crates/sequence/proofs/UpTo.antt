@@ -14,7 +14,7 @@ module _ {ℓ} {A : Type ℓ} where
   pub length-upTo : (n : ℕ) (f : ℕ → A) → length (upTo n f) ≡ n
   unfolding upTo
   length-upTo zero f = refl
-  length-upTo (suc n) f = length-append (upTo n f) (f n ∷ []) ∙ omega (arith, length-upTo n f)
+  length-upTo (suc n) f = simp length-append (omega (arith, length-upTo n f))
 
   upTo-last : (n : ℕ) (f : ℕ → A) (d : A) (k : ℕ) → k < suc n → (k < n → getD (upTo n f) k d ≡ f k) → (t : Bool) → ltb k n ≡ t
       → getD (upTo n f ++ (f n ∷ [])) k d ≡ f k

@@ -16,10 +16,14 @@ pub fn pattern(n: i32) -> u32
     }
 }
 
-// The magnitude of n. All bits of a negative number turned over are its magnitude less one, so that
-// nothing is negated here either.
+// The magnitude of n. For a negative n, -1 - n is its magnitude less one, which fits where 0 - n does
+// not: at -2^31.
 pub fn magnitude(n: i32) -> u32
     ensures { λ r. ⌜ r ≡ natAbs n ⌝ }
 {
-    if n < 0 { ((!n) as u32) + 1 } else { n as u32 }
+    if n < 0 {
+        ((-1 - n) as u32) + 1
+    } else {
+        n as u32
+    }
 }

@@ -1,4 +1,4 @@
--- `second::tap::first_refused` is safe and ends. Assumes nothing.
+-- `second::tap::first_refused` meets its contract. Assumes nothing.
 use borrow.Author.Needs.{needs}
 use Prim.Native.Nat.{_-_, _≤_}
 use mathlib.Core.Path.{_≡_}

@@ -1,19 +1,24 @@
--- `second::tap::largest_leftover` is safe and ends. Assumes nothing.
+-- `second::tap::largest_leftover` meets its contract. Assumes nothing.
 use borrow.Author.Needs.{needs}
 use Prim.Native.Nat.{_-_, _≤_}
-use mathlib.Core.Path.{_≡_}
+use mathlib.Core.Path.{_≡_, ap, _∙_}
+use mathlib.Core.List.{List, []}
+use native.Mathlib.Omega.{arith}
 use lib.ListN.{length}
+use lib.Ieee.{Float}
+use Rattle.second.specs.Second.{nought, LargestFound}
+use Rattle.second.proofs.Nought.{zero-is}
 use Rattle.second.proofs.tap.largest_leftover.Statement.{statement}
 use Rattle.second.proofs.tap.largest_leftover.Tie as tie
 
 abbrev Inv-loop : tie.InvT-loop
-Inv-loop taps divisor f largest₀ i₀ i-end largest i = (i ≤ length taps) × (i-end ≡ length taps)
+Inv-loop taps divisor f largest₀ i₀ i-end largest i = (i ≤ length taps) × (i-end ≡ length taps) × (taps ≡ [] → largest ≡ nought)
 
 abbrev μ-loop : tie.MeasureT-loop
 μ-loop taps divisor f largest₀ i₀ i-end largest i = length taps - i
 
 loop-holds : tie.Need-loop-holds Inv-loop μ-loop
-loop-holds c = search needs
+loop-holds c = (search needs, search needs, λ e. zero-is)
 
 mul-round : tie.Need-mul-round Inv-loop μ-loop
 mul-round c = search needs
@@ -37,10 +42,10 @@ loop-less : tie.Need-loop-less Inv-loop μ-loop
 loop-less c = search needs
 
 loop-again : tie.Need-loop-again Inv-loop μ-loop
-loop-again c = search needs
+loop-again c = (search needs, search needs, λ e. absurd (omega (arith, ap length e)))
 
 returns : tie.Need-returns Inv-loop μ-loop
-returns c = search needs
+returns c = record { no-taps = c .before .loop .inv .2 }
 
 pub largest-leftover-spec : {M : Type 1} → statement M
 largest-leftover-spec =

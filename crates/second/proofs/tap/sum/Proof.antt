@@ -1,19 +1,35 @@
--- `second::tap::sum` is safe and ends. Assumes nothing.
+-- `second::tap::sum` meets its contract. The invariant: what is left of the taps, added to the sum so far, is the whole sum. Assumes nothing.
 use borrow.Author.Needs.{needs}
-use Prim.Native.Nat.{_-_, _≤_}
-use mathlib.Core.Path.{_≡_}
-use lib.ListN.{length}
+use mathlib.Core.Path.{_≡_, refl, sym, ap, _∙_}
+use mathlib.Core.List.{List, foldl}
+use Prim.Native.Nat.{ℕ, _+_, _-_, _≤_, _<_}
+use native.Mathlib.Numerals.{add-one}
+use native.Mathlib.Omega.{arith}
+use lib.ListN.{length, getD, drop, drop-of-length-le}
+use lib.Seq.{drop-cons}
+use lib.Ieee.{Float, nan, binary64, add}
+use Rattle.second.specs.Second.{nought, Summed}
+use Rattle.second.proofs.Nought.{zero-is}
 use Rattle.second.proofs.tap.sum.Statement.{statement}
 use Rattle.second.proofs.tap.sum.Tie as tie
 
+abbrev added : Float → List Float → Float
+added = foldl (add binary64)
+
+step : (t : Float) (xs : List Float) (i : ℕ) → i < length xs → added t (drop i xs) ≡ added (add binary64 t (getD xs i nan)) (drop (i + 1) xs)
+step t xs i h = ap (added t) (drop-cons xs i nan h) ∙ ap (λ (k : ℕ). added (add binary64 t (getD xs i nan)) (drop k xs)) (sym (add-one i))
+
+done : (t : Float) (xs : List Float) (i : ℕ) → length xs ≤ i → added t (drop i xs) ≡ t
+done t xs i h = ap (added t) (drop-of-length-le xs h)
+
 abbrev Inv-loop : tie.InvT-loop
-Inv-loop taps s₀ i₀ i-end s i = (i ≤ length taps) × (i-end ≡ length taps)
+Inv-loop taps s₀ i₀ i-end s i = (i ≤ length taps) × (i-end ≡ length taps) × (added s (drop i taps) ≡ added nought taps)
 
 abbrev μ-loop : tie.MeasureT-loop
 μ-loop taps s₀ i₀ i-end s i = length taps - i
 
 loop-holds : tie.Need-loop-holds Inv-loop μ-loop
-loop-holds c = search needs
+loop-holds c = (search needs, search needs, ap (λ (t : Float). added t (c .args .taps .now)) zero-is)
 
 mul-s : tie.Need-mul-s Inv-loop μ-loop
 mul-s c = search needs
@@ -28,10 +44,14 @@ loop-less : tie.Need-loop-less Inv-loop μ-loop
 loop-less c = search needs
 
 loop-again : tie.Need-loop-again Inv-loop μ-loop
-loop-again c = search needs
+loop-again c =
+    let l = c .before .before in
+    (search needs, search needs, sym (step (l .loop .s) (l .before .args .taps .now) (l .loop .i) (omega arith)) ∙ l .loop .inv .2)
 
 returns : tie.Need-returns Inv-loop μ-loop
-returns c = search needs
+returns c =
+    let l = c .before in
+    record { sum = sym (done (l .loop .s) (l .before .args .taps .now) (l .loop .i) (omega arith)) ∙ l .loop .inv .2 }
 
 pub sum-spec : {M : Type 1} → statement M
 sum-spec =

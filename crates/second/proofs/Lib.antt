@@ -1,0 +1,4 @@
+pub mod Finite
+pub mod Least
+pub mod Nought
+pub mod Rounded
