@@ -7,7 +7,7 @@ use borrow.Author.Tests.{le-ltb, not-true, not-false}
 use lib.Dec.{ltb}
 use lib.IntN.{pos}
 use lib.Ieee.{Float, nan, inf, fin, binary64, up, down, round, units, odd, nearest, neg, sum, add, sub, eq, ne, ofBits}
-use Rattle.second.specs.Second.{nought, isFinite}
+use Rattle.second.specs.Inner.{nought, isFinite}
 
 none : (u : ℕ) → nearest 0 (compare 0 u) ≡ 0
 none zero = refl

@@ -8,7 +8,7 @@ use borrow.Author.Tests.{lt-ltb, le-ltb, ltb-true, ltb-false}
 use lib.Dec.{ltb}
 use lib.Pow.{pow-pos, pow-mono}
 use Rattle.second.specs.declared.form.LeastWeight.{LeastWeight}
-use Rattle.second.specs.Second.{ofOdd, Both, withBit, leastBoth}
+use Rattle.second.specs.Inner.{ofOdd, Both, withBit, leastBoth}
 
 -- ---- the three cases of an odd number
 module _ (a b : LeastWeight) where

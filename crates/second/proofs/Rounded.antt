@@ -4,7 +4,7 @@ use mathlib.Core.Bool.{Bool, true, false, true≢false}
 use Prim.Native.Nat.{ℕ, _≤_, _<_}
 use native.Mathlib.Omega.{arith}
 use lib.Ieee.{Float}
-use Rattle.second.specs.Second.{isFinite, RoundedByDigits}
+use Rattle.second.specs.Inner.{isFinite, RoundedByDigits}
 
 module _ (x : Float) (f r : ℕ) (n : Bool) (s : ℕ) where
   pub refused-4 : 31 < f → r ≡ 4 → s ≡ 0 → RoundedByDigits x f r n s

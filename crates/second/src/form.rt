@@ -2,7 +2,7 @@
 // of the bits passed, and of x + 1.
 ghost use mathlib.Core.Path.{_≡_};
 ghost use Prim.Native.Nat.{_+_, _≤_};
-ghost use Rattle.second.specs.Second.{ofOdd, LeastFound};
+ghost use Rattle.second.specs.Inner.{ofOdd, LeastFound};
 
 pub struct LeastWeight {
     pub weight: u32,

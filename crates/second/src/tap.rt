@@ -3,8 +3,7 @@ ghost use mathlib.Core.Path.{_≡_};
 ghost use mathlib.Core.Bool.{false};
 ghost use Prim.Native.Nat.{_≤_};
 ghost use lib.ListN.{length};
-ghost use Rattle.second.specs.Second.{RoundedByDigits, Summed, LargestFound, SetJudged};
-ghost use Rattle.second.specs.Inner.{Judged};
+ghost use Rattle.second.specs.Inner.{RoundedByDigits, Summed, LargestFound, SetJudged, Judged};
 
 pub struct Rounded {
     // The refusal number, 0 for none.

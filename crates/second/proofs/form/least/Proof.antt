@@ -4,7 +4,7 @@ use mathlib.Core.Path.{refl, _∙_}
 use mathlib.Core.Logic.{⊎-elim}
 use Prim.Native.Nat.{_≤_}
 use native.Mathlib.Omega.{arith}
-use Rattle.second.specs.Second.{leastBoth}
+use Rattle.second.specs.Inner.{leastBoth}
 use Rattle.second.proofs.Least.{Walked, walked-by, room, walked-even, walked-odd, walked-all}
 use Rattle.second.proofs.form.least.Statement.{statement}
 use Rattle.second.proofs.form.least.Tie as tie

@@ -6,7 +6,7 @@ use mathlib.Core.List.{List, []}
 use native.Mathlib.Omega.{arith}
 use lib.ListN.{length}
 use lib.Ieee.{Float}
-use Rattle.second.specs.Second.{nought, LargestFound}
+use Rattle.second.specs.Inner.{nought, LargestFound}
 use Rattle.second.proofs.Nought.{zero-is}
 use Rattle.second.proofs.tap.largest_leftover.Statement.{statement}
 use Rattle.second.proofs.tap.largest_leftover.Tie as tie

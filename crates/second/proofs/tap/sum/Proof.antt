@@ -8,7 +8,7 @@ use native.Mathlib.Omega.{arith}
 use lib.ListN.{length, getD, drop, drop-of-length-le}
 use lib.Seq.{drop-cons}
 use lib.Ieee.{Float, nan, binary64, add}
-use Rattle.second.specs.Second.{nought, Summed}
+use Rattle.second.specs.Inner.{nought, Summed}
 use Rattle.second.proofs.Nought.{zero-is}
 use Rattle.second.proofs.tap.sum.Statement.{statement}
 use Rattle.second.proofs.tap.sum.Tie as tie
