@@ -15,7 +15,8 @@ use Rattle.network.specs.declared.Row.{Row}
 use Rattle.network.specs.declared.TapRow.{TapRow}
 use Rattle.network.specs.Rows.{Network, networkOf}
 use Rattle.network.specs.Check.{networkAnswer}
-use Rattle.network.proofs.Passed.{Passed, accepted-given}
+use Rattle.network.proofs.Passed.{accepted-given}
+use Rattle.network.specs.Accepted.{KeepsRules}
 use Rattle.building.specs.Steps.{builtRows}
 use Rattle.building.specs.TapRows.{tapRowOf, built}
 use Rattle.building.specs.Answer.{buildAnswer}
@@ -89,5 +90,5 @@ module _ (cs : List ℤ) (ks rows taps : List ℕ) (net : Network) (e : buildAns
         rows-long = omega (arith, length-rows-left, told .rows-long);
         taps-long = omega (arith, length-taps-left, told .taps-long);
         others-long = refl;
-        passed = subst (λ (x : Network). Passed x cs) (sym (told .network) ∙ sym network-left) (built-passed cs ks can-build);
+        passed = subst (λ (x : Network). KeepsRules x cs) (sym (told .network) ∙ sym network-left) (built-passed cs ks can-build);
       })

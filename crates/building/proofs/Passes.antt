@@ -18,7 +18,8 @@ use Rattle.network.specs.Rows.{tapRowIn, noTap}
 use Rattle.network.specs.Coefficients.{coefficientOf, coefficients}
 use Rattle.network.specs.TapRowRule.{TapRowRule}
 use Rattle.network.specs.Check.{checked}
-use Rattle.network.proofs.Passed.{Passed, passed-checked}
+use Rattle.network.proofs.Passed.{passed-checked}
+use Rattle.network.specs.Accepted.{KeepsRules}
 use Rattle.building.specs.Parts.{Part, partsToBuild}
 use Rattle.building.specs.Steps.{firstRow, steps, builtRows}
 use Rattle.building.specs.TapRows.{tapRowOf, built}
@@ -101,7 +102,7 @@ module _ (cs : List ℤ) (ks : List ℕ) (c : CanBuild cs ks) where
   unfolding built
   built-few = rows-built cs ks c .few
 
-  pub built-passed : Passed (built cs ks) cs
+  pub built-passed : KeepsRules (built cs ks) cs
   unfolding built
   built-passed =
       let r = rows-built cs ks c in

@@ -14,7 +14,7 @@ use Rattle.network.specs.declared.Row.{Row}
 use Rattle.network.specs.declared.TapRow.{TapRow}
 use Rattle.network.specs.Rows.{rowIn, noTap}
 use Rattle.network.specs.RowRule.{lifted}
-use Rattle.network.specs.Coefficients.{signed, coefficientOf}
+use Rattle.network.specs.Coefficients.{withSign, coefficientOf}
 use Rattle.network.specs.TapRowRule.{TapRowRule, is-empty, is-product, isTapSign}
 use Rattle.building.specs.Search.{rowWith}
 use Rattle.building.specs.TapRows.{signCode, tapRowOf}
@@ -44,7 +44,7 @@ module _ (rows : List Row) (n : ℤ) (c : Coefficient n) where
     unfolding tapRowOf coefficientOf
     coefficient-is = by-sign s (parts-reduced n s v t c e)
       where
-        by-sign : (g : Sign) → Reduced n g v t → signed (signCode g) (pos (lifted t (rowIn rows (placeOr 0 (rowWith rows v)) .value))) ≡ n
+        by-sign : (g : Sign) → Reduced n g v t → withSign (signCode g) (pos (lifted t (rowIn rows (placeOr 0 (rowWith rows v)) .value))) ≡ n
         by-sign positive r = ap pos lifted-is ∙ sym (positive-product v t) ∙ r .product
         by-sign negative r = ap (λ (m : ℕ). negℤ (pos m)) lifted-is ∙ sym (negative-product v t) ∙ r .product
 
