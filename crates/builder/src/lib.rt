@@ -1,6 +1,6 @@
 // A network built from coefficients and chosen forms.
+ghost use Rattle.building.specs.Built.{BuiltInto};
 ghost use Rattle.builder.specs.Answer.{answerOf};
-ghost use Rattle.builder.specs.Built.{BuiltInto};
 use refusal::Refusal;
 
 // The number of rows, or a refusal.

@@ -15,8 +15,8 @@ use Rattle.network.specs.Rows.{Network, rowWords, tapWords}
 use Rattle.building.specs.TapRows.{built}
 use Rattle.building.specs.Answer.{buildAnswer, rowCount}
 use Rattle.building.specs.Tables.{wordsOfRows, wordsOfTapRows}
-use Rattle.building.proofs.Example.{example}
-use Rattle.builder.specs.Built.{BuiltInto}
+use Rattle.building.proofs.Figures.{example}
+use Rattle.building.specs.Built.{BuiltInto}
 use Rattle.network.specs.Check.{outcome}
 use Rattle.sequence.specs.UpTo.{upTo}
 use Rattle.filter.specs.Run.{Ran, runAnswer, runOutputs}

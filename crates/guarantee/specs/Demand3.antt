@@ -13,7 +13,7 @@ use Rattle.form_listing.specs.Listing.{Answered}
 use Rattle.form_listing.proofs.Written.{Written}
 use Rattle.network.specs.Rows.{networkOf, rowWords, tapWords}
 use Rattle.building.specs.TapRows.{built}
-use Rattle.builder.specs.Built.{BuiltInto}
+use Rattle.building.specs.Built.{BuiltInto}
 use Rattle.filter.specs.Memory.{Step}
 use Rattle.filter.specs.Demand.{Calls, Demand}
 

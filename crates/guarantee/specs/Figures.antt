@@ -10,7 +10,7 @@ use Rattle.tap.proofs.Figures.{TapFigures}
 use Rattle.network.specs.Rows.{Network, rowWords, tapWords, plus, minus, noTap}
 use Rattle.building.specs.Steps.{firstRow}
 use Rattle.building.specs.TapRows.{built}
-use Rattle.builder.specs.Built.{BuiltInto}
+use Rattle.building.specs.Built.{BuiltInto}
 use Rattle.filter.specs.Run.{Ran}
 use Rattle.filter.specs.Memory.{Step}
 use Rattle.filter.specs.Demand.{Calls, FullLength, Demand}

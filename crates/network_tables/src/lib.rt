@@ -1,7 +1,7 @@
 // A network written into its two tables. All functions here are internal: the crate `builder` has
 // checked what they ask.
 ghost use Prim.Native.Nat.{_≤_};
-ghost use Rattle.network_tables.specs.Plan.{Accepted, Planned, WithIndex, Written};
+ghost use Rattle.network_tables.specs.Inner.{Accepted, Planned, WithIndex, Written};
 
 // Rows and tap rows, with an index that is empty at first.
 fn write_network(

@@ -8,8 +8,7 @@ ghost use lib.ListN.{length, getD, set};
 ghost use Rattle.refusal.specs.Answer.{nowhere};
 ghost use Rattle.network.specs.Rows.{rowWords, rowsOf};
 ghost use Rattle.building.specs.Search.{rowWith};
-ghost use Rattle.row_index.specs.Found.{foundAt};
-ghost use Rattle.row_index.specs.Index.{bucketOf, Indexed, withRow, Grown};
+ghost use Rattle.row_index.specs.Inner.{bucketOf, Indexed, withRow, Grown, foundAt};
 use network::Row;
 
 // What a look-up finds: the number of a row, or none.

@@ -8,10 +8,10 @@ use lib.ListN.{length}
 use Rattle.refusal.specs.Answer.{nowhere, placeOr, refused}
 use Rattle.refusal.proofs.Checks.{found, found-none}
 use Rattle.network.specs.Rows.{rowWords, tapWords}
-use Rattle.building.specs.Answer.{Choice, choicesOf, noSuchForm, buildAnswer}
-use Rattle.building.proofs.Answers.{short, length-choices, missingForm, no-taps, too-many, too-short, no-form, network-given}
-use Rattle.network_tables.specs.Plan.{Accepted}
-use Rattle.builder.specs.Built.{BuiltInto}
+use Rattle.building.specs.Answer.{Choice, choicesOf, noSuchForm, buildAnswer, missingForm}
+use Rattle.building.specs.Built.{BuiltInto}
+use Rattle.building.proofs.Answers.{short, length-choices, no-taps, too-many, too-short, no-form, network-given}
+use Rattle.network_tables.specs.Inner.{Accepted}
 use Rattle.builder.proofs.Answers.{turned-down, network-left, short-choices, short-rows, short-taps, none-short}
 use Rattle.builder.proofs.build.Statement.{statement}
 use Rattle.builder.proofs.build.Tie as tie

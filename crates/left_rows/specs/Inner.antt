@@ -3,7 +3,7 @@ use mathlib.Core.Path.{_≡_}
 use mathlib.Core.List.{List}
 use Prim.Native.Nat.{ℕ, _+_, _<_}
 use Rattle.network.specs.RowRule.{lifted}
-use Rattle.row_index.specs.Index.{valueAt}
+use Rattle.row_index.specs.Inner.{valueAt}
 
 -- with a right row of value r, no left row below m makes v at any shift and sign
 pub record NoLeft (table : List ℕ) (m v r : ℕ) : Type 0 where

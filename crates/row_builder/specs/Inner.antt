@@ -5,11 +5,11 @@ use lib.ListN.{length, getD, take}
 use Rattle.network.specs.Rows.{rowsOf}
 use Rattle.building.specs.Parts.{Part}
 use Rattle.building.specs.Steps.{firstRow, steps}
-use Rattle.building.proofs.Lawful.{Lawful}
-use Rattle.building.proofs.Steps.{Buildable}
-use Rattle.odd_parts.specs.Keys.{partIn, tapIn}
-use Rattle.row_index.specs.Index.{valueAt, Indexed}
-use Rattle.chain.specs.Reading.{HasRoom}
+use Rattle.building.specs.RowSteps.{Lawful}
+use Rattle.building.specs.CanBuild.{Buildable}
+use Rattle.odd_parts.specs.Inner.{partIn, tapIn}
+use Rattle.row_index.specs.Inner.{valueAt, Indexed}
+use Rattle.chain.specs.Inner.{HasRoom}
 
 abbrev pub partOf : ℕ → ℕ → Part
 partOf v choice = record { value = v; choice = choice }

@@ -5,8 +5,16 @@ use mathlib.Core.List.{List}
 use Prim.Native.Nat.{ℕ, _+_, _-_, _*_, _/_, _≤_, _<_}
 use lib.Bits.{bitAnd}
 use lib.ListN.{length, getD, set, drop}
+use Rattle.refusal.specs.Answer.{Place, nowhere, at-place}
 use Rattle.network.specs.declared.Row.{Row}
 use Rattle.network.specs.Rows.{rowWords, rowAt, rowsOf}
+use Rattle.row_index.specs.declared.Found.{Found}
+use Rattle.row_index.specs.declared.Found.the-variants.{At, Missing}
+
+-- the number of a row, or none
+abbrev pub foundAt : Found → Place
+foundAt (At i) = at-place i
+foundAt Missing = nowhere
 
 -- the value of row i
 abbrev pub valueAt : List ℕ → ℕ → ℕ

@@ -9,10 +9,7 @@ use lib.Seq.{getD-set-same, getD-set-other, drop-set-lt}
 use Rattle.sequence.specs.UpTo.{upTo}
 use Rattle.network.specs.declared.TapRow.{TapRow}
 use Rattle.network.specs.Rows.{tapWords, tapRowAt, tapRowsOf}
-
--- tap row m, word by word
-abbrev pub withTapRow : List ℕ → ℕ → TapRow → List ℕ
-withTapRow table m t = set (set (set table (tapWords * m) (t .sign)) (tapWords * m + 1) (t .row)) (tapWords * m + 2) (t .shift)
+use Rattle.tap_rows.specs.Inner.{withTapRow}
 
 other : (l : List ℕ) (k j a : ℕ) → j < k → getD (set l k a) j 0 ≡ getD l j 0
 other l k j a h = getD-set-other l k j a 0 (λ (e : j ≡ k). omega arith)

@@ -12,9 +12,8 @@ use Rattle.form_masks.specs.Form.{stringOf}
 use Rattle.network.specs.declared.Row.{Row}
 use Rattle.network.specs.Rows.{rowWords, rowsOf}
 use Rattle.building.specs.Search.{rowWith}
-use Rattle.building.specs.Chain.{addUnless, chainStep, chainFrom}
-use Rattle.building.proofs.ChainValue.{chainValue, chainEnd}
-use Rattle.row_index.specs.Index.{Grown}
+use Rattle.building.specs.Chain.{addUnless, chainStep, chainFrom, chainValue, chainEnd}
+use Rattle.row_index.specs.Inner.{Grown}
 use Rattle.chain.specs.declared.Chain.{Chain}
 use Rattle.chain.specs.declared.Step.{Step}
 use Rattle.chain.specs.declared.Place.{Place}

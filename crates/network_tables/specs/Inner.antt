@@ -9,12 +9,12 @@ use Rattle.network.specs.Rows.{rowWords, tapWords}
 use Rattle.building.specs.Steps.{builtRows}
 use Rattle.building.specs.TapRows.{built}
 use Rattle.building.specs.Tables.{wordsOfRows, wordsOfTapRows}
-use Rattle.building.proofs.Answers.{missingForm}
-use Rattle.building.proofs.Passes.{CanBuild}
-use Rattle.odd_parts.specs.Keys.{Ordered}
-use Rattle.tap_rows.specs.Table.{over}
-use Rattle.row_index.specs.Index.{Indexed}
-use Rattle.chain.specs.Reading.{HasRoom}
+use Rattle.building.specs.Answer.{missingForm}
+use Rattle.building.specs.CanBuild.{CanBuild}
+use Rattle.odd_parts.specs.Inner.{Ordered}
+use Rattle.row_index.specs.Inner.{Indexed}
+use Rattle.chain.specs.Inner.{HasRoom}
+use Rattle.tap_rows.specs.Inner.{over}
 
 -- every check is passed
 pub record Accepted (coefficients : List ℤ) (choices rows taps : List ℕ) : Type 0 where

@@ -1,22 +1,21 @@
--- The parts of building's search, and what a table of rows has for it. For the contracts of internal functions. Definitions only.
+-- What one left row of the search finds, and what a table of rows has for it. For the contracts of internal functions. Definitions only.
 use mathlib.Core.Path.{_≡_}
 use mathlib.Core.Bool.{cond}
 use mathlib.Core.List.{List}
 use Prim.Native.Nat.{ℕ, _+_, _-_, _%_, _^_, _≤_, _<_}
 use lib.Dec.{eqb}
 use Rattle.refusal.specs.Answer.{nowhere}
-use Rattle.network.specs.declared.Row.{Row}
 use Rattle.network.specs.Rows.{plus, minus, rowsOf}
 use Rattle.network.specs.RowRule.{lifted}
-use Rattle.building.specs.Search.{Fit, rowWith, firstOver, tried, signs, shifts}
-use Rattle.row_index.specs.Index.{valueAt, Indexed}
+use Rattle.building.specs.Search.{Fit, fit, none-fits, rowWith}
+use Rattle.row_index.specs.Inner.{valueAt, Indexed}
+use Rattle.row_signs.specs.declared.NewRow.{NewRow}
+use Rattle.row_signs.specs.declared.NewRow.the-variants.{Fits, NoneFits}
 
--- the first fit with a left row and a shift, and with a left row
-unfoldable pub fitAtShift : List Row → ℕ → ℕ → ℕ → Fit
-fitAtShift rows v left shift = firstOver (λ (sign : ℕ). tried rows v left shift sign) signs
-
-unfoldable pub fitAtLeft : List Row → ℕ → ℕ → Fit
-fitAtLeft rows v left = firstOver (λ (shift : ℕ). fitAtShift rows v left shift) shifts
+-- a new row, or none
+abbrev pub fitOf : NewRow → Fit
+fitOf (Fits r) = fit r
+fitOf NoneFits = none-fits
 
 -- the value that makes v on the right, a being 2^s·left; a difference below 0 is taken for 0, which no row has
 abbrev pub rightValue : ℕ → ℕ → ℕ → ℕ
