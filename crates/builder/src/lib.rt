@@ -12,7 +12,8 @@ pub enum Built {
 // Builds the network of the coefficients, each with the form chosen for it, into the two tables, and
 // returns the number of rows. The tables are written only where all is accepted.
 pub fn build(coefficients: &[i32], choices: &[u32], rows: &mut [u32], taps: &mut [u32]) -> Built
-    ensures { λ r. ⌜ BuiltInto (now (coefficients .entry)) (now (choices .entry)) (now (rows .entry)) (now (taps .entry)) (answerOf r) (now (rows .exit)) (now (taps .exit)) ⌝ }
+    ensures { λ r. ⌜ BuiltInto (now (coefficients .entry)) (now (choices .entry)) (now (rows .entry)) (now (taps .entry))
+        (answerOf r) (now (rows .exit)) (now (taps .exit)) ⌝ }
 {
     let n = coefficients.len();
     if n == 0 {

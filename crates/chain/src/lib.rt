@@ -137,7 +137,8 @@ pub fn add_chain(
 ) -> usize
     requires { ⌜ Indexed (now table) (now heads) (now links) n × Readable form (rowsOf (now table) n) ⌝ }
     requires { ⌜ HasRoom (now table) (now links) (length (chained (rowsOf (now table) n) (stringOf form))) ⌝ }
-    ensures { λ r. ⌜ Grown (now (table .entry)) (now (table .exit)) (now (heads .exit)) (now (links .exit)) r (chained (rowsOf (now (table .entry)) n) (stringOf form)) ⌝ }
+    ensures { λ r. ⌜ Grown (now (table .entry)) (now (table .exit)) (now (heads .exit)) (now (links .exit)) r
+        (chained (rowsOf (now (table .entry)) n) (stringOf form)) ⌝ }
 {
     let mask = form.plus | form.minus;
     let place = highest(mask);

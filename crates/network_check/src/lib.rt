@@ -49,7 +49,8 @@ fn first_broken_row(rows: &[u32], n: usize) -> usize
 fn fill(rows: &[u32], n: usize, taps: &[u32], m: usize, buffer: &mut [i32; 256]) -> usize
     requires { ⌜ (rowWords * n ≤ length (now rows)) × (tapWords * m ≤ length (now taps)) × (m ≤ 256) × (length (now buffer) ≡ 256) ⌝ }
     ensures { λ r. ⌜ r ≡ placeOr m (lowest (breaksTapRowRule (rowsOf (now (rows .entry)) n)) (tapRowsOf (now (taps .entry)) m)) ⌝ }
-    ensures { λ r. ⌜ (r ≡ m → now (buffer .exit) ≡ Coefficients.coefficients (networkOf (now (rows .entry)) n (now (taps .entry)) m) ++ drop m (now (buffer .entry))) ⌝ }
+    ensures { λ r. ⌜ (r ≡ m → now (buffer .exit)
+        ≡ Coefficients.coefficients (networkOf (now (rows .entry)) n (now (taps .entry)) m) ++ drop m (now (buffer .entry))) ⌝ }
 {
     let mut j: usize = 0;
     while j < m {

@@ -86,7 +86,8 @@ pub fn put(table: &mut [u32], heads: &mut [u16], links: &mut [u16], n: usize, ro
     requires { ⌜ Indexed (now table) (now heads) (now links) n ⌝ }
     requires { ⌜ (n < 4096) × (rowWords * n + rowWords ≤ length (now table)) × (n < length (now links)) ⌝ }
     requires { ⌜ rowWith (rowsOf (now table) n) (row .value) ≡ nowhere ⌝ }
-    ensures { λ _. ⌜ Grown (now (table .entry)) (now (table .exit)) (now (heads .exit)) (now (links .exit)) (n + 1) (rowsOf (now (table .entry)) n ++ (row ∷ [])) ⌝ }
+    ensures { λ _. ⌜ Grown (now (table .entry)) (now (table .exit)) (now (heads .exit)) (now (links .exit)) (n + 1)
+        (rowsOf (now (table .entry)) n ++ (row ∷ [])) ⌝ }
 {
     write_row(table, n, row);
     let x = row.value;
