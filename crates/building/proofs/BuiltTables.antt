@@ -3,7 +3,7 @@
 use mathlib.Core.Path.{_≡_, refl, sym, ap, ap₂, _∙_, subst}
 use mathlib.Core.Bool.{false}
 use mathlib.Core.List.{List, _++_}
-use Prim.Native.Nat.{ℕ, _*_, _≤_, _<_}
+use Prim.Native.Nat.{ℕ, _≤_, _<_}
 use native.Mathlib.Omega.{arith}
 use lib.IntN.{ℤ, pos}
 use lib.ListN.{length, getD, drop, length-append, length-drop}
@@ -13,7 +13,7 @@ use Rattle.refusal.proofs.Tables.{length-map}
 use Rattle.coefficient.specs.Parts.{partsOf}
 use Rattle.network.specs.declared.Row.{Row}
 use Rattle.network.specs.declared.TapRow.{TapRow}
-use Rattle.network.specs.Rows.{Network, networkOf, rowWords, tapWords}
+use Rattle.network.specs.Rows.{Network, networkOf}
 use Rattle.network.specs.Check.{networkAnswer}
 use Rattle.network.specs.Accepted.{KeepsRules}
 use Rattle.network.proofs.Passed.{accepted-given}
@@ -21,7 +21,7 @@ use Rattle.building.specs.Steps.{builtRows}
 use Rattle.building.specs.TapRows.{tapRowOf, built}
 use Rattle.building.specs.Answer.{buildAnswer, rowCount}
 use Rattle.building.specs.Tables.{wordsOfRows, wordsOfTapRows}
-use Rattle.building.specs.CanBuild.{CanBuild}
+use Rattle.building.specs.CanBuild.{CanBuild, CanBuildInto}
 use Rattle.building.specs.Built.{BuiltInto, HoldsNetwork}
 use Rattle.building.specs.Claims.{Untouched}
 use Rattle.building.proofs.Words.{length-row-words, length-tap-words, rows-of-words, taps-of-words}
@@ -98,22 +98,33 @@ module _ (cs : List ℤ) (ks rows taps : List ℕ) (net : Network) (e : buildAns
 
 -- ---- what `build` answers and leaves
 module _ (cs : List ℤ) (ks rows taps : List ℕ) where
-  pub can-give : 1 ≤ length cs → CanBuild cs ks → 4096 * rowWords ≤ length rows → 256 * tapWords ≤ length taps → buildAnswer cs ks rows taps ≡ given (built cs ks)
-  can-give some c r t = network-given cs ks rows taps some (c .few) (not-short cs ks rows taps (c .enough) r t) (exist-forms cs ks (c .enough) (c .forms))
+  pub can-give : CanBuildInto cs ks rows taps → buildAnswer cs ks rows taps ≡ given (built cs ks)
+  can-give c =
+      let b = c .can-build in
+      network-given cs ks rows taps (c .some) (b .few) (not-short cs ks rows taps (b .enough) (c .rows-long) (c .taps-long)) (exist-forms cs ks (b .enough) (b .forms))
 
-  pub tables-hold : (a : Answer ℕ) (rows′ taps′ : List ℕ) → 1 ≤ length cs → CanBuild cs ks → 4096 * rowWords ≤ length rows → 256 * tapWords ≤ length taps
-      → BuiltInto cs ks rows taps a rows′ taps′ → HoldsNetwork cs ks a rows′ taps′
-  tables-hold a rows′ taps′ some c r t left =
-      let e = can-give some c r t in
+  pub tables-hold : (a : Answer ℕ) (rows′ taps′ : List ℕ) → CanBuildInto cs ks rows taps → BuiltInto cs ks rows taps a rows′ taps′ → HoldsNetwork cs ks a rows′ taps′
+  tables-hold a rows′ taps′ c left =
+      let e = can-give c in
       record {
         accepts = left .answer ∙ ap rowCount e;
         holds =
             ap₂ (λ (u v : List ℕ). networkOf u (length (built cs ks .rows)) v (length cs)) (left .rows-left) (left .taps-left)
-            ∙ network-left cs ks rows taps (built cs ks) e (c .bounds);
+            ∙ network-left cs ks rows taps (built cs ks) e (c .can-build .bounds);
         passes =
             ap₂ (λ (u v : List ℕ). networkAnswer false u (length (built cs ks .rows)) v (length cs)) (left .rows-left) (left .taps-left)
-            ∙ built-accepted cs ks rows taps (built cs ks) e (c .bounds);
+            ∙ built-accepted cs ks rows taps (built cs ks) e (c .can-build .bounds);
       }
+
+  pub given-only : (n : ℕ) (rows′ taps′ : List ℕ) → ((i : ℕ) → i < length cs → Coefficient (getD cs i (pos 0))) → BuiltInto cs ks rows taps (given n) rows′ taps′
+      → CanBuildInto cs ks rows taps
+  given-only n rows′ taps′ bounds left = go (buildAnswer cs ks rows taps) refl (left .answer)
+    where
+      go : (b : Answer Network) → buildAnswer cs ks rows taps ≡ b → given n ≡ rowCount b → CanBuildInto cs ks rows taps
+      go (given net) e q =
+          let g = given-tells cs ks rows taps net e in
+          record { some = g .taps-from; can-build = given-can-build cs ks rows taps net g bounds; rows-long = g .rows-long; taps-long = g .taps-long }
+      go (refused number place) e q = absurd (let z : _≡_ {A = ℕ} 0 1 = cc in omega arith)
 
   pub tables-untouched : (number place : ℕ) (rows′ taps′ : List ℕ) → BuiltInto cs ks rows taps (refused number place) rows′ taps′ → Untouched rows taps rows′ taps′
   tables-untouched number place rows′ taps′ left = record {

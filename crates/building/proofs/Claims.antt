@@ -10,7 +10,7 @@ use Rattle.building.proofs.TheStep.{the-step}
 use Rattle.building.proofs.TheRows.{the-rows}
 use Rattle.building.proofs.TapRow.{tap-row}
 use Rattle.building.proofs.Passes.{built-few, built-passes}
-use Rattle.building.proofs.BuiltTables.{tables-hold, tables-untouched}
+use Rattle.building.proofs.BuiltTables.{tables-hold, given-only, tables-untouched}
 
 pub building-claims : BuildingClaims
 building-claims = record {
@@ -28,5 +28,6 @@ building-claims = record {
   built-passes = built-passes;
   built-few = built-few;
   built-accepted = tables-hold;
+  built-only = given-only;
   built-refused = tables-untouched;
 }

@@ -101,7 +101,7 @@ into : (rows taps : List ℕ) → 4096 * rowWords ≤ length rows → 256 * tapW
     → BuiltInto sheetCoefficients sheetChoices rows taps (given 3) (sheetRows (drop 15 rows)) (sheetTapRows (drop 12 taps))
 unfolding wordsOfRows wordsOfTapRows
 into rows taps r t =
-    let e = can-give sheetCoefficients sheetChoices rows taps (omega arith) can-build r t in
+    let e = can-give sheetCoefficients sheetChoices rows taps (record { some = omega arith; can-build = can-build; rows-long = r; taps-long = t }) in
     record {
       answer = sym (ap rowCount e ∙ ap (λ (net : Network). given (length (net .rows))) example);
       rows-left = sym (ap₂ (λ (a : Answer Network) (net : Network). filled a (wordsOfRows (net .rows)) rows) e example);

@@ -34,7 +34,7 @@ use Rattle.building.proofs.TapRow.{tap-row}
 
 -- what holds of the rows that are built
 pub record RowsBuilt (coefficients : List ℤ) (rows : List Row) : Type 0 where
-  -- every row keeps the row rule, the values are distinct, and each later row is a first fit or a chain's (proofs/Lawful.antt)
+  -- every row keeps the row rule, the values are distinct, and each later row is a first fit or a chain's
   pub lawful : Lawful rows
   -- every odd part has a row
   pub has : (i v : ℕ) → i < length coefficients → HasOddPart (getD coefficients i (pos 0)) v → HasRow rows v

@@ -1,4 +1,4 @@
--- What holds of the rows that document 01's building steps give, row by row. The statement to read first. Assumes nothing.
+-- What holds of the rows that document 01's building steps give, row by row. Assumes nothing.
 use mathlib.Core.List.{List}
 use mathlib.Core.Logic.{inl, inr}
 use Prim.Native.Nat.{ℕ, _-_}
@@ -15,7 +15,6 @@ use Rattle.building.proofs.Lawful.{lawful-rule, lawful-value, lawful-di
 use Rattle.building.proofs.FirstFit.{fit-is-first}
 use Rattle.building.proofs.Passes.{rows-built}
 
--- ---- the proof
 made-later : (rows : List Row) (r : Row) → RowValue (r .value) → Made rows r → LaterBy rows r
 made-later rows r w (by-search e) = first-fit (fit-is-first rows (r .value) (w .odd) (omega (arith, w .to)) r e)
 made-later rows r w (by-sum v e right sign q) = chain-row (record { right = right; value = inl (sign, rw (row-value rows v (r .left) e) q) })

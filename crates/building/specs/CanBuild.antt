@@ -2,7 +2,7 @@
 use mathlib.Core.Path.{_≡_}
 use mathlib.Core.Bool.{false}
 use mathlib.Core.List.{List, _∷_, _++_, reverse, List·Memᴰ}
-use Prim.Native.Nat.{ℕ, _%_, _^_, _≤_, _<_}
+use Prim.Native.Nat.{ℕ, _*_, _%_, _^_, _≤_, _<_}
 use lib.IntN.{ℤ, pos}
 use lib.ListN.{length, getD, replicate}
 use Rattle.word.specs.Bounds.{Coefficient}
@@ -12,6 +12,7 @@ use Rattle.signed_digit.specs.Weight.{weight}
 use Rattle.signed_digit.specs.Minimal.{Minimal}
 use Rattle.signed_digit.specs.Forms.{listing}
 use Rattle.coefficient.specs.Parts.{partsOf}
+use Rattle.network.specs.Rows.{rowWords, tapWords}
 use Rattle.building.specs.Parts.{Part}
 use Rattle.building.specs.Chain.{chainValue, chainEnd}
 use Rattle.building.specs.Answer.{noSuchForm}
@@ -22,6 +23,13 @@ pub record CanBuild (coefficients : List ℤ) (choices : List ℕ) : Type 0 wher
   pub enough : length coefficients ≤ length choices
   pub bounds : (i : ℕ) → i < length coefficients → Coefficient (getD coefficients i (pos 0))
   pub forms : (i : ℕ) → i < length coefficients → noSuchForm (partsOf (getD coefficients i (pos 0))) (getD choices i 0) ≡ false
+
+-- and two tables that are long enough: "rows 4,096, tap rows .. 256". There is a tap
+pub record CanBuildInto (coefficients : List ℤ) (choices rows taps : List ℕ) : Type 0 where
+  pub some : 1 ≤ length coefficients
+  pub can-build : CanBuild coefficients choices
+  pub rows-long : 4096 * rowWords ≤ length rows
+  pub taps-long : 256 * tapWords ≤ length taps
 
 -- an odd part that can be built: odd, below 2^31, its choice below the number of forms
 pub record Buildable (p : Part) : Type 0 where

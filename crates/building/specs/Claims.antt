@@ -1,9 +1,9 @@
 -- What is claimed of building: of its steps, and of the tables that `build` leaves. proofs/Claims.antt proves it. Definitions only.
 use mathlib.Core.Path.{_≡_}
 use mathlib.Core.List.{List}
-use Prim.Native.Nat.{ℕ, _*_, _%_, _^_, _≤_, _<_}
+use Prim.Native.Nat.{ℕ, _%_, _^_, _≤_, _<_}
 use lib.IntN.{ℤ, pos}
-use lib.ListN.{length}
+use lib.ListN.{length, getD}
 use Rattle.word.specs.Bounds.{Coefficient}
 use Rattle.refusal.specs.Answer.{Answer, given, refused}
 use Rattle.signed_digit.specs.String.{DigitString}
@@ -13,7 +13,6 @@ use Rattle.signed_digit.specs.Forms.{listing}
 use Rattle.coefficient.specs.Parts.{partsOf}
 use Rattle.network.specs.declared.Row.{Row}
 use Rattle.network.specs.declared.TapRow.{TapRow}
-use Rattle.network.specs.Rows.{rowWords, tapWords}
 use Rattle.network.specs.RowRule.{LaterRow}
 use Rattle.network.specs.Coefficients.{coefficientOf}
 use Rattle.network.specs.TapRowRule.{TapRowRule}
@@ -25,7 +24,7 @@ use Rattle.building.specs.Steps.{step, builtRows}
 use Rattle.building.specs.TapRows.{tapRowOf, built}
 use Rattle.building.specs.PartOrder.{HasOddPart, PartsInOrder}
 use Rattle.building.specs.RowSteps.{FirstFit, Lawful, HasRow, TheStep, Growth, TheRows}
-use Rattle.building.specs.CanBuild.{CanBuild, Buildable, Chosen}
+use Rattle.building.specs.CanBuild.{CanBuild, CanBuildInto, Buildable, Chosen}
 use Rattle.building.specs.Built.{BuiltInto, HoldsNetwork}
 
 -- the tap row t of the coefficient n
@@ -64,9 +63,13 @@ pub record BuildingClaims : Type 0 where
   -- ---- the network: it passes the checks, and its coefficients are those given; nothing runs out
   pub built-passes : (coefficients : List ℤ) (choices : List ℕ) → CanBuild coefficients choices → checked (built coefficients choices) ≡ given coefficients
   pub built-few : (coefficients : List ℤ) (choices : List ℕ) → CanBuild coefficients choices → length (built coefficients choices .rows) ≤ 3841
-  -- ---- the tables that `build` leaves: it accepts what demand 3 takes, returns the number of rows, and the tables hold the network
+  -- ---- the tables that `build` leaves: it accepts what can be built, returns the number of rows, and the tables hold the network
   pub built-accepted : (coefficients : List ℤ) (choices rows taps : List ℕ) (a : Answer ℕ) (rows′ taps′ : List ℕ)
-      → 1 ≤ length coefficients → CanBuild coefficients choices → 4096 * rowWords ≤ length rows → 256 * tapWords ≤ length taps
-      → BuiltInto coefficients choices rows taps a rows′ taps′ → HoldsNetwork coefficients choices a rows′ taps′
+      → CanBuildInto coefficients choices rows taps → BuiltInto coefficients choices rows taps a rows′ taps′ → HoldsNetwork coefficients choices a rows′ taps′
+  -- "a number is returned in no other circumstances": it accepts nothing else
+  pub built-only : (coefficients : List ℤ) (choices rows taps : List ℕ) (n : ℕ) (rows′ taps′ : List ℕ)
+      → ((i : ℕ) → i < length coefficients → Coefficient (getD coefficients i (pos 0)))
+      → BuiltInto coefficients choices rows taps (given n) rows′ taps′ → CanBuildInto coefficients choices rows taps
+  -- "unchanged"
   pub built-refused : (coefficients : List ℤ) (choices rows taps : List ℕ) (number place : ℕ) (rows′ taps′ : List ℕ)
       → BuiltInto coefficients choices rows taps (refused number place) rows′ taps′ → Untouched rows taps rows′ taps′

@@ -14,7 +14,7 @@ use Rattle.form_listing.proofs.Written.{minimal-forms-written}
 use Rattle.network.specs.Rows.{Network, rowWords, tapWords}
 use Rattle.building.specs.TapRows.{built}
 use Rattle.building.specs.Answer.{noSuchForm, buildAnswer}
-use Rattle.building.specs.CanBuild.{CanBuild}
+use Rattle.building.specs.CanBuild.{CanBuildInto}
 use Rattle.building.specs.Built.{BuiltInto, HoldsNetwork}
 use Rattle.building.proofs.BuiltTables.{can-give}
 use Rattle.building.proofs.Claims.{building-claims}
@@ -30,21 +30,26 @@ has-form no-odd-part choice l = ap not (eq-eqb choice 0 l)
 has-form (parts sign oddPart shift) choice l = ap not (lt-ltb choice (length (listing 32 (pos oddPart))) l)
 
 -- so demand 3 takes what can be built
-builds : (cs : List ℤ) (ks : List ℕ) → Taken cs ks → CanBuild cs ks
-builds cs ks t = record {
-  few = t .to-256;
-  enough = omega (arith, t .one-per-tap);
-  bounds = t .within-bounds;
-  forms = λ (i : ℕ) h. has-form (partsOf (getD cs i (pos 0))) (getD ks i 0) (t .listed i h);
+builds : (cs : List ℤ) (ks rows taps : List ℕ) → Taken cs ks → 4096 * rowWords ≤ length rows → 256 * tapWords ≤ length taps → CanBuildInto cs ks rows taps
+builds cs ks rows taps t rows-long taps-long = record {
+  some = t .from-1;
+  can-build = record {
+    few = t .to-256;
+    enough = omega (arith, t .one-per-tap);
+    bounds = t .within-bounds;
+    forms = λ (i : ℕ) h. has-form (partsOf (getD cs i (pos 0))) (getD ks i 0) (t .listed i h);
+  };
+  rows-long = rows-long;
+  taps-long = taps-long;
 }
 
 pub can-build : (cs : List ℤ) (ks rows taps : List ℕ) → Taken cs ks → 4096 * rowWords ≤ length rows → 256 * tapWords ≤ length taps → buildAnswer cs ks rows taps ≡ given (built cs ks)
-can-build cs ks rows taps t rows-long taps-long = can-give cs ks rows taps (t .from-1) (builds cs ks t) rows-long taps-long
+can-build cs ks rows taps t rows-long taps-long = can-give cs ks rows taps (builds cs ks rows taps t rows-long taps-long)
 
 module _ (cs : List ℤ) (ks rows taps : List ℕ) (answer : Answer ℕ) (rows′ taps′ : List ℕ) (t : Taken cs ks) (rows-long : 4096 * rowWords ≤ length rows)
     (taps-long : 256 * tapWords ≤ length taps) (left : BuiltInto cs ks rows taps answer rows′ taps′) where
   hold : HoldsNetwork cs ks answer rows′ taps′
-  hold = building-claims .built-accepted cs ks rows taps answer rows′ taps′ (t .from-1) (builds cs ks t) rows-long taps-long left
+  hold = building-claims .built-accepted cs ks rows taps answer rows′ taps′ (builds cs ks rows taps t rows-long taps-long) left
 
   sums : (calls : List Step) → Calls (built cs ks) calls → Demand cs (built cs ks) calls
   sums calls f =
