@@ -35,5 +35,6 @@ pub fn build(coefficients: &[i32], choices: &[u32], rows: &mut [u32], taps: &mut
     if tap < n {
         return Built::Refused(Refusal::NoSuchForm(tap as u32));
     }
-    Built::Rows(network_tables::build_accepted(coefficients, choices, rows, taps) as u32)
+    let count = network_tables::build_accepted(coefficients, choices, rows, taps);
+    Built::Rows(count as u32)
 }
