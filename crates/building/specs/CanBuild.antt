@@ -24,7 +24,7 @@ pub record CanBuild (coefficients : List ℤ) (choices : List ℕ) : Type 0 wher
   pub bounds : (i : ℕ) → i < length coefficients → Coefficient (getD coefficients i (pos 0))
   pub forms : (i : ℕ) → i < length coefficients → noSuchForm (partsOf (getD coefficients i (pos 0))) (getD choices i 0) ≡ false
 
--- and two tables that are long enough: "rows 4,096, tap rows .. 256". There is a tap
+-- the same of one coefficient or more, with two tables that are long enough: "rows 4,096, tap rows .. 256"
 pub record CanBuildInto (coefficients : List ℤ) (choices rows taps : List ℕ) : Type 0 where
   pub some : 1 ≤ length coefficients
   pub can-build : CanBuild coefficients choices
