@@ -13,9 +13,9 @@ use Rattle.network.specs.Check.{shortTables}
 use Rattle.building.specs.TapRows.{built}
 use Rattle.building.specs.Answer.{buildAnswer, rowCount}
 use Rattle.building.specs.Tables.{wordsOfRows, wordsOfTapRows}
+use Rattle.building.specs.Built.{BuiltInto}
 use Rattle.building.proofs.Answers.{short}
-use Rattle.network_tables.specs.Plan.{Written}
-use Rattle.builder.specs.Built.{BuiltInto}
+use Rattle.network_tables.specs.Inner.{Written}
 
 -- ---- the entry's contract, from what building answers
 

@@ -1,6 +1,6 @@
 // A network built from coefficients and chosen forms.
+ghost use Rattle.building.specs.Built.{BuiltInto};
 ghost use Rattle.builder.specs.Answer.{answerOf};
-ghost use Rattle.builder.specs.Built.{BuiltInto};
 use refusal::Refusal;
 
 // The number of rows, or a refusal.
@@ -12,7 +12,8 @@ pub enum Built {
 // Builds the network of the coefficients, each with the form chosen for it, into the two tables, and
 // returns the number of rows. The tables are written only where all is accepted.
 pub fn build(coefficients: &[i32], choices: &[u32], rows: &mut [u32], taps: &mut [u32]) -> Built
-    ensures { λ r. ⌜ BuiltInto (now (coefficients .entry)) (now (choices .entry)) (now (rows .entry)) (now (taps .entry)) (answerOf r) (now (rows .exit)) (now (taps .exit)) ⌝ }
+    ensures { λ r. ⌜ BuiltInto (now (coefficients .entry)) (now (choices .entry)) (now (rows .entry)) (now (taps .entry))
+        (answerOf r) (now (rows .exit)) (now (taps .exit)) ⌝ }
 {
     let n = coefficients.len();
     if n == 0 {
@@ -34,5 +35,6 @@ pub fn build(coefficients: &[i32], choices: &[u32], rows: &mut [u32], taps: &mut
     if tap < n {
         return Built::Refused(Refusal::NoSuchForm(tap as u32));
     }
-    Built::Rows(network_tables::build_accepted(coefficients, choices, rows, taps) as u32)
+    let count = network_tables::build_accepted(coefficients, choices, rows, taps);
+    Built::Rows(count as u32)
 }

@@ -9,16 +9,16 @@ use borrow.Author.Tests.{eq-eqb, ne-eqb, lt-ltb, le-ltb, eqb-false, ltb-false}
 use lib.Dec.{eqb, ltb}
 use lib.IntN.{ℤ, pos}
 use lib.ListN.{length, getD}
-use Rattle.refusal.specs.Answer.{given, refused, refuseIf, refuseAt, Place, nowhere, at-place, lowest}
-use Rattle.refusal.proofs.Checks.{check-applies, check-passes, given-if, given-at, lowest-none-at}
 use Rattle.word.specs.Bounds.{Coefficient}
+use Rattle.refusal.specs.Answer.{given, refused, refuseIf, refuseAt, Place, nowhere, at-place}
+use Rattle.refusal.proofs.Checks.{check-applies, check-passes, given-if, given-at, lowest-none-at}
 use Rattle.coefficient.specs.Parts.{partsOf}
 use Rattle.network.specs.Rows.{Network, rowWords, tapWords}
 use Rattle.network.specs.Check.{shortTables}
 use Rattle.building.specs.TapRows.{built}
-use Rattle.building.specs.Answer.{Choice, choicesOf, noSuchForm, buildAnswer}
+use Rattle.building.specs.Answer.{Choice, choicesOf, noSuchForm, buildAnswer, missingForm}
+use Rattle.building.specs.CanBuild.{CanBuild}
 use Rattle.building.proofs.Lookup.{is-nowhere}
-use Rattle.building.proofs.Passes.{CanBuild}
 
 -- ---- the taps with their choices, by number
 pub length-choices : (cs : List ℤ) (ks : List ℕ) → length cs ≤ length ks → length (choicesOf cs ks) ≡ length cs
@@ -34,10 +34,6 @@ choice-at c [] ks i l h = absurd (not-suc-le-zero h)
 choice-at c (n ∷ cs) [] i l h = absurd (not-suc-le-zero l)
 choice-at c (n ∷ cs) (k ∷ ks) zero l h = refl
 choice-at c (n ∷ cs) (k ∷ ks) (suc i) l h = choice-at c cs ks i (le-of-suc-le-suc l) (le-of-suc-le-suc h)
-
--- check 9: the first tap whose choice is not below the number of forms
-abbrev pub missingForm : List ℤ → List ℕ → Place
-missingForm cs ks = lowest (λ (c : Choice). noSuchForm (c .tap) (c .number)) (choicesOf cs ks)
 
 module _ (cs : List ℤ) (ks : List ℕ) (l : length cs ≤ length ks) where
   none-chosen : Choice

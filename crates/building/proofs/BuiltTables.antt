@@ -7,22 +7,26 @@ use Prim.Native.Nat.{ℕ, _≤_, _<_}
 use native.Mathlib.Omega.{arith}
 use lib.IntN.{ℤ, pos}
 use lib.ListN.{length, getD, drop, length-append, length-drop}
-use Rattle.refusal.specs.Answer.{given, filled}
-use Rattle.refusal.proofs.Tables.{length-map}
 use Rattle.word.specs.Bounds.{Coefficient}
+use Rattle.refusal.specs.Answer.{Answer, given, refused, filled}
+use Rattle.refusal.proofs.Tables.{length-map}
 use Rattle.coefficient.specs.Parts.{partsOf}
 use Rattle.network.specs.declared.Row.{Row}
 use Rattle.network.specs.declared.TapRow.{TapRow}
 use Rattle.network.specs.Rows.{Network, networkOf}
 use Rattle.network.specs.Check.{networkAnswer}
-use Rattle.network.proofs.Passed.{Passed, accepted-given}
+use Rattle.network.specs.Accepted.{KeepsRules}
+use Rattle.network.proofs.Passed.{accepted-given}
 use Rattle.building.specs.Steps.{builtRows}
 use Rattle.building.specs.TapRows.{tapRowOf, built}
-use Rattle.building.specs.Answer.{buildAnswer}
+use Rattle.building.specs.Answer.{buildAnswer, rowCount}
 use Rattle.building.specs.Tables.{wordsOfRows, wordsOfTapRows}
+use Rattle.building.specs.CanBuild.{CanBuild, CanBuildInto}
+use Rattle.building.specs.Built.{BuiltInto, HoldsNetwork}
+use Rattle.building.specs.Claims.{Untouched}
 use Rattle.building.proofs.Words.{length-row-words, length-tap-words, rows-of-words, taps-of-words}
-use Rattle.building.proofs.Passes.{CanBuild, built-few, built-passed}
-use Rattle.building.proofs.Answers.{Given, given-tells, given-can-build}
+use Rattle.building.proofs.Passes.{built-few, built-passed}
+use Rattle.building.proofs.Answers.{Given, given-tells, given-can-build, network-given, not-short, exist-forms}
 
 -- tables that start with a network's words hold it, whatever follows
 pub network-of-words : (net : Network) (more others : List ℕ)
@@ -89,5 +93,45 @@ module _ (cs : List ℤ) (ks rows taps : List ℕ) (net : Network) (e : buildAns
         rows-long = omega (arith, length-rows-left, told .rows-long);
         taps-long = omega (arith, length-taps-left, told .taps-long);
         others-long = refl;
-        passed = subst (λ (x : Network). Passed x cs) (sym (told .network) ∙ sym network-left) (built-passed cs ks can-build);
+        passed = subst (λ (x : Network). KeepsRules x cs) (sym (told .network) ∙ sym network-left) (built-passed cs ks can-build);
       })
+
+-- ---- what `build` answers and leaves
+module _ (cs : List ℤ) (ks rows taps : List ℕ) where
+  pub can-give : CanBuildInto cs ks rows taps → buildAnswer cs ks rows taps ≡ given (built cs ks)
+  can-give c =
+      let b = c .can-build in
+      network-given cs ks rows taps (c .some) (b .few) (not-short cs ks rows taps (b .enough) (c .rows-long) (c .taps-long)) (exist-forms cs ks (b .enough) (b .forms))
+
+  pub tables-hold : (a : Answer ℕ) (rows′ taps′ : List ℕ) → CanBuildInto cs ks rows taps → BuiltInto cs ks rows taps a rows′ taps′ → HoldsNetwork cs ks a rows′ taps′
+  tables-hold a rows′ taps′ c left =
+      let e = can-give c in
+      record {
+        accepts = left .answer ∙ ap rowCount e;
+        holds =
+            ap₂ (λ (u v : List ℕ). networkOf u (length (built cs ks .rows)) v (length cs)) (left .rows-left) (left .taps-left)
+            ∙ network-left cs ks rows taps (built cs ks) e (c .can-build .bounds);
+        passes =
+            ap₂ (λ (u v : List ℕ). networkAnswer false u (length (built cs ks .rows)) v (length cs)) (left .rows-left) (left .taps-left)
+            ∙ built-accepted cs ks rows taps (built cs ks) e (c .can-build .bounds);
+      }
+
+  pub given-only : (n : ℕ) (rows′ taps′ : List ℕ) → ((i : ℕ) → i < length cs → Coefficient (getD cs i (pos 0))) → BuiltInto cs ks rows taps (given n) rows′ taps′
+      → CanBuildInto cs ks rows taps
+  given-only n rows′ taps′ bounds left = go (buildAnswer cs ks rows taps) refl (left .answer)
+    where
+      go : (b : Answer Network) → buildAnswer cs ks rows taps ≡ b → given n ≡ rowCount b → CanBuildInto cs ks rows taps
+      go (given net) e q =
+          let g = given-tells cs ks rows taps net e in
+          record { some = g .taps-from; can-build = given-can-build cs ks rows taps net g bounds; rows-long = g .rows-long; taps-long = g .taps-long }
+      go (refused number place) e q = absurd (let z : _≡_ {A = ℕ} 0 1 = cc in omega arith)
+
+  pub tables-untouched : (number place : ℕ) (rows′ taps′ : List ℕ) → BuiltInto cs ks rows taps (refused number place) rows′ taps′ → Untouched rows taps rows′ taps′
+  tables-untouched number place rows′ taps′ left = record {
+    rows-left = left .rows-left ∙ as-it-was (buildAnswer cs ks rows taps) (wordsOfRows (built cs ks .rows)) rows (left .answer);
+    taps-left = left .taps-left ∙ as-it-was (buildAnswer cs ks rows taps) (wordsOfTapRows (built cs ks .taps)) taps (left .answer);
+  }
+    where
+      as-it-was : (b : Answer Network) (words old : List ℕ) → refused number place ≡ rowCount b → filled b words old ≡ old
+      as-it-was (given net) words old e = absurd (let z : _≡_ {A = ℕ} 0 1 = cc in omega arith)
+      as-it-was (refused n p) words old e = refl

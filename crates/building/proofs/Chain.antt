@@ -16,11 +16,12 @@ use Rattle.network.specs.declared.Row.{Row}
 use Rattle.network.specs.Rows.{plus, minus, rowIn}
 use Rattle.network.specs.RowRule.{lifted, LaterRow}
 use Rattle.building.specs.Search.{rowWith}
-use Rattle.building.specs.Chain.{addUnless, chainStep, chainFrom, chainDown}
+use Rattle.building.specs.Chain.{addUnless, chainStep, chainFrom, chainDown, chainValue, chainEnd}
+use Rattle.building.specs.RowSteps.{Made, by-sum, by-difference, Lawful, Growth}
 use Rattle.building.proofs.Lookup.{row-within, row-value}
-use Rattle.building.proofs.Lawful.{Made, by-sum, by-difference, Lawful, lawful-some, lawful-first, lawful-own}
-use Rattle.building.proofs.ChainValue.{chainValue, chainEnd, doubled, no-less, never-falls}
-use Rattle.building.proofs.Growth.{Growth, unchanged, one-row, then}
+use Rattle.building.proofs.Lawful.{lawful-some, lawful-first, lawful-own}
+use Rattle.building.proofs.ChainValue.{doubled, no-less, never-falls}
+use Rattle.building.proofs.Growth.{unchanged, one-row, then}
 
 -- 2^gap·v is no more than 2^31, so the gap is at most 31
 pub few-places : (gap v : ℕ) → 1 ≤ v → 2 ^ gap * v ≤ 2 ^ 31 → gap ≤ 31

@@ -5,25 +5,13 @@ use mathlib.Core.List.{[], _∷_, _++_, reverse, reverse-cons}
 use Prim.Native.Nat.{ℕ, zero, suc, _+_, _*_, _-_, _%_, _^_, _≤_, _<_}
 use native.Mathlib.Nat.{pow-suc, pow-succ', mul-assoc, le-refl}
 use native.Mathlib.Omega.{arith}
-use lib.ListN.{length, length-append, replicate}
+use lib.ListN.{length, length-append}
 use Rattle.signed_digit.specs.Digit.{Digit, one, nought, minus-one, nonzero}
 use Rattle.signed_digit.specs.String.{DigitString}
 use Rattle.signed_digit.specs.Weight.{weight}
 use Rattle.signed_digit.specs.Masks.{mask, plusBit, minusBit}
-
--- the last v, from v and `gap` on; the digits from high to low, as in specs/Chain.antt
-unfoldable pub chainValue : ℕ → ℕ → DigitString → ℕ
-chainValue v gap [] = v
-chainValue v gap (nought ∷ s) = chainValue v (suc gap) s
-chainValue v gap (one ∷ s) = chainValue (2 ^ gap * v + 1) 1 s
-chainValue v gap (minus-one ∷ s) = chainValue (2 ^ gap * v - 1) 1 s
-
--- from the highest nonzero digit down; 0 where this is not a 1
-unfoldable pub chainEnd : DigitString → ℕ
-chainEnd [] = 0
-chainEnd (nought ∷ s) = chainEnd s
-chainEnd (one ∷ s) = chainValue 1 1 s
-chainEnd (minus-one ∷ s) = 0
+use Rattle.building.specs.Chain.{chainValue, chainEnd}
+use Rattle.building.specs.CanBuild.{LeadingOne}
 
 -- ---- 2^gap·v, for a gap of one place or more
 pub doubled : (g v : ℕ) → 2 ^ suc g * v ≡ 2 * (2 ^ g * v)
@@ -116,12 +104,6 @@ pub chain-ends : (t : ℕ) (s : DigitString) → t % 2 ≡ 1 → mask plusBit s 
 chain-ends t s o h = end-reads t (reverse s) o (omega (arith, high-reverse plusBit s, high-reverse minusBit s))
 
 -- ---- the highest nonzero digit, where a chain has an end, is a 1
-pub record LeadingOne (s : DigitString) : Type 0 where
-  pub zeros : ℕ
-  pub rest : DigitString
-  pub is : s ≡ replicate zeros nought ++ (one ∷ rest)
-  pub ends : chainEnd s ≡ chainValue 1 1 rest
-
 pub leading-one : (s : DigitString) → 1 ≤ chainEnd s → LeadingOne s
 unfolding chainEnd
 leading-one [] l = absurd (omega arith)

@@ -16,8 +16,9 @@ use Rattle.signed_digit.proofs.Value.{value-eq}
 use Rattle.signed_digit.proofs.Listing.{listing-is}
 use Rattle.signed_digit.proofs.Coefficients.{canonical-32, weight-32}
 use Rattle.building.specs.Parts.{leastWeight}
-use Rattle.building.specs.Chain.{chosenForm}
-use Rattle.building.proofs.ChainValue.{chainEnd, chain-ends, LeadingOne, leading-one, weight-reverse}
+use Rattle.building.specs.Chain.{chosenForm, chainEnd}
+use Rattle.building.specs.CanBuild.{Chosen}
+use Rattle.building.proofs.ChainValue.{chain-ends, leading-one, weight-reverse}
 
 -- a member of a list, by its number
 pub member : {A : Type 0} (a : A) (l : List A) (k : ℕ) → k < length l → List·Memᴰ (getD l k a) l
@@ -33,17 +34,6 @@ least-weight v h s m =
     omega (arith, m .least (canonical 32 (pos v)) (c .has-value), c .least s (m .has-value))
 
 -- ---- the chosen form
-pub record Chosen (v : ℕ) (form : DigitString) : Type 0 where
-  -- "in the listing of its odd part"
-  pub listed : List·Memᴰ form (listing 32 (pos v))
-  pub minimal : Minimal (pos v) form
-  pub places : length form ≡ 32
-  pub light : weight form ≤ 16
-  -- "read the chosen form from its highest nonzero digit down": this digit is a 1, and the chain ends at v
-  pub ends : v % 2 ≡ 1 → chainEnd (reverse form) ≡ v
-  pub leads : v % 2 ≡ 1 → LeadingOne (reverse form)
-  pub light-down : weight (reverse form) ≤ 16
-
 pub chosen-form : (v choice : ℕ) → v < 2 ^ 31 → choice < length (listing 32 (pos v)) → Chosen v (chosenForm v choice)
 unfolding chosenForm
 chosen-form v choice h l =

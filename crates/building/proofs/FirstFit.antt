@@ -2,7 +2,7 @@
 -- comes before it by "lowest left, then lowest shift, then sign in the order `+`, `-`, `r`"; where nothing is found, there is no such row.
 -- Assumes nothing.
 use mathlib.Core.Path.{_≡_, refl, sym, ap, _∙_}
-use mathlib.Core.Bool.{Bool, true, false, cond, true≢false}
+use mathlib.Core.Bool.{Bool, true, false, true≢false}
 use mathlib.Core.List.{List}
 use mathlib.Core.Logic.{⊎-elim}
 use Prim.Native.Nat.{ℕ, zero, suc, _-_, _%_, _^_, _≤_, _<_}
@@ -19,27 +19,10 @@ use Rattle.network.specs.Rows.{plus, minus, reversed, rowIn}
 use Rattle.network.specs.RowRule.{combined, isRowSign, isNatural, lifted, LaterRow}
 use Rattle.network.proofs.Booleans.{is-true, both}
 use Rattle.network.proofs.Rules.{natural-is, is-natural}
-use Rattle.building.specs.Search.{Fit, fit, none-fits, firstOver, tried, signs, shifts, firstFit}
+use Rattle.building.specs.Search.{Fit, fit, none-fits, tried, signs, shifts, firstFit, fitAtShift, fitAtLeft}
+use Rattle.building.specs.RowSteps.{signPlace, NoLater, lower-left, lower-shift, no-later-sign, FirstFit}
 use Rattle.building.proofs.FirstOver.{FirstAt, over-fit, over-none, up-to-fit, up-to-none}
 use Rattle.building.proofs.Tried.{Tried, tried-fit, tried-none}
-
--- ---- the statements
-
--- the place of a sign "in the order `+`, `-`, `r`"
-abbrev pub signPlace : ℕ → ℕ
-signPlace sign = cond (eqb sign plus) 0 (cond (eqb sign minus) 1 2)
-
--- r comes no later than q: "lowest left, then lowest shift, then sign"
-pub data NoLater (r q : Row) : Type 0 where
-  lower-left : r .left < q .left → NoLater r q
-  lower-shift : r .left ≡ q .left → r .shift < q .shift → NoLater r q
-  no-later-sign : r .left ≡ q .left → r .shift ≡ q .shift → signPlace (r .sign) ≤ signPlace (q .sign) → NoLater r q
-
--- r is the first of the new rows of value v from these rows
-pub record FirstFit (rows : List Row) (v : ℕ) (r : Row) : Type 0 where
-  pub value : r .value ≡ v
-  pub rule : LaterRow rows (length rows) r
-  pub first : (q : Row) → q .value ≡ v → LaterRow rows (length rows) q → NoLater r q
 
 -- ---- signs
 sign-at : (k : ℕ) → k < 3 → (T (isRowSign (getD signs k 0))) × (signPlace (getD signs k 0) ≡ k)
@@ -74,10 +57,10 @@ module _ (rows : List Row) (v : ℕ) where
   bySign left shift k = tried rows v left shift (getD signs k 0)
 
   abbrev byShift : ℕ → ℕ → Fit
-  byShift left s = firstOver (λ (sign : ℕ). tried rows v left (suc s) sign) signs
+  byShift left s = fitAtShift rows v left (suc s)
 
   abbrev byLeft : ℕ → Fit
-  byLeft left = firstOver (λ (shift : ℕ). firstOver (λ (sign : ℕ). tried rows v left shift sign) signs) shifts
+  byLeft left = fitAtLeft rows v left
 
   -- a row of value v that keeps the rule is tried, and then something is found
   refuted : (q : Row) → q .value ≡ v → LaterRow rows (length rows) q → tried rows v (q .left) (q .shift) (q .sign) ≡ none-fits → ⊥
@@ -93,16 +76,18 @@ module _ (rows : List Row) (v : ℕ) where
     sign-tried n = refuted q e w (ap (tried rows v (q .left) (q .shift)) (sym (place-of (q .sign) (w .sign) .1)) ∙ n)
 
     shift-tried : byShift (q .left) (q .shift - 1) ≡ none-fits → ⊥
+    unfolding fitAtShift
     shift-tried n =
         let s : suc (q .shift - 1) ≡ q .shift = omega (arith, w .shift-from) in
         sign-tried (over-none 0 (tried rows v (q .left) (q .shift)) signs (rw s at n) (signPlace (q .sign)) (place-of (q .sign) (w .sign) .0))
 
     left-tried : byLeft (q .left) ≡ none-fits → ⊥
+    unfolding fitAtLeft
     left-tried n =
         shift-tried
         (let k : q .shift - 1 < 31 = omega (arith, w .shift-to, w .shift-from) in
-        ap (λ (s : ℕ). firstOver (tried rows v (q .left) s) signs) (sym (shift-at (q .shift - 1) k))
-        ∙ over-none 0 (λ (s : ℕ). firstOver (tried rows v (q .left) s) signs) shifts n (q .shift - 1) (omega (arith, shift-count)))
+        ap (λ (s : ℕ). fitAtShift rows v (q .left) s) (sym (shift-at (q .shift - 1) k))
+        ∙ over-none 0 (λ (s : ℕ). fitAtShift rows v (q .left) s) shifts n (q .shift - 1) (omega (arith, shift-count)))
 
   -- the three places of what was found
   record Places (r : Row) : Type 0 where
@@ -111,18 +96,19 @@ module _ (rows : List Row) (v : ℕ) where
     signs-at : FirstAt (bySign (lefts .place) (suc (shifts-at .place))) 3 r
 
   by-shift : (r : Row) (left : ℕ) → byLeft left ≡ fit r → FirstAt (byShift left) 31 r
+  unfolding fitAtLeft
   by-shift r left e =
-      let y = over-fit 0 (λ (s : ℕ). firstOver (tried rows v left s) signs) shifts r e in
+      let y = over-fit 0 (λ (s : ℕ). fitAtShift rows v left s) shifts r e in
       let l : y .place < 31 = omega (arith, y .within, shift-count) in
       record {
         place = y .place;
         within = l;
-        fits = ap (λ (s : ℕ). firstOver (tried rows v left s) signs) (sym (shift-at (y .place) l)) ∙ y .fits;
-        not-before = λ k m. ap (λ (s : ℕ). firstOver (tried rows v left s) signs) (sym (shift-at k (omega arith))) ∙ y .not-before k m;
+        fits = ap (λ (s : ℕ). fitAtShift rows v left s) (sym (shift-at (y .place) l)) ∙ y .fits;
+        not-before = λ k m. ap (λ (s : ℕ). fitAtShift rows v left s) (sym (shift-at k (omega arith))) ∙ y .not-before k m;
       }
 
   found-places : (r : Row) → firstFit rows v ≡ fit r → Places r
-  unfolding firstFit
+  unfolding firstFit fitAtShift
   found-places r e =
       let x = up-to-fit 0 (λ (i : ℕ). i) byLeft (length rows) r e in
       let y = by-shift r (x .place) (x .fits) in

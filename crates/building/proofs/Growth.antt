@@ -4,27 +4,15 @@ use mathlib.Core.List.{List, [], _∷_, _++_, append-nil, append-assoc}
 use Prim.Native.Nat.{ℕ, _+_, _≤_}
 use native.Mathlib.Omega.{arith}
 use lib.ListN.{length, length-append}
-use Rattle.refusal.specs.Answer.{nowhere, at-place}
+use Rattle.refusal.specs.Answer.{nowhere}
 use Rattle.network.specs.declared.Row.{Row}
 use Rattle.network.specs.RowRule.{LaterRow}
 use Rattle.building.specs.Search.{rowWith}
+use Rattle.building.specs.RowSteps.{Made, Lawful, one-more, HasRow, Growth}
 use Rattle.building.proofs.Lookup.{row-stays, row-joins}
-use Rattle.building.proofs.Lawful.{Made, Lawful, one-more}
-
--- step 1: a row has this value
-abbrev pub HasRow : List Row → ℕ → Type 0
-HasRow rows v = (i : ℕ) × (rowWith rows v ≡ at-place i)
 
 pub has-still : (rows more : List Row) (v : ℕ) → HasRow rows v → HasRow (rows ++ more) v
 has-still rows more v h = (h .0, row-stays rows v more (h .0) (h .1))
-
--- `grown` is `rows` and at most `most` rows more, and has a row of value v
-pub record Growth (rows grown : List Row) (v most : ℕ) : Type 0 where
-  pub lawful : Lawful grown
-  pub has : HasRow grown v
-  pub more : List Row
-  pub is : grown ≡ rows ++ more
-  pub few : length more ≤ most
 
 pub unchanged : (rows : List Row) (v most : ℕ) → Lawful rows → HasRow rows v → Growth rows rows v most
 unchanged rows v most w h = record { lawful = w; has = h; more = []; is = sym (append-nil rows); few = omega arith }

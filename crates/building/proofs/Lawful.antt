@@ -3,28 +3,19 @@
 use mathlib.Core.Path.{_≡_, refl, sym, ap, _∙_, subst}
 use mathlib.Core.List.{List, [], _∷_, _++_}
 use mathlib.Core.Logic.{_⊎_, inl, inr}
-use Prim.Native.Nat.{ℕ, zero, suc, _+_, _*_, _-_, _%_, _^_, _≤_, _<_, zero-le, suc-le-suc}
+use Prim.Native.Nat.{ℕ, zero, suc, _+_, _-_, _≤_, _<_, zero-le, suc-le-suc}
 use native.Mathlib.Nat.{eq-or-lt-of-le}
 use native.Mathlib.Omega.{arith}
 use lib.ListN.{length, take, length-append, List·getD-append}
 use lib.Seq.{getD-at, take-at, take-append-le}
-use Rattle.refusal.specs.Answer.{nowhere, at-place, lowestFrom}
+use Rattle.refusal.specs.Answer.{at-place, lowestFrom}
 use Rattle.network.specs.declared.Row.{Row}
-use Rattle.network.specs.Rows.{plus, minus, rowIn, noRow}
+use Rattle.network.specs.Rows.{rowIn, noRow}
 use Rattle.network.specs.RowRule.{FirstRow, LaterRow, RowRule}
-use Rattle.building.specs.Search.{rowWith, fit, firstFit}
+use Rattle.building.specs.Search.{rowWith}
 use Rattle.building.specs.Steps.{firstRow}
+use Rattle.building.specs.RowSteps.{Made, Lawful, row-0, one-more, RowValue}
 use Rattle.building.proofs.Lookup.{row-stays, row-joins}
-
--- where a new row comes from: step 2, "The first fit is added"; or step 3, "v = 2^gap·v ± 1 with row 0 on the right"
-pub data Made (rows : List Row) (r : Row) : Type 0 where
-  by-search : firstFit rows (r .value) ≡ fit r → Made rows r
-  by-sum : (v : ℕ) → rowWith rows v ≡ at-place (r .left) → r .right ≡ 0 → r .sign ≡ plus → r .value ≡ 2 ^ r .shift * v + 1 → Made rows r
-  by-difference : (v : ℕ) → rowWith rows v ≡ at-place (r .left) → r .right ≡ 0 → r .sign ≡ minus → r .value ≡ 2 ^ r .shift * v - 1 → Made rows r
-
-pub data Lawful : List Row → Type 0 where
-  row-0 : Lawful (firstRow ∷ [])
-  one-more : {rows : List Row} {r : Row} → Lawful rows → LaterRow rows (length rows) r → rowWith rows (r .value) ≡ nowhere → Made rows r → Lawful (rows ++ (r ∷ []))
 
 -- ---- a row at the end
 length-more : (rows : List Row) (r : Row) → length (rows ++ (r ∷ [])) ≡ length rows + 1
@@ -88,12 +79,6 @@ lawful-rule (one-more {rows} {r} w l n m) i h = go (last-or-before rows r i h) (
         subst (RowRule (rows ++ (r ∷ []))) (sym e)
         (later-rule (rows ++ (r ∷ [])) (length rows) (lawful-some w)
         (subst (LaterRow (rows ++ (r ∷ [])) (length rows)) (sym (row-at-end rows r)) (later-more rows (r ∷ []) (length rows) r (omega arith) l)))
-
--- "A row's value is odd, from 1 to 2^31 - 1"
-pub record RowValue (v : ℕ) : Type 0 where
-  pub odd : v % 2 ≡ 1
-  pub from : 1 ≤ v
-  pub to : v ≤ 2 ^ 31 - 1
 
 rule-value : (rows : List Row) (i : ℕ) → RowRule rows i → RowValue (rowIn rows i .value)
 rule-value rows zero w = rw (w .value) (record { odd = refl; from = omega arith; to = omega arith })

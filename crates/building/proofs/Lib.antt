@@ -1,4 +1,7 @@
--- The statements to read first:
+-- What specs/Claims.antt and specs/Figures.antt state:
+pub mod Claims
+pub mod Figures
+-- What they rest on, and the proofs of the crates above may cite:
 pub mod Passes
 pub mod BuiltTables
 pub mod TheRows
@@ -8,8 +11,6 @@ pub mod OnlyParts
 pub mod FirstFit
 pub mod OnlyFit
 pub mod ChosenForm
-pub mod Example
--- What they rest on, and the proofs of the crates above may cite:
 pub mod Order
 pub mod Lookup
 pub mod FirstOver
@@ -22,6 +23,5 @@ pub mod Steps
 pub mod Reduced
 pub mod TapRow
 pub mod Words
-pub mod TapWritten
 pub mod MasksDown
 pub mod Answers

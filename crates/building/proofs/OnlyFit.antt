@@ -15,8 +15,9 @@ use Rattle.network.proofs.Booleans.{is-true}
 use Rattle.network.proofs.Rules.{is-natural}
 use Rattle.network.proofs.RowTests.{worked-tests}
 use Rattle.building.specs.Search.{Fit, fit, none-fits, firstFit}
-use Rattle.building.proofs.Lawful.{Lawful, lawful-distinct}
-use Rattle.building.proofs.FirstFit.{signPlace, NoLater, lower-left, lower-shift, no-later-sign, FirstFit, fit-is-first, none-is-none, same-sign}
+use Rattle.building.specs.RowSteps.{signPlace, NoLater, lower-left, lower-shift, no-later-sign, FirstFit, Lawful}
+use Rattle.building.proofs.Lawful.{lawful-distinct}
+use Rattle.building.proofs.FirstFit.{fit-is-first, none-is-none, same-sign}
 
 -- ---- left, shift and sign
 record SamePlace (r q : Row) : Type 0 where

@@ -9,8 +9,9 @@ use native.Mathlib.Omega.{arith}
 use lib.IntN.{ℤ, pos}
 use lib.ListN.{length, getD}
 use Rattle.building.specs.Parts.{Part, partsToBuild}
-use Rattle.building.proofs.Order.{Before, before-apart, before-trans}
-use Rattle.building.proofs.PartsInOrder.{InOrder, HasOddPart, Earliest, PartsInOrder, parts-in-order}
+use Rattle.building.specs.PartOrder.{InOrder, HasOddPart, Earliest, PartsInOrder, Before}
+use Rattle.building.proofs.Order.{before-apart, before-trans}
+use Rattle.building.proofs.PartsInOrder.{parts-in-order}
 
 -- ---- a list in order is fixed by its members
 apart : (p q : Part) → Before (p .value) (q .value) → p ≡ q → ⊥

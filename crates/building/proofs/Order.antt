@@ -7,15 +7,11 @@ use native.Mathlib.Nat.{lt-of-not-le}
 use native.Mathlib.Omega.{arith}
 use borrow.Author.Tests.{ltb-true, ltb-false, eqb-true, eqb-false, lt-ltb, le-ltb, eq-eqb}
 use lib.Dec.{eqb, ltb}
-use Rattle.building.specs.Parts.{leastWeight, before}
+use Rattle.building.specs.Parts.{leastWeight, comesBefore}
+use Rattle.building.specs.PartOrder.{Before, lighter, smaller}
 
--- v is built before w
-pub data Before (v w : ℕ) : Type 0 where
-  lighter : leastWeight v < leastWeight w → Before v w
-  smaller : leastWeight v ≡ leastWeight w → v < w → Before v w
-
-pub before-is : (v w : ℕ) → before v w ≡ true → Before v w
-unfolding before
+pub before-is : (v w : ℕ) → comesBefore v w ≡ true → Before v w
+unfolding comesBefore
 before-is v w e = go (ltb (leastWeight v) (leastWeight w)) (eqb (leastWeight v) (leastWeight w)) (ltb v w) refl refl refl e
   where
     go : (x y z : Bool) → ltb (leastWeight v) (leastWeight w) ≡ x → eqb (leastWeight v) (leastWeight w) ≡ y → ltb v w ≡ z → (x || y && z) ≡ true → Before v w
@@ -24,8 +20,8 @@ before-is v w e = go (ltb (leastWeight v) (leastWeight w)) (eqb (leastWeight v) 
     go false true false p q r h = absurd (false≢true h)
     go false false z p q r h = absurd (false≢true h)
 
-pub is-before : (v w : ℕ) → Before v w → before v w ≡ true
-unfolding before
+pub is-before : (v w : ℕ) → Before v w → comesBefore v w ≡ true
+unfolding comesBefore
 is-before v w (lighter l) = rw (lt-ltb (leastWeight v) (leastWeight w) l)
 is-before v w (smaller e l) = rw (le-ltb (leastWeight v) (leastWeight w) (omega arith), eq-eqb (leastWeight v) (leastWeight w) e, lt-ltb v w l)
 
@@ -41,8 +37,8 @@ before-trans u v w (smaller d a) (lighter b) = lighter (omega arith)
 before-trans u v w (smaller d a) (smaller e b) = smaller (d ∙ e) (omega arith)
 
 -- of two odd parts one comes first
-pub else-before : (v w : ℕ) → (v ≡ w → ⊥) → before v w ≡ false → Before w v
-unfolding before
+pub else-before : (v w : ℕ) → (v ≡ w → ⊥) → comesBefore v w ≡ false → Before w v
+unfolding comesBefore
 else-before v w n e = go (ltb (leastWeight v) (leastWeight w)) (eqb (leastWeight v) (leastWeight w)) (ltb v w) refl refl refl e
   where
     apart : (a b : ℕ) → b ≤ a → (a ≡ b → ⊥) → b < a

@@ -13,19 +13,11 @@ use lib.IntN.{ℤ, pos}
 use lib.ListN.{length, getD}
 use Rattle.signed_digit.specs.Reduction.{Sign}
 use Rattle.coefficient.specs.Parts.{Parts, no-odd-part, parts, partsOf}
-use Rattle.building.specs.Parts.{Part, before, insert, insertTap, takenFrom, partsToBuild}
-use Rattle.building.proofs.Order.{Before, before-is, before-apart, before-trans, else-before}
+use Rattle.building.specs.Parts.{Part, comesBefore, insert, insertTap, takenFrom, partsToBuild}
+use Rattle.building.specs.PartOrder.{Before, InOrder, HasOddPart, Earliest, PartsInOrder}
+use Rattle.building.proofs.Order.{before-is, before-apart, before-trans, else-before}
 
 -- ---- the statements
-
--- each part is built before every one after it
-abbrev pub InOrder : List Part → Type 0
-InOrder [] = Unit {0}
-InOrder (p ∷ ps) = ((q : Part) → List·Memᴰ q ps → Before (p .value) (q .value)) × InOrder ps
-
--- the coefficient n has the odd part v
-abbrev pub HasOddPart : ℤ → ℕ → Type 0
-HasOddPart n v = (s : Sign) × (shift : ℕ) × (partsOf n ≡ parts s v shift)
 
 -- no part has the value v
 abbrev Without : List Part → ℕ → Type 0
@@ -34,21 +26,6 @@ Without ps v = (q : Part) → List·Memᴰ q ps → q .value ≡ v → ⊥
 -- a part of value v stands there
 abbrev Holds : List Part → ℕ → Type 0
 Holds ps v = (q : Part) × List·Memᴰ q ps × (q .value ≡ v)
-
--- "For equal odd parts the earliest tap's choice is used."
-pub record Earliest (coefficients : List ℤ) (choices : List ℕ) (p : Part) : Type 0 where
-  pub tap : ℕ
-  pub within : tap < length coefficients
-  pub has : HasOddPart (getD coefficients tap (pos 0)) (p .value)
-  pub choice : getD choices tap 0 ≡ p .choice
-  pub not-before : (j : ℕ) → j < tap → HasOddPart (getD coefficients j (pos 0)) (p .value) → ⊥
-
--- "take the distinct odd parts by least weight, then by smaller value"
-pub record PartsInOrder (coefficients : List ℤ) (choices : List ℕ) (ps : List Part) : Type 0 where
-  pub in-order : InOrder ps
-  pub every : (i v : ℕ) → i < length coefficients → HasOddPart (getD coefficients i (pos 0)) v → (p : Part) × List·Memᴰ p ps × (p .value ≡ v)
-  pub earliest : (p : Part) → List·Memᴰ p ps → Earliest coefficients choices p
-  pub few : length ps ≤ length coefficients
 
 -- ---- one part more
 record Inserted (p : Part) (ps rs : List Part) : Type 0 where
@@ -98,9 +75,9 @@ further p q qs rs o n b r = record {
 inserted : (p : Part) (ps : List Part) → InOrder ps → Inserted p ps (insert p ps)
 unfolding insert
 inserted p [] o = alone p
-inserted p (q ∷ qs) o = go (eqb (p .value) (q .value)) (before (p .value) (q .value)) refl refl (inserted p qs (o .1))
+inserted p (q ∷ qs) o = go (eqb (p .value) (q .value)) (comesBefore (p .value) (q .value)) refl refl (inserted p qs (o .1))
   where
-    go : (x y : Bool) → eqb (p .value) (q .value) ≡ x → before (p .value) (q .value) ≡ y → Inserted p qs (insert p qs)
+    go : (x y : Bool) → eqb (p .value) (q .value) ≡ x → comesBefore (p .value) (q .value) ≡ y → Inserted p qs (insert p qs)
         → Inserted p (q ∷ qs) (cond x (q ∷ qs) (cond y (p ∷ q ∷ qs) (q ∷ insert p qs)))
     go true y e b r = there-already p q qs o (eqb-true _ _ e)
     go false true e b r = in-front p q qs o (before-is _ _ b)

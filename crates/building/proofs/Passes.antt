@@ -1,6 +1,5 @@
 -- The network that document 01's building steps give passes every check, and its coefficients are those that it was built for. Assumes nothing.
 use mathlib.Core.Path.{_≡_, refl, sym, ap, _∙_, subst}
-use mathlib.Core.Bool.{false}
 use mathlib.Core.List.{List, [], _∷_, map, List·Memᴰ}
 use Prim.Native.Nat.{ℕ, suc, _≤_, _<_, suc-le-suc}
 use native.Mathlib.Omega.{arith}
@@ -10,7 +9,6 @@ use lib.IntN.{ℤ, pos}
 use lib.ListN.{length, getD, List·getD-map}
 use Rattle.refusal.specs.Answer.{given}
 use Rattle.refusal.proofs.Tables.{length-map}
-use Rattle.word.specs.Bounds.{Coefficient}
 use Rattle.signed_digit.specs.Forms.{listing}
 use Rattle.coefficient.specs.Parts.{Parts, parts, partsOf}
 use Rattle.network.specs.declared.Row.{Row}
@@ -18,28 +16,25 @@ use Rattle.network.specs.Rows.{tapRowIn, noTap}
 use Rattle.network.specs.Coefficients.{coefficientOf, coefficients}
 use Rattle.network.specs.TapRowRule.{TapRowRule}
 use Rattle.network.specs.Check.{checked}
-use Rattle.network.proofs.Passed.{Passed, passed-checked}
+use Rattle.network.specs.Accepted.{KeepsRules}
+use Rattle.network.proofs.Passed.{passed-checked}
 use Rattle.building.specs.Parts.{Part, partsToBuild}
 use Rattle.building.specs.Steps.{firstRow, steps, builtRows}
 use Rattle.building.specs.TapRows.{tapRowOf, built}
 use Rattle.building.specs.Answer.{noSuchForm}
-use Rattle.building.proofs.Lawful.{Lawful, row-0, lawful-some, lawful-rule}
-use Rattle.building.proofs.PartsInOrder.{HasOddPart, Earliest, parts-in-order}
-use Rattle.building.proofs.Growth.{HasRow}
-use Rattle.building.proofs.Steps.{Buildable, steps-grow}
+use Rattle.building.specs.RowSteps.{Lawful, row-0, HasRow}
+use Rattle.building.specs.PartOrder.{HasOddPart, Earliest}
+use Rattle.building.specs.CanBuild.{Buildable, CanBuild}
+use Rattle.building.specs.Claims.{TapOf}
+use Rattle.building.proofs.Lawful.{lawful-some, lawful-rule}
+use Rattle.building.proofs.PartsInOrder.{parts-in-order}
+use Rattle.building.proofs.Steps.{steps-grow}
 use Rattle.building.proofs.Reduced.{parts-reduced}
-use Rattle.building.proofs.TapRow.{TapOf, tap-row}
-
--- at most 256 coefficients, each a coefficient within bounds, with a choice of one listed form per tap
-pub record CanBuild (coefficients : List ℤ) (choices : List ℕ) : Type 0 where
-  pub few : length coefficients ≤ 256
-  pub enough : length coefficients ≤ length choices
-  pub bounds : (i : ℕ) → i < length coefficients → Coefficient (getD coefficients i (pos 0))
-  pub forms : (i : ℕ) → i < length coefficients → noSuchForm (partsOf (getD coefficients i (pos 0))) (getD choices i 0) ≡ false
+use Rattle.building.proofs.TapRow.{tap-row}
 
 -- what holds of the rows that are built
 pub record RowsBuilt (coefficients : List ℤ) (rows : List Row) : Type 0 where
-  -- every row keeps the row rule, the values are distinct, and each later row is a first fit or a chain's (proofs/Lawful.antt)
+  -- every row keeps the row rule, the values are distinct, and each later row is a first fit or a chain's
   pub lawful : Lawful rows
   -- every odd part has a row
   pub has : (i v : ℕ) → i < length coefficients → HasOddPart (getD coefficients i (pos 0)) v → HasRow rows v
@@ -101,7 +96,7 @@ module _ (cs : List ℤ) (ks : List ℕ) (c : CanBuild cs ks) where
   unfolding built
   built-few = rows-built cs ks c .few
 
-  pub built-passed : Passed (built cs ks) cs
+  pub built-passed : KeepsRules (built cs ks) cs
   unfolding built
   built-passed =
       let r = rows-built cs ks c in

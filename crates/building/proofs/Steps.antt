@@ -3,23 +3,22 @@
 use mathlib.Core.Path.{_≡_, refl, sym, ap, _∙_, subst}
 use mathlib.Core.List.{List, [], _∷_, _++_, List·Memᴰ, List·Memᴰ·head, List·Memᴰ·tail, List·Memᴰ·not-nil, List·Memᴰ·cases-cons}
 use mathlib.Core.Logic.{_⊎_, inl, inr}
-use Prim.Native.Nat.{ℕ, _+_, _*_, _%_, _^_, _≤_, _<_}
+use Prim.Native.Nat.{ℕ, _+_, _*_, _≤_, _<_}
 use native.Mathlib.Numerals.{add-one}
 use native.Mathlib.Omega.{arith}
-use lib.IntN.{pos}
 use lib.ListN.{length, getD, drop, drop-of-length-le}
 use lib.Seq.{drop-cons}
 use Rattle.refusal.specs.Answer.{Place, nowhere, at-place}
-use Rattle.signed_digit.specs.Forms.{listing}
 use Rattle.network.specs.declared.Row.{Row}
 use Rattle.building.specs.Parts.{Part}
 use Rattle.building.specs.Search.{rowWith, Fit, fit, none-fits, firstFit}
 use Rattle.building.specs.Chain.{chosenForm, chained}
 use Rattle.building.specs.Steps.{searched, lookedUp, step, steps}
-use Rattle.building.proofs.Lawful.{Lawful, by-search}
+use Rattle.building.specs.RowSteps.{Lawful, by-search, HasRow, Growth}
+use Rattle.building.specs.CanBuild.{Buildable}
 use Rattle.building.proofs.FirstFit.{fit-is-first}
 use Rattle.building.proofs.ChosenForm.{chosen-form}
-use Rattle.building.proofs.Growth.{HasRow, Growth, unchanged, one-row, still, grown-length}
+use Rattle.building.proofs.Growth.{unchanged, one-row, still, grown-length}
 use Rattle.building.proofs.Chain.{down-grows}
 
 -- ---- the three cases of a step
@@ -37,12 +36,6 @@ module _ (rows : List Row) (p : Part) where
   step-chained e f = ap (λ (q : Place). lookedUp q rows p) e ∙ ap (λ (x : Fit). searched x rows p) f
 
 -- ---- one part
--- an odd part that can be built: odd, below 2^31, its choice below the number of forms
-pub record Buildable (p : Part) : Type 0 where
-  pub odd : p .value % 2 ≡ 1
-  pub below : p .value < 2 ^ 31
-  pub choice : p .choice < length (listing 32 (pos (p .value)))
-
 module _ (rows : List Row) (p : Part) (w : Lawful rows) (b : Buildable p) where
   -- step 3
   pub chained-grows : Growth rows (chained rows (chosenForm (p .value) (p .choice))) (p .value) 15

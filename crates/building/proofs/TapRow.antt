@@ -6,27 +6,23 @@ use mathlib.Core.List.{List}
 use native.Mathlib.Omega.{arith}
 use lib.Dec.{T}
 use lib.IntN.{ℤ, pos, negℤ}
-use Rattle.refusal.specs.Answer.{placeOr}
 use Rattle.word.specs.Bounds.{Coefficient}
+use Rattle.refusal.specs.Answer.{placeOr}
 use Rattle.signed_digit.specs.Reduction.{Sign, positive, negative}
 use Rattle.coefficient.specs.Parts.{Parts, no-odd-part, parts, partsOf}
 use Rattle.network.specs.declared.Row.{Row}
 use Rattle.network.specs.declared.TapRow.{TapRow}
 use Rattle.network.specs.Rows.{rowIn, noTap}
 use Rattle.network.specs.RowRule.{lifted}
-use Rattle.network.specs.Coefficients.{signed, coefficientOf}
-use Rattle.network.specs.TapRowRule.{TapRowRule, is-empty, is-product, isTapSign}
+use Rattle.network.specs.Coefficients.{withSign, coefficientOf}
+use Rattle.network.specs.TapRowRule.{is-empty, is-product, isTapSign}
 use Rattle.building.specs.Search.{rowWith}
 use Rattle.building.specs.TapRows.{signCode, tapRowOf}
+use Rattle.building.specs.RowSteps.{HasRow}
+use Rattle.building.specs.PartOrder.{HasOddPart}
+use Rattle.building.specs.Claims.{TapOf}
 use Rattle.building.proofs.Lookup.{row-within, row-value}
-use Rattle.building.proofs.Growth.{HasRow}
-use Rattle.building.proofs.PartsInOrder.{HasOddPart}
 use Rattle.building.proofs.Reduced.{Reduced, parts-reduced, zero-parts, positive-product, negative-product}
-
--- the tap row t of the coefficient n
-pub record TapOf (rows : List Row) (n : ℤ) (t : TapRow) : Type 0 where
-  pub rule : TapRowRule rows t
-  pub product : coefficientOf rows t ≡ n
 
 module _ (rows : List Row) (n : ℤ) (c : Coefficient n) where
   no-tap : partsOf n ≡ no-odd-part → TapOf rows n noTap
@@ -44,7 +40,7 @@ module _ (rows : List Row) (n : ℤ) (c : Coefficient n) where
     unfolding tapRowOf coefficientOf
     coefficient-is = by-sign s (parts-reduced n s v t c e)
       where
-        by-sign : (g : Sign) → Reduced n g v t → signed (signCode g) (pos (lifted t (rowIn rows (placeOr 0 (rowWith rows v)) .value))) ≡ n
+        by-sign : (g : Sign) → Reduced n g v t → withSign (signCode g) (pos (lifted t (rowIn rows (placeOr 0 (rowWith rows v)) .value))) ≡ n
         by-sign positive r = ap pos lifted-is ∙ sym (positive-product v t) ∙ r .product
         by-sign negative r = ap (λ (m : ℕ). negℤ (pos m)) lifted-is ∙ sym (negative-product v t) ∙ r .product
 

@@ -1,28 +1,17 @@
 -- Document 01's three steps for one odd part v, in its words and over lawful rows. Assumes nothing.
 use mathlib.Core.Path.{_≡_, refl}
-use mathlib.Core.List.{List, [], _∷_, _++_}
+use mathlib.Core.List.{List}
 use lib.ListN.{length}
-use Rattle.refusal.specs.Answer.{nowhere}
 use Rattle.network.specs.declared.Row.{Row}
 use Rattle.network.specs.RowRule.{LaterRow}
 use Rattle.building.specs.Parts.{Part}
-use Rattle.building.specs.Search.{rowWith, Fit, fit, none-fits, firstFit}
-use Rattle.building.specs.Chain.{chosenForm, chained}
+use Rattle.building.specs.Search.{Fit, fit, none-fits, firstFit}
 use Rattle.building.specs.Steps.{step}
-use Rattle.building.proofs.Lawful.{Lawful}
-use Rattle.building.proofs.Growth.{HasRow}
-use Rattle.building.proofs.FirstFit.{FirstFit, fit-is-first}
+use Rattle.building.specs.RowSteps.{Lawful, TheStep}
+use Rattle.building.specs.CanBuild.{Buildable}
+use Rattle.building.proofs.FirstFit.{fit-is-first}
 use Rattle.building.proofs.OnlyFit.{first-fit-only}
-use Rattle.building.proofs.Steps.{Buildable, step-used, step-found, step-chained}
-
-pub record TheStep (rows : List Row) (p : Part) (after : List Row) : Type 0 where
-  -- "If a row has this value, use it."
-  pub used : HasRow rows (p .value) → after ≡ rows
-  -- "Else search for one new row from existing rows .. The first fit is added"
-  pub found : rowWith rows (p .value) ≡ nowhere → (r : Row) → FirstFit rows (p .value) r → after ≡ rows ++ (r ∷ [])
-  -- "Only if none fits, read the chosen form"
-  pub read : rowWith rows (p .value) ≡ nowhere → ((q : Row) → q .value ≡ p .value → LaterRow rows (length rows) q → ⊥)
-      → after ≡ chained rows (chosenForm (p .value) (p .choice))
+use Rattle.building.proofs.Steps.{step-used, step-found, step-chained}
 
 pub the-step : (rows : List Row) (p : Part) → Lawful rows → Buildable p → TheStep rows p (step rows p)
 the-step rows p w b = record {

@@ -5,7 +5,7 @@ use Prim.Native.Nat.{ℕ}
 use lib.Dec.{eqb, ltb}
 use lib.IntN.{ℤ, pos}
 use lib.ListN.{length}
-use Rattle.refusal.specs.Answer.{Answer, given, refused, refuseIf, refuseAt, lowest}
+use Rattle.refusal.specs.Answer.{Answer, given, refused, refuseIf, refuseAt, Place, lowest}
 use Rattle.signed_digit.specs.Forms.{listing}
 use Rattle.coefficient.specs.Parts.{Parts, no-odd-part, parts, partsOf}
 use Rattle.network.specs.Rows.{Network}
@@ -27,13 +27,17 @@ unfoldable pub noSuchForm : Parts → ℕ → Bool
 noSuchForm no-odd-part k = not (eqb k 0)
 noSuchForm (parts sign oddPart shift) k = not (ltb k (length (listing 32 (pos oddPart))))
 
+-- check 9: the lowest tap without the form that is chosen for it
+abbrev pub missingForm : List ℤ → List ℕ → Place
+missingForm coefficients choices = lowest (λ (c : Choice). noSuchForm (c .tap) (c .number)) (choicesOf coefficients choices)
+
 -- 1, 2, 3 (choices one per tap, rows, tap rows) and 9, in the table's order
 unfoldable pub buildAnswer : List ℤ → List ℕ → List ℕ → List ℕ → Answer Network
 buildAnswer coefficients choices rows taps =
     refuseIf (eqb (length coefficients) 0) 1
     (refuseIf (ltb 256 (length coefficients)) 2
     (refuseIf (ltb (length choices) (length coefficients) || shortTables rows taps) 3
-    (refuseAt (lowest (λ (c : Choice). noSuchForm (c .tap) (c .number)) (choicesOf coefficients choices)) 9
+    (refuseAt (missingForm coefficients choices) 9
     (given (built coefficients choices)))))
 
 -- what an entry returns of a network: the number of its rows

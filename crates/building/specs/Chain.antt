@@ -43,3 +43,19 @@ chainDown rows (minus-one ∷ s) = rows
 -- the rows with a form's chain; a form has place 0 first
 unfoldable pub chained : List Row → DigitString → List Row
 chained rows form = chainDown rows (reverse form)
+
+-- ---- the values of a chain
+
+-- the last v, from v and `gap` on; the digits from high to low
+unfoldable pub chainValue : ℕ → ℕ → DigitString → ℕ
+chainValue v gap [] = v
+chainValue v gap (nought ∷ s) = chainValue v (suc gap) s
+chainValue v gap (one ∷ s) = chainValue (2 ^ gap * v + 1) 1 s
+chainValue v gap (minus-one ∷ s) = chainValue (2 ^ gap * v - 1) 1 s
+
+-- from the highest nonzero digit down; 0 where this is not a 1
+unfoldable pub chainEnd : DigitString → ℕ
+chainEnd [] = 0
+chainEnd (nought ∷ s) = chainEnd s
+chainEnd (one ∷ s) = chainValue 1 1 s
+chainEnd (minus-one ∷ s) = 0

@@ -1,9 +1,13 @@
--- What a reader believes of building, step by step:
 pub mod Parts
+pub mod PartOrder
 pub mod Search
 pub mod Chain
 pub mod Steps
+pub mod RowSteps
 pub mod TapRows
 pub mod Answer
--- How the result stands in the lent tables:
 pub mod Tables
+pub mod CanBuild
+pub mod Built
+pub mod Claims
+pub mod Figures

@@ -48,7 +48,14 @@ signs = plus ∷ minus ∷ reversed ∷ []
 abbrev pub shifts : List ℕ
 shifts = upTo 31 suc
 
+-- the first fit with this left row and shift
+unfoldable pub fitAtShift : List Row → ℕ → ℕ → ℕ → Fit
+fitAtShift rows v left shift = firstOver (tried rows v left shift) signs
+
+-- the first fit with this left row
+unfoldable pub fitAtLeft : List Row → ℕ → ℕ → Fit
+fitAtLeft rows v left = firstOver (fitAtShift rows v left) shifts
+
 -- step 2: "search for one new row from existing rows: lowest left, then lowest shift, then sign"
 unfoldable pub firstFit : List Row → ℕ → Fit
-firstFit rows v =
-    firstOver (λ (left : ℕ). firstOver (λ (shift : ℕ). firstOver (λ (sign : ℕ). tried rows v left shift sign) signs) shifts) (upTo (length rows) (λ (i : ℕ). i))
+firstFit rows v = firstOver (fitAtLeft rows v) (upTo (length rows) (λ (i : ℕ). i))

@@ -16,8 +16,7 @@ use Rattle.signed_digit.specs.Forms.{top}
 use Rattle.signed_digit.proofs.Strings.{bit, top-places, top-mask, topped, pad, pad-places, pad-mask}
 use Rattle.signed_digit.proofs.Same.{Zeros, stripped-zeros, stripped-high}
 use Rattle.network.specs.declared.Row.{Row}
-use Rattle.building.specs.Chain.{chainFrom, chainDown}
-use Rattle.building.proofs.ChainValue.{chainValue, chainEnd}
+use Rattle.building.specs.Chain.{chainFrom, chainDown, chainValue, chainEnd}
 
 -- the places of the nonzero digits
 abbrev pub places : DigitString → ℕ

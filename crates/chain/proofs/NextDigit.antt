@@ -14,10 +14,10 @@ use Rattle.form_masks.specs.declared.Form.{Form}
 use Rattle.form_masks.specs.Form.{stringOf}
 use Rattle.network.specs.declared.Row.{Row}
 use Rattle.network.specs.Rows.{plus, minus}
-use Rattle.building.specs.Chain.{chainStep, chainFrom}
-use Rattle.building.proofs.ChainValue.{chainValue, doubled, no-less, never-falls}
+use Rattle.building.specs.Chain.{chainStep, chainFrom, chainValue}
+use Rattle.building.proofs.ChainValue.{doubled, no-less, never-falls}
 use Rattle.chain.specs.declared.Chain.{Chain}
-use Rattle.chain.specs.Reading.{below, Digits, IsNext}
+use Rattle.chain.specs.Inner.{below, Digits, IsNext}
 use Rattle.chain.proofs.HighDigits.{Next, next}
 use Rattle.chain.proofs.Masks.{string-places, plus-bit}
 

@@ -11,9 +11,8 @@ use Rattle.signed_digit.specs.String.{DigitString, digitAt}
 use Rattle.form_masks.specs.declared.Form.{Form}
 use Rattle.form_masks.specs.Form.{stringOf}
 use Rattle.network.specs.declared.Row.{Row}
-use Rattle.building.specs.Chain.{chainFrom, chainDown, chained}
-use Rattle.building.proofs.ChainValue.{chainValue, chainEnd}
-use Rattle.chain.specs.Reading.{Readable, Reading, below}
+use Rattle.building.specs.Chain.{chainFrom, chainDown, chained, chainValue, chainEnd}
+use Rattle.chain.specs.Inner.{Readable, Reading, below}
 use Rattle.chain.proofs.HighDigits.{places, Next, next, end-none}
 use Rattle.chain.proofs.Masks.{string-places, string-mask}
 

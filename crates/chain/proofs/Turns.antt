@@ -11,13 +11,13 @@ use Rattle.network.specs.Rows.{rowsOf}
 use Rattle.building.specs.Search.{rowWith}
 use Rattle.building.specs.Chain.{addUnless, chainStep, chainFrom}
 use Rattle.building.proofs.Lookup.{row-joins}
-use Rattle.row_index.specs.Index.{Indexed, Grown}
+use Rattle.row_index.specs.Inner.{Indexed, Grown}
 use Rattle.row_index.proofs.Values.{length-rows}
 use Rattle.row_index.proofs.Growth.{grown-none}
 use Rattle.chain.specs.declared.Chain.{Chain}
 use Rattle.chain.specs.declared.Step.{Step}
 use Rattle.chain.specs.declared.Place.{Place}
-use Rattle.chain.specs.Reading.{HasRoom, below, toCome, Reading, IsNext, Reached, Turned}
+use Rattle.chain.specs.Inner.{HasRoom, below, toCome, Reading, IsNext, Reached, Turned}
 use Rattle.chain.proofs.Longer.{chain-longer}
 
 -- ---- room

@@ -8,8 +8,8 @@ ghost use Rattle.form_masks.specs.Form.{stringOf};
 ghost use Rattle.network.specs.Rows.{rowsOf};
 ghost use Rattle.building.specs.Search.{rowWith};
 ghost use Rattle.building.specs.Chain.{addUnless, chained};
-ghost use Rattle.row_index.specs.Index.{Indexed, Grown};
-ghost use Rattle.chain.specs.Reading.{HasRoom, Readable, Digits, Reading, toCome, IsNext, Reached, Turned};
+ghost use Rattle.row_index.specs.Inner.{Indexed, Grown};
+ghost use Rattle.chain.specs.Inner.{HasRoom, Readable, Digits, Reading, toCome, IsNext, Reached, Turned};
 use form_masks::Form;
 use network::Row;
 use row_index::Found;
@@ -137,7 +137,8 @@ pub fn add_chain(
 ) -> usize
     requires { ⌜ Indexed (now table) (now heads) (now links) n × Readable form (rowsOf (now table) n) ⌝ }
     requires { ⌜ HasRoom (now table) (now links) (length (chained (rowsOf (now table) n) (stringOf form))) ⌝ }
-    ensures { λ r. ⌜ Grown (now (table .entry)) (now (table .exit)) (now (heads .exit)) (now (links .exit)) r (chained (rowsOf (now (table .entry)) n) (stringOf form)) ⌝ }
+    ensures { λ r. ⌜ Grown (now (table .entry)) (now (table .exit)) (now (heads .exit)) (now (links .exit)) r
+        (chained (rowsOf (now (table .entry)) n) (stringOf form)) ⌝ }
 {
     let mask = form.plus | form.minus;
     let place = highest(mask);

@@ -9,7 +9,7 @@ use Rattle.refusal.specs.Answer.{Answer, given, refused}
 use Rattle.convolution.specs.Running.{registersOf, outputsOf}
 use Rattle.convolution.proofs.Trailing.{same-registers, same-outputs}
 use Rattle.network.specs.Check.{outcome}
-use Rattle.network_check.specs.Steps.{isGiven, padded}
+use Rattle.network_check.specs.Inner.{isGiven, padded}
 use Rattle.network_check.proofs.Padded.{padded-at}
 use Rattle.running.specs.Run.{runRegisters, runOutputs}
 

@@ -1,14 +1,8 @@
 // Networks: the check, the coefficients of one that passes, and running. Functions for C, declared in include/fir.h.
 ghost use mathlib.Core.Path.{_≡_};
-ghost use mathlib.Core.Bool.{false};
-ghost use lib.Dec.{ltb};
-ghost use lib.ListN.{length};
-ghost use Rattle.refusal.specs.Answer.{filled};
-ghost use Rattle.network.specs.Rows.{networkOf};
-ghost use Rattle.network.specs.Coefficients.{coefficients};
-ghost use Rattle.network.specs.Check.{networkAnswer};
 ghost use Rattle.network_check.specs.Checked.{answerOf};
 ghost use Rattle.fir_words.specs.Words.{refusalWord};
+ghost use Rattle.fir_networks.specs.Check.{CheckedWord, CoefficientsWord};
 ghost use Rattle.fir_networks.specs.Run.{RanWord};
 use network_check::Checked;
 
@@ -24,7 +18,7 @@ fn checked_word(answer: Checked) -> u64
 // Whether the tables hold a network that keeps the rules.
 #[no_mangle]
 pub extern "C" fn fir_check(rows: &[u32], row_count: usize, taps: &[u32], tap_count: usize) -> u64
-    ensures { λ r. ⌜ r ≡ refusalWord (networkAnswer false (now (rows .entry)) «row_count» (now (taps .entry)) «tap_count») ⌝ }
+    ensures { λ r. ⌜ CheckedWord (now (rows .entry)) «row_count» (now (taps .entry)) «tap_count» r ⌝ }
 {
     checked_word(network_check::check(rows, row_count, taps, tap_count))
 }
@@ -38,8 +32,7 @@ pub extern "C" fn fir_coefficients(
     tap_count: usize,
     table: &mut [i32],
 ) -> u64
-    ensures answer { λ r. ⌜ r ≡ refusalWord (networkAnswer (ltb (length (now (table .entry))) «tap_count») (now (rows .entry)) «row_count» (now (taps .entry)) «tap_count») ⌝ }
-    ensures written { λ r. ⌜ now (table .exit) ≡ filled (networkAnswer (ltb (length (now (table .entry))) «tap_count») (now (rows .entry)) «row_count» (now (taps .entry)) «tap_count») (coefficients (networkOf (now (rows .entry)) «row_count» (now (taps .entry)) «tap_count»)) (now (table .entry)) ⌝ }
+    ensures { λ r. ⌜ CoefficientsWord (now (rows .entry)) «row_count» (now (taps .entry)) «tap_count» (now (table .entry)) r (now (table .exit)) ⌝ }
 {
     checked_word(network_check::coefficients(rows, row_count, taps, tap_count, table))
 }

@@ -4,9 +4,9 @@ ghost use mathlib.Core.Path.{_≡_};
 ghost use mathlib.Core.Bool.{not};
 ghost use Prim.Native.Nat.{_≤_};
 ghost use lib.ListN.{length};
-ghost use Rattle.refusal.specs.Answer.{lowest, placeOr};
+ghost use Rattle.refusal.specs.Answer.{placeOr};
 ghost use Rattle.coefficient.specs.Parts.{partsOf};
-ghost use Rattle.building.specs.Answer.{Choice, choicesOf, noSuchForm};
+ghost use Rattle.building.specs.Answer.{noSuchForm, missingForm};
 use coefficient::Reduced;
 
 // Whether the choice is the number of a form of n's odd part. Every odd part has a form, and 0 is the
@@ -28,7 +28,7 @@ fn has_form(n: i32, choice: u32) -> bool
 // The first tap whose choice is not below the number of forms, or the number of taps.
 pub fn first_without_form(coefficients: &[i32], choices: &[u32]) -> usize
     requires { ⌜ length (now coefficients) ≤ length (now choices) ⌝ }
-    ensures { λ r. ⌜ r ≡ placeOr (length (now (coefficients .entry))) (lowest (λ (c : Choice). noSuchForm (c .tap) (c .number)) (choicesOf (now (coefficients .entry)) (now (choices .entry)))) ⌝ }
+    ensures { λ r. ⌜ r ≡ placeOr (length (now (coefficients .entry))) (missingForm (now (coefficients .entry)) (now (choices .entry))) ⌝ }
 {
     let mut i = 0;
     while i < coefficients.len() {

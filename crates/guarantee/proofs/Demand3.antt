@@ -1,5 +1,5 @@
 -- Demand 3 whole, proved.
-use mathlib.Core.Path.{_≡_, sym, ap, ap₂, _∙_, subst}
+use mathlib.Core.Path.{_≡_, sym, ap, subst}
 use mathlib.Core.Bool.{false, not}
 use mathlib.Core.List.{List}
 use Prim.Native.Nat.{ℕ, _*_, _≤_}
@@ -11,13 +11,13 @@ use Rattle.refusal.specs.Answer.{Answer, given}
 use Rattle.signed_digit.specs.Forms.{listing}
 use Rattle.coefficient.specs.Parts.{Parts, no-odd-part, parts, partsOf}
 use Rattle.signed_digit.proofs.Claims.{digit-claims}
-use Rattle.network.specs.Rows.{Network, networkOf, rowWords, tapWords}
+use Rattle.network.specs.Rows.{Network, rowWords, tapWords}
 use Rattle.building.specs.TapRows.{built}
-use Rattle.building.specs.Answer.{noSuchForm, buildAnswer, rowCount}
-use Rattle.building.proofs.Answers.{exist-forms, network-given, not-short}
-use Rattle.building.proofs.BuiltTables.{network-left, built-accepted}
-use Rattle.network.specs.Check.{networkAnswer}
-use Rattle.builder.specs.Built.{BuiltInto}
+use Rattle.building.specs.Answer.{noSuchForm, buildAnswer}
+use Rattle.building.specs.CanBuild.{CanBuildInto}
+use Rattle.building.specs.Built.{BuiltInto, HoldsNetwork}
+use Rattle.building.proofs.BuiltTables.{can-give}
+use Rattle.building.proofs.Claims.{building-claims}
 use Rattle.running.specs.Memory.{Step}
 use Rattle.running.specs.Demand.{Calls, Demand}
 use Rattle.running.proofs.Theorem.{running-sums}
@@ -29,34 +29,35 @@ unfolding noSuchForm
 has-form no-odd-part choice l = ap not (eq-eqb choice 0 l)
 has-form (parts sign oddPart shift) choice l = ap not (lt-ltb choice (length (listing 32 (pos oddPart))) l)
 
+-- so demand 3 takes what can be built
+builds : (cs : List ℤ) (ks rows taps : List ℕ) → Taken cs ks → 4096 * rowWords ≤ length rows → 256 * tapWords ≤ length taps → CanBuildInto cs ks rows taps
+builds cs ks rows taps t rows-long taps-long = record {
+  some = t .from-1;
+  can-build = record {
+    few = t .to-256;
+    enough = omega (arith, t .one-per-tap);
+    bounds = t .within-bounds;
+    forms = λ (i : ℕ) h. has-form (partsOf (getD cs i (pos 0))) (getD ks i 0) (t .listed i h);
+  };
+  rows-long = rows-long;
+  taps-long = taps-long;
+}
+
 pub can-build : (cs : List ℤ) (ks rows taps : List ℕ) → Taken cs ks → 4096 * rowWords ≤ length rows → 256 * tapWords ≤ length taps → buildAnswer cs ks rows taps ≡ given (built cs ks)
-can-build cs ks rows taps t rows-long taps-long =
-    let l : length cs ≤ length ks = omega (arith, t .one-per-tap) in
-    network-given cs ks rows taps (t .from-1) (t .to-256) (not-short cs ks rows taps l rows-long taps-long)
-    (exist-forms cs ks l (λ (i : ℕ) h. has-form (partsOf (getD cs i (pos 0))) (getD ks i 0) (t .listed i h)))
+can-build cs ks rows taps t rows-long taps-long = can-give cs ks rows taps (builds cs ks rows taps t rows-long taps-long)
 
 module _ (cs : List ℤ) (ks rows taps : List ℕ) (answer : Answer ℕ) (rows′ taps′ : List ℕ) (t : Taken cs ks) (rows-long : 4096 * rowWords ≤ length rows)
     (taps-long : 256 * tapWords ≤ length taps) (left : BuiltInto cs ks rows taps answer rows′ taps′) where
-  accepted : buildAnswer cs ks rows taps ≡ given (built cs ks)
-  accepted = can-build cs ks rows taps t rows-long taps-long
-
-  held : networkOf rows′ (length (built cs ks .rows)) taps′ (length cs) ≡ built cs ks
-  held =
-      ap₂ (λ (u v : List ℕ). networkOf u (length (built cs ks .rows)) v (length cs)) (left .rows-left) (left .taps-left)
-      ∙ network-left cs ks rows taps (built cs ks) accepted (t .within-bounds)
-
-  passes : networkAnswer false rows′ (length (built cs ks .rows)) taps′ (length cs) ≡ given cs
-  passes =
-      ap₂ (λ (u v : List ℕ). networkAnswer false u (length (built cs ks .rows)) v (length cs)) (left .rows-left) (left .taps-left)
-      ∙ built-accepted cs ks rows taps (built cs ks) accepted (t .within-bounds)
+  hold : HoldsNetwork cs ks answer rows′ taps′
+  hold = building-claims .built-accepted cs ks rows taps answer rows′ taps′ (builds cs ks rows taps t rows-long taps-long) left
 
   sums : (calls : List Step) → Calls (built cs ks) calls → Demand cs (built cs ks) calls
   sums calls f =
-      subst (λ (net : Network). Demand cs net calls) held
-      (running-sums cs rows′ (length (built cs ks .rows)) taps′ (length cs) passes calls (subst (λ (net : Network). Calls net calls) (sym held) f))
+      subst (λ (net : Network). Demand cs net calls) (hold .holds)
+      (running-sums cs rows′ (length (built cs ks .rows)) taps′ (length cs) (hold .passes) calls (subst (λ (net : Network). Calls net calls) (sym (hold .holds)) f))
 
   guaranteed : Guaranteed cs ks answer rows′ taps′
-  guaranteed = record { accepts = left .answer ∙ ap rowCount accepted; holds = held; sums = sums }
+  guaranteed = record { accepts = hold .accepts; holds = hold .holds; sums = sums }
 
 pub demand-3 : Demand3
 demand-3 = record { listings = digit-claims .minimal-forms-written; networks = guaranteed }

@@ -15,8 +15,8 @@ use Rattle.network.specs.Rows.{Network, rowWords, tapWords}
 use Rattle.building.specs.TapRows.{built}
 use Rattle.building.specs.Answer.{buildAnswer, rowCount}
 use Rattle.building.specs.Tables.{wordsOfRows, wordsOfTapRows}
-use Rattle.building.proofs.Example.{example}
-use Rattle.builder.specs.Built.{BuiltInto}
+use Rattle.building.proofs.Figures.{example}
+use Rattle.building.specs.Built.{BuiltInto}
 use Rattle.network.specs.Check.{outcome}
 use Rattle.sequence.specs.UpTo.{upTo}
 use Rattle.running.specs.Run.{Ran, runAnswer, runOutputs}
@@ -25,7 +25,9 @@ use Rattle.running.specs.Demand.{Calls}
 use Rattle.guarantee.proofs.SheetCalls as Called
 use Rattle.guarantee.proofs.SheetFilter as Running
 use Rattle.guarantee.specs.Demand3.{Listed, Taken}
-use Rattle.guarantee.specs.Sheet.{sheetCoefficients, sheetChoices, sheetSamples, storedNetwork, fourCalls}
+use Rattle.network.specs.Figures.{sheetCoefficients}
+use Rattle.building.specs.Figures.{sheetChoices}
+use Rattle.guarantee.specs.Sheet.{sheetSamples, storedNetwork, fourCalls}
 use Rattle.guarantee.specs.Figures.{SheetFilter, SheetBuilt, SheetCalls, ProvedFigures}
 use Rattle.guarantee.proofs.Demand3.{can-build, demand-3}
 

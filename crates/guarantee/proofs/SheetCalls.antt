@@ -22,7 +22,8 @@ use Rattle.running.specs.Run.{runAnswer, runRegisters, runOutputs}
 use Rattle.running.specs.Call.{tableAnswer, saidFrom}
 use Rattle.running.specs.Memory.{Lending, Step, Found, Trace, lent, after, foundFrom, dueAll, cleared}
 use Rattle.running.specs.Demand.{Fair, EachFair, Calls, Demand}
-use Rattle.guarantee.specs.Sheet.{sheetCoefficients, sheetSamples, sheetRows, sheetTaps, brokenRows, storedNetwork, acceptedCall, silentCall, shortCall, brokenCall, fourCalls}
+use Rattle.network.specs.Figures.{sheetCoefficients, sheetRows, sheetTapRows}
+use Rattle.guarantee.specs.Sheet.{sheetSamples, brokenRows, storedNetwork, acceptedCall, silentCall, shortCall, brokenCall, fourCalls}
 use Rattle.running.proofs.Theorem.{running-sums}
 
 -- ---- every list of calls has a trace
@@ -62,7 +63,7 @@ or-true false = refl
 given-not : (number place : ℕ) (a : Answer (List ℤ)) (g : List ℤ) (B : Type 0) → a ≡ refused number place → a ≡ given g → B
 given-not number place a g B p q = let z : _≡_ {A = ℕ} 0 1 = cc in absurd (omega arith)
 
-row-rule : (r t : List ℕ) → checked (networkOf (brokenRows r) 3 (sheetTaps t) 4) ≡ refused 10 2
+row-rule : (r t : List ℕ) → checked (networkOf (brokenRows r) 3 (sheetTapRows t) 4) ≡ refused 10 2
 unfolding checked upTo lowestFrom keepsRowRule
 row-rule r t = refl
 
@@ -76,7 +77,7 @@ one-fits : Within w16 (pos 5 ∷ [])
 one-fits zero = record { sfits = lit≤ tt }
 one-fits (suc k) = record { sfits = lit≤ tt }
 
-module _ (r t : List ℕ) (lr : 4096 * rowWords ≤ length (sheetRows r)) (lt : 256 * tapWords ≤ length (sheetTaps t)) where
+module _ (r t : List ℕ) (lr : 4096 * rowWords ≤ length (sheetRows r)) (lt : 256 * tapWords ≤ length (sheetTapRows t)) where
   accepted-given : tableAnswer (acceptedCall r t .call) ≡ given sheetCoefficients
   accepted-given = sheet-network r t lr lt
 
@@ -85,13 +86,13 @@ module _ (r t : List ℕ) (lr : 4096 * rowWords ≤ length (sheetRows r)) (lt : 
 
   short-refused : tableAnswer (shortCall r t .call) ≡ refused 3 0
   unfolding networkAnswer
-  short-refused = check-applies (shortTables (sheetRows r) (sheetTaps t) || true) 3 (checked (networkOf (sheetRows r) 3 (sheetTaps t) 4)) (or-true (shortTables (sheetRows r) (sheetTaps t)))
+  short-refused = check-applies (shortTables (sheetRows r) (sheetTapRows t) || true) 3 (checked (networkOf (sheetRows r) 3 (sheetTapRows t) 4)) (or-true (shortTables (sheetRows r) (sheetTapRows t)))
 
   broken-refused : tableAnswer (brokenCall r t .call) ≡ refused 10 2
   unfolding networkAnswer
   broken-refused =
-      check-passes (shortTables (brokenRows r) (sheetTaps t) || false) 3 (checked (networkOf (brokenRows r) 3 (sheetTaps t) 4))
-      (rw (le-ltb (length (brokenRows r)) (4096 * rowWords) lr, le-ltb (length (sheetTaps t)) (256 * tapWords) lt))
+      check-passes (shortTables (brokenRows r) (sheetTapRows t) || false) 3 (checked (networkOf (brokenRows r) 3 (sheetTapRows t) 4))
+      (rw (le-ltb (length (brokenRows r)) (4096 * rowWords) lr, le-ltb (length (sheetTapRows t)) (256 * tapWords) lt))
       ∙ row-rule r t
 
   fair-accepted : Fair (storedNetwork r t) (acceptedCall r t)
@@ -115,7 +116,7 @@ module _ (r t : List ℕ) (lr : 4096 * rowWords ≤ length (sheetRows r)) (lt : 
     outputs = refl;
     samples = one-fits;
     whole = λ g e. refl;
-    network = λ g e. given-not 10 2 (tableAnswer (brokenCall r t .call)) g (networkOf (brokenRows r) 3 (sheetTaps t) 4 ≡ storedNetwork r t) broken-refused e;
+    network = λ g e. given-not 10 2 (tableAnswer (brokenCall r t .call)) g (networkOf (brokenRows r) 3 (sheetTapRows t) 4 ≡ storedNetwork r t) broken-refused e;
   }
 
   abbrev pub steps : List Step
@@ -129,7 +130,7 @@ module _ (r t : List ℕ) (lr : 4096 * rowWords ≤ length (sheetRows r)) (lt : 
   calls = record { ran = has-trace cleared (fourCalls r t); fair = each-fair }
 
   demand : Demand sheetCoefficients (storedNetwork r t) steps
-  demand = running-sums sheetCoefficients (sheetRows r) 3 (sheetTaps t) 4 (sheet-network r t lr lt) steps calls
+  demand = running-sums sheetCoefficients (sheetRows r) 3 (sheetTapRows t) 4 (sheet-network r t lr lt) steps calls
 
   pub answers : map (λ (s : Step). s .answer) steps ≡ given tt ∷ given tt ∷ refused 3 0 ∷ refused 10 2 ∷ []
   unfolding stepsFrom foundFrom dueAll saidFrom

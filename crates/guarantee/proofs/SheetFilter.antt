@@ -18,7 +18,8 @@ use Rattle.network.specs.Rows.{rowWords, tapWords}
 use Rattle.network.specs.Check.{networkAnswer}
 use Rattle.network.proofs.Figures.{sheet-network}
 use Rattle.running.specs.Run.{runAnswer, runOutputs}
-use Rattle.guarantee.specs.Sheet.{sheetCoefficients, sheetSamples, sheetOutputs, sheetRows, sheetTaps}
+use Rattle.network.specs.Figures.{sheetCoefficients, sheetRows, sheetTapRows}
+use Rattle.guarantee.specs.Sheet.{sheetSamples, sheetOutputs}
 
 abbrev cleared : List ℕ → List ℕ
 cleared beyond = replicate 256 0 ++ beyond
@@ -51,14 +52,14 @@ samples-fit (suc (suc (suc k))) = record { sfits = lit≤ tt }
 
 -- the call is accepted, and leaves these outputs, whatever lies past the tables, the registers and the outputs
 pub record Filtered (r t beyond : List ℕ) (a b c : ℤ) (rest : List ℤ) : Type 0 where
-  pub answer : runAnswer (sheetRows r) 3 (sheetTaps t) 4 sheetSamples (length (cleared beyond)) (length (a ∷ b ∷ c ∷ rest)) ≡ given sheetCoefficients
+  pub answer : runAnswer (sheetRows r) 3 (sheetTapRows t) 4 sheetSamples (length (cleared beyond)) (length (a ∷ b ∷ c ∷ rest)) ≡ given sheetCoefficients
   pub outputs : runOutputs (given sheetCoefficients) sheetSamples (cleared beyond) (a ∷ b ∷ c ∷ rest) ≡ sheetOutputs ++ rest
 
-pub sheet-filter : (r t beyond : List ℕ) (a b c : ℤ) (rest : List ℤ) → 4096 * rowWords ≤ length (sheetRows r) → 256 * tapWords ≤ length (sheetTaps t) → Filtered r t beyond a b c rest
+pub sheet-filter : (r t beyond : List ℕ) (a b c : ℤ) (rest : List ℤ) → 4096 * rowWords ≤ length (sheetRows r) → 256 * tapWords ≤ length (sheetTapRows t) → Filtered r t beyond a b c rest
 sheet-filter r t beyond a b c rest lr lt =
     record {
       answer =
-          ap (λ (short : Bool). networkAnswer short (sheetRows r) 3 (sheetTaps t) 4) long ∙ sheet-network r t lr lt;
+          ap (λ (short : Bool). networkAnswer short (sheetRows r) 3 (sheetTapRows t) 4) long ∙ sheet-network r t lr lt;
       outputs =
           ap (λ (o : List ℤ). o ++ rest)
           (outputs-exact sheetCoefficients (lit≤ tt) coefficients-fit (cleared beyond) (is-cleared beyond) sheetSamples [] (cleared beyond) (λ k. record { sfits = lit≤ tt }) samples-fit

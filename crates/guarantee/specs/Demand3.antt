@@ -13,7 +13,7 @@ use Rattle.signed_digit.specs.Claims.{Written}
 use Rattle.coefficient.specs.Parts.{Parts, no-odd-part, parts, partsOf}
 use Rattle.network.specs.Rows.{networkOf, rowWords, tapWords}
 use Rattle.building.specs.TapRows.{built}
-use Rattle.builder.specs.Built.{BuiltInto}
+use Rattle.building.specs.Built.{BuiltInto}
 use Rattle.running.specs.Memory.{Step}
 use Rattle.running.specs.Demand.{Calls, Demand}
 

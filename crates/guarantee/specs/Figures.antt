@@ -9,12 +9,14 @@ use Rattle.signed_digit.specs.Figures.{Figures}
 use Rattle.tap.specs.Figures.{TapFigures}
 use Rattle.network.specs.Rows.{rowWords, tapWords}
 use Rattle.building.specs.TapRows.{built}
-use Rattle.builder.specs.Built.{BuiltInto}
+use Rattle.network.specs.Figures.{sheetCoefficients}
+use Rattle.building.specs.Figures.{sheetChoices, sheetNetwork}
+use Rattle.building.specs.Built.{BuiltInto}
 use Rattle.running.specs.Run.{Ran}
 use Rattle.running.specs.Memory.{Step}
 use Rattle.running.specs.Demand.{Calls, FullLength, Demand}
 use Rattle.guarantee.specs.Demand3.{Taken}
-use Rattle.guarantee.specs.Sheet.{sheetCoefficients, sheetChoices, sheetNetwork, sheetSamples, sheetOutputs, acceptedCall, fourCalls}
+use Rattle.guarantee.specs.Sheet.{sheetSamples, sheetOutputs, acceptedCall, fourCalls}
 
 -- from cleared registers, with the tables that `build` left for it, whatever lies past the tables' rows, the registers and the outputs; `run` answers and
 -- leaves o′ in the outputs

@@ -5,13 +5,12 @@ use Prim.Native.Nat.{ℕ, suc, _+_, _-_, _%_, _≤_, _<_}
 use native.Mathlib.Omega.{arith}
 use Rattle.network.specs.Rows.{rowsOf}
 use Rattle.network.specs.RowRule.{lifted}
-use Rattle.building.specs.Search.{none-fits, orElse}
-use Rattle.row_index.specs.Index.{valueAt}
-use Rattle.row_signs.specs.Pairs.{fitAtShift, fitAtLeft}
+use Rattle.building.specs.Search.{none-fits, orElse, fitAtShift, fitAtLeft}
+use Rattle.row_index.specs.Inner.{valueAt}
 use Rattle.row_signs.proofs.FirstOver.{over-none}
 use Rattle.row_signs.proofs.Tries.{plus-none, minus-none, reversed-none}
 use Rattle.row_signs.proofs.Signs.{three-signs}
-use Rattle.left_rows.specs.NoLeft.{NoLeft}
+use Rattle.left_rows.specs.Inner.{NoLeft}
 
 pub fewer-lefts : {t : List ℕ} {m v r : ℕ} (m′ : ℕ) → m′ ≤ m → NoLeft t m v r → NoLeft t m′ v r
 fewer-lefts m′ h l =

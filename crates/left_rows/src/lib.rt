@@ -4,10 +4,10 @@ ghost use mathlib.Core.Path.{_≡_};
 ghost use Prim.Native.Nat.{ℕ, _+_, _-_, _%_, _^_, _≤_, _<_};
 ghost use Rattle.network.specs.Rows.{rowsOf};
 ghost use Rattle.network.specs.RowRule.{lifted};
-ghost use Rattle.building.specs.Search.{none-fits};
-ghost use Rattle.row_index.specs.Index.{valueAt, Indexed};
-ghost use Rattle.row_signs.specs.Pairs.{fitAtLeft, Searchable};
-ghost use Rattle.left_rows.specs.NoLeft.{NoLeft};
+ghost use Rattle.building.specs.Search.{none-fits, fitAtLeft};
+ghost use Rattle.row_index.specs.Inner.{valueAt, Indexed};
+ghost use Rattle.row_signs.specs.Inner.{Searchable};
+ghost use Rattle.left_rows.specs.Inner.{NoLeft};
 use row_index::Found;
 
 // x without its factors 2.

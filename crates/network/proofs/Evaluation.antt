@@ -14,11 +14,11 @@ use Rattle.network.specs.declared.Row.{Row}
 use Rattle.network.specs.declared.TapRow.{TapRow}
 use Rattle.network.specs.Rows.{Network, rowIn, tapRowIn}
 use Rattle.network.specs.RowRule.{RowRule, combined, lifted}
-use Rattle.network.specs.Coefficients.{signed, coefficientOf}
+use Rattle.network.specs.Coefficients.{withSign, coefficientOf}
 use Rattle.network.specs.TapRowRule.{TapRowRule, is-empty, is-product}
 use Rattle.network.specs.Evaluation.{shiftedUp, rowGives, rowResults, tapGives, tapResults}
 use Rattle.network.proofs.Multiples.{one-times, combined-times, signed-times, shifted-times}
-use Rattle.network.proofs.Passed.{Passed}
+use Rattle.network.specs.Accepted.{KeepsRules}
 
 length-results : (rows : List Row) (x : ℤ) (n : ℕ) → length (rowResults rows x n) ≡ n
 unfolding rowResults
@@ -63,13 +63,13 @@ module _ (rows : List Row) (x : ℤ) where
   one-tap t rule (is-empty w) = rw (w .sign) (sym (zero-*ℤ x))
   one-tap t rule (is-product w) =
       let v = rowIn rows (t .row) .value in
-      ap (λ (z : ℤ). signed (t .sign) (shiftedUp (t .shift) z)) (all-rows (length rows) rule (t .row) (w .row))
-      ∙ ap (signed (t .sign)) (shifted-times x (t .shift) v)
+      ap (λ (z : ℤ). withSign (t .sign) (shiftedUp (t .shift) z)) (all-rows (length rows) rule (t .row) (w .row))
+      ∙ ap (withSign (t .sign)) (shifted-times x (t .shift) v)
       ∙ signed-times x (t .sign) (pos (lifted (t .shift) v))
 
 -- ---- the statement
 
-module _ (net : Network) (h : List ℤ) (p : Passed net h) (sample : ℤ) where
+module _ (net : Network) (h : List ℤ) (p : KeepsRules net h) (sample : ℤ) where
   pub rows-multiply : (i : ℕ) → i < length (net .rows) → getD (rowResults (net .rows) sample (length (net .rows))) i (pos 0) ≡ pos (rowIn (net .rows) i .value) *ℤ sample
   rows-multiply i l = all-rows (net .rows) sample (length (net .rows)) (p .rows) i l
 

@@ -9,6 +9,7 @@ use lib.IntN.{ℤ, pos}
 use lib.ListN.{length, getD, List·getD-map}
 use mir.Syntax.{w32}
 use mir.Val.{SFits}
+use Rattle.word.specs.Bounds.{Coefficient}
 use Rattle.word.proofs.Bounds.{coefficient-i32}
 use Rattle.refusal.specs.Answer.{given}
 use Rattle.refusal.proofs.Tables.{length-map}
@@ -19,7 +20,8 @@ use Rattle.network.specs.Rows.{Network, none, tapRowAt, rowsOf, tapRowsO
 use Rattle.network.specs.Coefficients.{coefficientOf, coefficients}
 use Rattle.network.specs.TapRowRule.{TapRowRule, is-empty, is-product}
 use Rattle.network.specs.Check.{networkAnswer}
-use Rattle.network.proofs.Passed.{Passed, given-accepted}
+use Rattle.network.specs.Accepted.{KeepsRules}
+use Rattle.network.proofs.Passed.{given-accepted}
 
 pub length-coefficients : (rows : List ℕ) (n : ℕ) (taps : List ℕ) (m : ℕ) → length (coefficients (networkOf rows n taps m)) ≡ m
 length-coefficients rows n taps m = length-map (coefficientOf (rowsOf rows n)) (tapRowsOf taps m) ∙ length-upTo m (tapRowAt taps)
@@ -30,12 +32,12 @@ empty-is : (rows : List Row) (t : TapRow) → t .sign ≡ none → coefficientOf
 unfolding coefficientOf
 empty-is rows t e = rw e
 
-tap-fits : (rows : List Row) (t : TapRow) → TapRowRule rows t → SFits w32 (coefficientOf rows t)
-tap-fits rows t (is-empty w) = subst (SFits w32) (sym (empty-is rows t (w .sign))) (record { sfits = omega arith })
-tap-fits rows t (is-product w) = coefficient-i32 (coefficientOf rows t) (w .bounds)
+tap-within : (rows : List Row) (t : TapRow) → TapRowRule rows t → Coefficient (coefficientOf rows t)
+tap-within rows t (is-empty w) = subst Coefficient (sym (empty-is rows t (w .sign))) (record { from-least = record { le = tt }; to-greatest = record { le = tt } })
+tap-within rows t (is-product w) = w .bounds
 
--- the coefficient of tap j of a network that passes is the product of its tap row, and fits 32 bits
-pub coefficient-is : (net : Network) (h : List ℤ) → Passed net h → (j : ℕ) → getD h j (pos 0) ≡ coefficientOf (net .rows) (tapRowIn (net .taps) j)
+-- the coefficient of tap j of a network that passes is the product of its tap row, and within bounds
+pub coefficient-is : (net : Network) (h : List ℤ) → KeepsRules net h → (j : ℕ) → getD h j (pos 0) ≡ coefficientOf (net .rows) (tapRowIn (net .taps) j)
 coefficient-is net h p j =
     ap (λ (l : List ℤ). getD l j (pos 0)) (p .result)
     ∙ ap (getD (coefficients net) j) (sym (empty-is (net .rows) noTap none-is))
@@ -44,9 +46,9 @@ coefficient-is net h p j =
     none-is : noTap .sign ≡ none
     none-is = refl
 
-pub coefficient-fits : (net : Network) (h : List ℤ) → Passed net h → (j : ℕ) → j < length (net .taps) → SFits w32 (getD h j (pos 0))
-coefficient-fits net h p j l =
-    subst (SFits w32) (sym (coefficient-is net h p j)) (tap-fits (net .rows) (tapRowIn (net .taps) j) (p .taps j l))
+pub coefficient-within : (net : Network) (h : List ℤ) → KeepsRules net h → (j : ℕ) → j < length (net .taps) → Coefficient (getD h j (pos 0))
+coefficient-within net h p j l =
+    subst Coefficient (sym (coefficient-is net h p j)) (tap-within (net .rows) (tapRowIn (net .taps) j) (p .taps j l))
 
 -- ---- what is given
 
@@ -57,8 +59,11 @@ module _ (short : Bool) (rows : List ℕ) (n : ℕ) (taps : List ℕ) (m : ℕ) 
   pub given-length : length h ≡ m
   given-length = ap length given-is ∙ length-coefficients rows n taps m
 
+  pub given-within : (j : ℕ) → j < m → Coefficient (getD h j (pos 0))
+  given-within j l = coefficient-within (networkOf rows n taps m) h (given-accepted short rows n taps m h e .passed) j (omega (arith, length-upTo m (tapRowAt taps)))
+
   pub given-fits : (j : ℕ) → j < m → SFits w32 (getD h j (pos 0))
-  given-fits j l = coefficient-fits (networkOf rows n taps m) h (given-accepted short rows n taps m h e .passed) j (omega (arith, length-upTo m (tapRowAt taps)))
+  given-fits j l = coefficient-i32 (getD h j (pos 0)) (given-within j l)
 
 -- equal networks have equal coefficients, whatever the tables hold past them
 pub same-coefficients : (short short′ : Bool) (rows rows′ : List ℕ) (n n′ : ℕ) (taps taps′ : List ℕ) (m m′ : ℕ) (h h′ : List ℤ)

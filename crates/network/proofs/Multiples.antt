@@ -7,7 +7,7 @@ use lib.Dec.{eqb}
 use lib.IntN.{ℤ, pos, negsuc, negℤ, predℤ, sucℤ, _+ℤ_, _-ℤ_, _*ℤ_, +ℤ-idr, +ℤ-sucℤ, +ℤ-predℤ, +ℤ-assoc, +ℤ-idl, sucℤ-*ℤ, predℤ-*ℤ, zero-*ℤ, +ℤ-invr, +ℤ-invl}
 use Rattle.network.specs.Rows.{plus, minus}
 use Rattle.network.specs.RowRule.{combined, lifted}
-use Rattle.network.specs.Coefficients.{signed}
+use Rattle.network.specs.Coefficients.{withSign}
 use Rattle.network.specs.Evaluation.{shiftedUp}
 
 module _ (x : ℤ) where
@@ -59,7 +59,7 @@ module _ (x : ℤ) where
       go false true = sym (difference-times a b)
       go false false = sym (difference-times b a)
 
-  pub signed-times : (sign : ℕ) (z : ℤ) → signed sign (z *ℤ x) ≡ signed sign z *ℤ x
+  pub signed-times : (sign : ℕ) (z : ℤ) → withSign sign (z *ℤ x) ≡ withSign sign z *ℤ x
   signed-times sign z = go (eqb sign plus) (eqb sign minus)
     where
       go : (p q : Bool) → cond p (z *ℤ x) (cond q (negℤ (z *ℤ x)) (pos 0)) ≡ cond p z (cond q (negℤ z) (pos 0)) *ℤ x

@@ -1,5 +1,5 @@
--- What it means that a network passes, in document 01's words: `checked-passed` and `passed-checked` of the checks 10 and 11, `given-accepted` and
--- `accepted-given` of all checks of an entry. Assumes nothing.
+-- Checks and rules: `checked-passed` and `passed-checked` of the checks 10 and 11, `given-accepted` and `accepted-given` of all checks of an entry.
+-- Assumes nothing.
 use mathlib.Core.Path.{_≡_, refl, sym, ap, _∙_}
 use mathlib.Core.Bool.{Bool, true, false, not, cond, _||_, true≢false}
 use mathlib.Core.List.{List, [], _∷_}
@@ -13,10 +13,10 @@ use Rattle.refusal.specs.Answer.{given, refuseIf, refuseAt, Place, nowhere, at-
 use Rattle.refusal.proofs.Checks.{check-passes, given-if, given-at, lowest-none-at}
 use Rattle.sequence.proofs.UpTo.{length-upTo, getD-upTo}
 use Rattle.network.specs.Rows.{Network, rowWords, tapWords, networkOf, tapRowIn, noTap}
-use Rattle.network.specs.RowRule.{RowRule, keepsRowRule}
+use Rattle.network.specs.RowRule.{keepsRowRule}
 use Rattle.network.specs.Coefficients.{coefficients}
-use Rattle.network.specs.TapRowRule.{TapRowRule}
 use Rattle.network.specs.Check.{breaksRowRule, breaksTapRowRule, numbers, checked, shortTables, networkAnswer}
+use Rattle.network.specs.Accepted.{KeepsRules, Accepted}
 use Rattle.network.proofs.Rules.{row-rule, row-kept, tap-rule, tap-kept}
 
 -- the number at place i is i
@@ -25,28 +25,6 @@ length-numbers n = length-upTo n _
 
 number-at : (n i : ℕ) → i < n → getD (numbers n) i 0 ≡ i
 number-at n i l = getD-upTo n _ 0 i l
-
--- a network that passes, and its coefficients h
-pub record Passed (net : Network) (h : List ℤ) : Type 0 where
-  -- "network rows 1 to 4,096"
-  pub rows-from : 1 ≤ length (net .rows)
-  pub rows-to : length (net .rows) ≤ 4096
-  pub rows : (i : ℕ) → i < length (net .rows) → RowRule (net .rows) i
-  pub taps : (j : ℕ) → j < length (net .taps) → TapRowRule (net .rows) (tapRowIn (net .taps) j)
-  pub result : h ≡ coefficients net
-
--- an entry that is handed a network in two tables turns nothing down
-pub record Accepted (short : Bool) (rows : List ℕ) (rowCount : ℕ) (taps : List ℕ) (tapCount : ℕ) (h : List ℤ) : Type 0 where
-  -- "1 to 256 taps"
-  pub taps-from : 1 ≤ tapCount
-  pub taps-to : tapCount ≤ 256
-  -- "rows 4,096, tap rows .. 256", and the entry's own tables
-  pub rows-long : 4096 * rowWords ≤ length rows
-  pub taps-long : 256 * tapWords ≤ length taps
-  pub others-long : short ≡ false
-  pub passed : Passed (networkOf rows rowCount taps tapCount) h
-
--- ---- the proof
 
 checked-is : (net : Network) → checked net ≡ refuseIf (eqb (length (net .rows)) 0 || ltb 4096 (length (net .rows))) 10
     (refuseAt (lowest (breaksRowRule (net .rows)) (numbers (length (net .rows)))) 10
@@ -75,7 +53,7 @@ some (suc n) f = suc-le-suc zero-le
 above : (n : ℕ) → 1 ≤ n → n ≡ 0 → ⊥
 above n l e = omega arith
 
-pub checked-passed : (net : Network) (h : List ℤ) → checked net ≡ given h → Passed net h
+pub checked-passed : (net : Network) (h : List ℤ) → checked net ≡ given h → KeepsRules net h
 checked-passed net h e =
     let rs = net .rows in
     let n = length rs in
@@ -93,7 +71,7 @@ checked-passed net h e =
       result = sym (same-result (coefficients net) h (t .1));
     }
 
-pub passed-checked : (net : Network) (h : List ℤ) → Passed net h → checked net ≡ given h
+pub passed-checked : (net : Network) (h : List ℤ) → KeepsRules net h → checked net ≡ given h
 passed-checked net h p =
     let rs = net .rows in
     let n = length rs in

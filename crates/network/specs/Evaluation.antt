@@ -7,7 +7,7 @@ use Rattle.network.specs.declared.Row.{Row}
 use Rattle.network.specs.declared.TapRow.{TapRow}
 use Rattle.network.specs.Rows.{Network, rowIn}
 use Rattle.network.specs.RowRule.{combined}
-use Rattle.network.specs.Coefficients.{signed}
+use Rattle.network.specs.Coefficients.{withSign}
 
 -- z moved up s places, each of them a doubling
 abbrev pub shiftedUp : ℕ → ℤ → ℤ
@@ -29,7 +29,7 @@ rowResults rows sample (suc n) = rowResults rows sample n ++ (rowGives rows samp
 
 -- what a tap gives: its row's result shifted, with its sign
 abbrev pub tapGives : List ℤ → TapRow → ℤ
-tapGives results t = signed (t .sign) (shiftedUp (t .shift) (getD results (t .row) (pos 0)))
+tapGives results t = withSign (t .sign) (shiftedUp (t .shift) (getD results (t .row) (pos 0)))
 
 -- every tap of a network
 abbrev pub tapResults : Network → ℤ → List ℤ

@@ -3,4 +3,8 @@ pub mod RowRule
 pub mod Coefficients
 pub mod TapRowRule
 pub mod Check
+pub mod Accepted
+pub mod Checked
 pub mod Evaluation
+pub mod Claims
+pub mod Figures

@@ -14,7 +14,7 @@ use Rattle.network.specs.Rows.{rowWords, tapWords, rowAt, rowsOf, tapRowsOf, ne
 use Rattle.network.specs.Coefficients.{coefficients}
 use Rattle.network.specs.Check.{breaksRowRule, breaksTapRowRule, numbers, checked, shortTables, networkAnswer, outcome}
 use Rattle.network_check.proofs.Padded.{take-padded}
-use Rattle.network_check.specs.Steps.{isGiven, padded, Holds}
+use Rattle.network_check.specs.Inner.{isGiven, padded, Holds}
 
 -- ---- a refusal, and what the buffer then holds: anything
 

@@ -6,7 +6,7 @@ use native.Mathlib.Omega.{arith}
 use lib.IntN.{ℤ, pos}
 use lib.ListN.{length, getD, take, drop, replicate, length-append, length-replicate}
 use lib.Seq.{take-at}
-use Rattle.network_check.specs.Steps.{padded}
+use Rattle.network_check.specs.Inner.{padded}
 
 zeros-left : (m n : ℕ) → drop m (replicate n (pos 0)) ≡ replicate (n - m) (pos 0)
 zeros-left zero n = ap (λ (k : ℕ). replicate k (pos 0)) (less-none n)

@@ -1,17 +1,16 @@
 // Checking a network, and the coefficients of one that passes.
 ghost use mathlib.Core.Path.{_≡_};
-ghost use mathlib.Core.Bool.{false};
 ghost use mathlib.Core.List.{_++_};
 ghost use Prim.Native.Nat.{_*_, _≤_};
-ghost use lib.Dec.{ltb};
 ghost use lib.IntN.{pos};
 ghost use lib.ListN.{length, drop, replicate};
-ghost use Rattle.refusal.specs.Answer.{lowest, placeOr, filled};
+ghost use Rattle.refusal.specs.Answer.{lowest, placeOr};
 ghost use Rattle.network.specs.Rows.{rowWords, tapWords, rowsOf, tapRowsOf, networkOf};
 ghost use Rattle.network.specs.Coefficients as Coefficients;
 ghost use Rattle.network.specs.Check.{breaksRowRule, breaksTapRowRule, numbers, checked, networkAnswer, outcome};
+ghost use Rattle.network.specs.Checked.{NetworkChecked, CoefficientsRead};
 ghost use Rattle.network_check.specs.Checked.{answerOf};
-ghost use Rattle.network_check.specs.Steps.{isGiven, Holds};
+ghost use Rattle.network_check.specs.Inner.{isGiven, Holds};
 use network_rules::TapProduct;
 use refusal::Refusal;
 
@@ -50,7 +49,8 @@ fn first_broken_row(rows: &[u32], n: usize) -> usize
 fn fill(rows: &[u32], n: usize, taps: &[u32], m: usize, buffer: &mut [i32; 256]) -> usize
     requires { ⌜ (rowWords * n ≤ length (now rows)) × (tapWords * m ≤ length (now taps)) × (m ≤ 256) × (length (now buffer) ≡ 256) ⌝ }
     ensures { λ r. ⌜ r ≡ placeOr m (lowest (breaksTapRowRule (rowsOf (now (rows .entry)) n)) (tapRowsOf (now (taps .entry)) m)) ⌝ }
-    ensures { λ r. ⌜ (r ≡ m → now (buffer .exit) ≡ Coefficients.coefficients (networkOf (now (rows .entry)) n (now (taps .entry)) m) ++ drop m (now (buffer .entry))) ⌝ }
+    ensures { λ r. ⌜ (r ≡ m → now (buffer .exit)
+        ≡ Coefficients.coefficients (networkOf (now (rows .entry)) n (now (taps .entry)) m) ++ drop m (now (buffer .entry))) ⌝ }
 {
     let mut j: usize = 0;
     while j < m {
@@ -122,7 +122,7 @@ pub fn examine(
 
 // Whether the tables hold a network that keeps the rules, and else why not.
 pub fn check(rows: &[u32], row_count: usize, taps: &[u32], tap_count: usize) -> Checked
-    ensures { λ r. ⌜ answerOf r ≡ outcome (networkAnswer false (now (rows .entry)) «row_count» (now (taps .entry)) «tap_count») ⌝ }
+    ensures { λ r. ⌜ NetworkChecked (now (rows .entry)) «row_count» (now (taps .entry)) «tap_count» (answerOf r) ⌝ }
 {
     let mut buffer = [0i32; 256];
     examine(rows, row_count, taps, tap_count, false, &mut buffer)
@@ -137,8 +137,7 @@ pub fn coefficients(
     tap_count: usize,
     table: &mut [i32],
 ) -> Checked
-    ensures answer { λ r. ⌜ answerOf r ≡ outcome (networkAnswer (ltb (length (now (table .entry))) «tap_count») (now (rows .entry)) «row_count» (now (taps .entry)) «tap_count») ⌝ }
-    ensures written { λ r. ⌜ now (table .exit) ≡ filled (networkAnswer (ltb (length (now (table .entry))) «tap_count») (now (rows .entry)) «row_count» (now (taps .entry)) «tap_count») (Coefficients.coefficients (networkOf (now (rows .entry)) «row_count» (now (taps .entry)) «tap_count»)) (now (table .entry)) ⌝ }
+    ensures { λ r. ⌜ CoefficientsRead (now (rows .entry)) «row_count» (now (taps .entry)) «tap_count» (now (table .entry)) (answerOf r) (now (table .exit)) ⌝ }
 {
     let mut buffer = [0i32; 256];
     let short = table.len() < tap_count;

@@ -15,10 +15,10 @@ use Rattle.network.specs.declared.Row.{Row}
 use Rattle.network.specs.declared.TapRow.{TapRow}
 use Rattle.network_rules.specs.declared.tap_row_rule.TapProduct.the-variants.{Coefficient, Broken}
 use Rattle.network.specs.Rows.{none, plus, minus}
-use Rattle.network.specs.Coefficients.{signed, coefficientOf}
+use Rattle.network.specs.Coefficients.{withSign, coefficientOf}
 use Rattle.network.specs.TapRowRule.{isTapSign, isProduct, keepsTapRowRule}
 use Rattle.word.specs.Bounds.{withinBounds}
-use Rattle.network_rules.specs.Products.{productIf, productOf}
+use Rattle.network_rules.specs.Inner.{productIf, productOf}
 
 -- ---- a number p with a sign
 
@@ -37,20 +37,20 @@ negative-outside zero l = absurd (omega arith)
 negative-outside (suc k) l = rw (lt-leb k 2147483647 (omega arith))
 
 module _ (s p : ℕ) where
-  pub plus-within : s ≡ plus → p ≤ 2147483647 → Coefficient (pos p) ≡ productIf (isTapSign s && withinBounds (signed s (pos p))) (signed s (pos p))
+  pub plus-within : s ≡ plus → p ≤ 2147483647 → Coefficient (pos p) ≡ productIf (isTapSign s && withinBounds (withSign s (pos p))) (withSign s (pos p))
   plus-within e l = rw (eq-eqb s plus e, le-leb p 2147483647 l)
 
-  pub plus-outside : s ≡ plus → 2147483647 < p → Broken ≡ productIf (isTapSign s && withinBounds (signed s (pos p))) (signed s (pos p))
+  pub plus-outside : s ≡ plus → 2147483647 < p → Broken ≡ productIf (isTapSign s && withinBounds (withSign s (pos p))) (withSign s (pos p))
   plus-outside e l = rw (eq-eqb s plus e, lt-leb p 2147483647 l)
 
   module _ (n : s ≡ plus → ⊥) where
-    pub minus-within : s ≡ minus → p ≤ 2 ^ 31 → Coefficient (negℤ (pos p)) ≡ productIf (isTapSign s && withinBounds (signed s (pos p))) (signed s (pos p))
+    pub minus-within : s ≡ minus → p ≤ 2 ^ 31 → Coefficient (negℤ (pos p)) ≡ productIf (isTapSign s && withinBounds (withSign s (pos p))) (withSign s (pos p))
     minus-within e l = rw (ne-eqb s plus n, eq-eqb s minus e, negative-within p l)
 
-    pub minus-outside : s ≡ minus → 2 ^ 31 < p → Broken ≡ productIf (isTapSign s && withinBounds (signed s (pos p))) (signed s (pos p))
+    pub minus-outside : s ≡ minus → 2 ^ 31 < p → Broken ≡ productIf (isTapSign s && withinBounds (withSign s (pos p))) (withSign s (pos p))
     minus-outside e l = rw (ne-eqb s plus n, eq-eqb s minus e, negative-outside p l)
 
-    pub no-sign : (s ≡ minus → ⊥) → Broken ≡ productIf (isTapSign s && withinBounds (signed s (pos p))) (signed s (pos p))
+    pub no-sign : (s ≡ minus → ⊥) → Broken ≡ productIf (isTapSign s && withinBounds (withSign s (pos p))) (withSign s (pos p))
     no-sign m = rw (ne-eqb s plus n, ne-eqb s minus m)
 
 -- ---- a tap row
@@ -69,7 +69,7 @@ others true b c d e f = rw (e, f)
 others false b c d e f = refl
 
 empty-sign : (s : ℕ) (a b d e f : Bool) (z : ℤ) → s ≡ none
-    → productIf (a && b) (pos 0) ≡ productIf (eqb s none && a && b || isTapSign s && d && e && f) (signed s z)
+    → productIf (a && b) (pos 0) ≡ productIf (eqb s none && a && b || isTapSign s && d && e && f) (withSign s z)
 empty-sign s a b d e f z h = rw h (ap (λ (x : Bool). productIf x (pos 0)) (sym (or-false (a && b))))
 
 module _ (rows : List Row) (t : TapRow) where

@@ -5,10 +5,10 @@ ghost use Prim.Native.Nat.{_+_, _*_, _^_, _≤_};
 ghost use lib.IntN.{pos, negℤ};
 ghost use lib.ListN.{length};
 ghost use Rattle.network.specs.Rows.{rowWords, tapWords, rowsOf, tapRowAt};
-ghost use Rattle.network.specs.Coefficients.{signed};
+ghost use Rattle.network.specs.Coefficients.{withSign};
 ghost use Rattle.network.specs.TapRowRule.{isTapSign};
 ghost use Rattle.word.specs.Bounds.{withinBounds};
-ghost use Rattle.network_rules.specs.Products.{productIf, productOf};
+ghost use Rattle.network_rules.specs.Inner.{productIf, productOf};
 use network::MINUS;
 use network::NONE;
 use network::PLUS;
@@ -31,7 +31,7 @@ fn negated(p: u64) -> i32
 
 // p with the sign of a tap row that is not empty.
 fn signed_product(sign: u32, p: u64) -> TapProduct
-    ensures { λ r. ⌜ r ≡ productIf (isTapSign sign && withinBounds (signed sign (pos p))) (signed sign (pos p)) ⌝ }
+    ensures { λ r. ⌜ r ≡ productIf (isTapSign sign && withinBounds (withSign sign (pos p))) (withSign sign (pos p)) ⌝ }
 {
     if sign == PLUS {
         if p <= 2147483647 {

@@ -13,19 +13,20 @@ use Rattle.building.specs.Parts.{Part, partsToBuild}
 use Rattle.building.specs.Steps.{firstRow, steps, builtRows}
 use Rattle.building.specs.TapRows.{built}
 use Rattle.building.specs.Tables.{wordsOfTapRows}
+use Rattle.building.specs.RowSteps.{row-0}
+use Rattle.building.specs.CanBuild.{Buildable}
 use Rattle.building.proofs.Answers.{forms-exist}
 use Rattle.building.proofs.ChosenForm.{member}
-use Rattle.building.proofs.Lawful.{row-0}
 use Rattle.building.proofs.Passes.{part-buildable, rows-built}
-use Rattle.building.proofs.Steps.{Buildable, steps-grow}
+use Rattle.building.proofs.Steps.{steps-grow}
 use Rattle.building.proofs.Words.{table-with-rows}
-use Rattle.odd_parts.specs.Keys.{partIn, Ordered}
-use Rattle.row_index.specs.Index.{Grown}
+use Rattle.odd_parts.specs.Inner.{partIn, Ordered}
+use Rattle.row_index.specs.Inner.{Grown}
 use Rattle.row_index.proofs.Values.{length-rows}
-use Rattle.chain.specs.Reading.{HasRoom}
-use Rattle.row_builder.specs.Ready.{CanStart}
-use Rattle.tap_rows.specs.Table.{over, tapRowsFor}
-use Rattle.network_tables.specs.Plan.{Accepted, Planned, WithIndex, Written}
+use Rattle.chain.specs.Inner.{HasRoom}
+use Rattle.row_builder.specs.Inner.{CanStart}
+use Rattle.tap_rows.specs.Inner.{over, tapRowsFor}
+use Rattle.network_tables.specs.Inner.{Accepted, Planned, WithIndex, Written}
 
 -- ---- the plan
 pub planned : (cs : List ℤ) (ks keys : List ℕ) (m : ℕ) (rows taps : List ℕ) → Accepted cs ks rows taps → Ordered cs keys m → m ≤ length keys → Planned cs ks keys m rows taps

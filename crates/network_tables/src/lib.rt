@@ -1,7 +1,7 @@
 // A network written into its two tables. All functions here are internal: the crate `builder` has
 // checked what they ask.
 ghost use Prim.Native.Nat.{_≤_};
-ghost use Rattle.network_tables.specs.Plan.{Accepted, Planned, WithIndex, Written};
+ghost use Rattle.network_tables.specs.Inner.{Accepted, Planned, WithIndex, Written};
 
 // Rows and tap rows, with an index that is empty at first.
 fn write_network(
@@ -14,8 +14,10 @@ fn write_network(
     heads: &mut [u16],
     links: &mut [u16],
 ) -> usize
-    requires { ⌜ Planned (now coefficients) (now choices) (now keys) m (now rows) (now taps) × WithIndex (now coefficients) (now choices) (now rows) (now heads) (now links) ⌝ }
-    ensures { λ r. ⌜ Written (now (coefficients .entry)) (now (choices .entry)) (now (rows .entry)) (now (taps .entry)) (now (rows .exit)) (now (taps .exit)) r ⌝ }
+    requires { ⌜ Planned (now coefficients) (now choices) (now keys) m (now rows) (now taps)
+        × WithIndex (now coefficients) (now choices) (now rows) (now heads) (now links) ⌝ }
+    ensures { λ r. ⌜ Written (now (coefficients .entry)) (now (choices .entry)) (now (rows .entry)) (now (taps .entry))
+        (now (rows .exit)) (now (taps .exit)) r ⌝ }
 {
     let n = row_builder::add_rows(keys, m, choices, rows, heads, links);
     tap_rows::write_tap_rows(coefficients, rows, heads, links, n, taps);
@@ -32,7 +34,8 @@ fn write_few(
     taps: &mut [u32],
 ) -> usize
     requires { ⌜ Planned (now coefficients) (now choices) (now keys) m (now rows) (now taps) × (m ≤ 64) ⌝ }
-    ensures { λ r. ⌜ Written (now (coefficients .entry)) (now (choices .entry)) (now (rows .entry)) (now (taps .entry)) (now (rows .exit)) (now (taps .exit)) r ⌝ }
+    ensures { λ r. ⌜ Written (now (coefficients .entry)) (now (choices .entry)) (now (rows .entry)) (now (taps .entry))
+        (now (rows .exit)) (now (taps .exit)) r ⌝ }
 {
     let mut heads = [0u16; 1024];
     let mut links = [0u16; 1024];
@@ -58,7 +61,8 @@ fn write_many(
     taps: &mut [u32],
 ) -> usize
     requires { ⌜ Planned (now coefficients) (now choices) (now keys) m (now rows) (now taps) ⌝ }
-    ensures { λ r. ⌜ Written (now (coefficients .entry)) (now (choices .entry)) (now (rows .entry)) (now (taps .entry)) (now (rows .exit)) (now (taps .exit)) r ⌝ }
+    ensures { λ r. ⌜ Written (now (coefficients .entry)) (now (choices .entry)) (now (rows .entry)) (now (taps .entry))
+        (now (rows .exit)) (now (taps .exit)) r ⌝ }
 {
     let mut heads = [0u16; 131072];
     let mut links = [0u16; 4096];
@@ -82,7 +86,8 @@ pub fn build_accepted(
     taps: &mut [u32],
 ) -> usize
     requires { ⌜ Accepted (now coefficients) (now choices) (now rows) (now taps) ⌝ }
-    ensures { λ r. ⌜ Written (now (coefficients .entry)) (now (choices .entry)) (now (rows .entry)) (now (taps .entry)) (now (rows .exit)) (now (taps .exit)) r ⌝ }
+    ensures { λ r. ⌜ Written (now (coefficients .entry)) (now (choices .entry)) (now (rows .entry)) (now (taps .entry))
+        (now (rows .exit)) (now (taps .exit)) r ⌝ }
 {
     let mut keys = [0u64; 256];
     let m = odd_parts::order(coefficients, &mut keys);

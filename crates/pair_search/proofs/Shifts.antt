@@ -11,11 +11,11 @@ use lib.Pow.{pow-mono}
 use Rattle.network.specs.declared.Row.{Row}
 use Rattle.network.specs.Rows.{rowsOf}
 use Rattle.network.specs.RowRule.{lifted}
-use Rattle.building.specs.Search.{fit, none-fits, orElse, firstFit}
-use Rattle.row_index.specs.Index.{valueAt}
+use Rattle.building.specs.Search.{fit, none-fits, orElse, firstFit, fitAtShift, fitAtLeft}
+use Rattle.row_index.specs.Inner.{valueAt}
 use Rattle.row_index.proofs.Compare.{le-or-lt}
 use Rattle.row_index.proofs.Values.{length-rows}
-use Rattle.row_signs.specs.Pairs.{fitAtShift, fitAtLeft, Searchable}
+use Rattle.row_signs.specs.Inner.{Searchable}
 use Rattle.row_signs.proofs.FirstOver.{over-none, over-first}
 use Rattle.row_signs.proofs.Tries.{plus-none, minus-none, reversed-none}
 use Rattle.row_signs.proofs.Signs.{three-signs, positive}

@@ -3,8 +3,7 @@
 ghost use mathlib.Core.Path.{_≡_};
 ghost use Rattle.network.specs.Rows.{rowsOf};
 ghost use Rattle.building.specs.Search.{firstFit};
-ghost use Rattle.row_signs.specs.NewRow.{fitOf};
-ghost use Rattle.row_signs.specs.Pairs.{Searchable};
+ghost use Rattle.row_signs.specs.Inner.{Searchable, fitOf};
 use row_signs::NewRow;
 use row_signs::narrow;
 

@@ -12,13 +12,13 @@ use Rattle.network.specs.declared.Row.{Row}
 use Rattle.network.specs.Rows.{plus, minus, rowIn}
 use Rattle.building.specs.Parts.{Part}
 use Rattle.building.specs.Search.{rowWith, Fit, fit, none-fits, firstFit}
-use Rattle.building.specs.Chain.{chosenForm, addUnless, chainStep, chainFrom, chainDown, chained}
+use Rattle.building.specs.Chain.{chosenForm, addUnless, chainStep, chainFrom, chainDown, chained, chainValue, chainEnd}
 use Rattle.building.specs.Steps.{searched, lookedUp, step}
-use Rattle.building.proofs.ChainValue.{chainValue, chainEnd, doubled, no-less, never-falls}
+use Rattle.building.specs.CanBuild.{Buildable}
+use Rattle.building.proofs.ChainValue.{doubled, no-less, never-falls}
 use Rattle.building.proofs.ChosenForm.{chosen-form}
 use Rattle.building.proofs.FirstFit.{fit-is-first}
 use Rattle.building.proofs.Lawful.{row-at-end, row-before}
-use Rattle.building.proofs.Steps.{Buildable}
 use Rattle.row_index.proofs.Compare.{le-or-lt}
 
 -- no row has a larger value

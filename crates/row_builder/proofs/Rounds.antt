@@ -10,13 +10,14 @@ use Rattle.network.specs.declared.Row.{Row}
 use Rattle.network.specs.Rows.{rowsOf}
 use Rattle.building.specs.Parts.{Part}
 use Rattle.building.specs.Steps.{firstRow, step, steps}
-use Rattle.building.proofs.Lawful.{Lawful, row-0}
-use Rattle.building.proofs.Steps.{Buildable, step-grows}
-use Rattle.odd_parts.specs.Keys.{partIn}
-use Rattle.row_index.specs.Index.{Grown}
+use Rattle.building.specs.RowSteps.{Lawful, row-0}
+use Rattle.building.specs.CanBuild.{Buildable}
+use Rattle.building.proofs.Steps.{step-grows}
+use Rattle.odd_parts.specs.Inner.{partIn}
+use Rattle.row_index.specs.Inner.{Grown}
 use Rattle.row_index.proofs.Growth.{grown-none, grown-on}
 use Rattle.row_index.proofs.Values.{length-rows, value-in}
-use Rattle.row_builder.specs.Ready.{Ready}
+use Rattle.row_builder.specs.Inner.{Ready}
 use Rattle.row_builder.proofs.Bounds.{Below, part-below}
 use Rattle.row_builder.proofs.Longer.{step-longer, steps-longer}
 

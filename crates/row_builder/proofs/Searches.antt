@@ -13,18 +13,17 @@ use Rattle.network.specs.declared.Row.{Row}
 use Rattle.network.specs.Rows.{rowsOf}
 use Rattle.building.specs.Parts.{Part}
 use Rattle.building.specs.Search.{rowWith, fit, none-fits, firstFit}
-use Rattle.building.specs.Chain.{chosenForm, chained}
+use Rattle.building.specs.Chain.{chosenForm, chained, chainEnd}
 use Rattle.building.specs.Steps.{searched}
-use Rattle.building.proofs.ChainValue.{chainEnd}
 use Rattle.building.proofs.ChosenForm.{chosen-form}
 use Rattle.building.proofs.Chain.{one-has-row}
 use Rattle.building.proofs.FirstFit.{fit-is-first}
 use Rattle.building.proofs.Lawful.{lawful-value}
-use Rattle.row_index.specs.Index.{valueAt}
+use Rattle.row_index.specs.Inner.{valueAt}
 use Rattle.row_index.proofs.Values.{length-rows, value-in}
-use Rattle.row_signs.specs.Pairs.{Searchable}
-use Rattle.chain.specs.Reading.{Readable}
-use Rattle.row_builder.specs.Ready.{Ready}
+use Rattle.row_signs.specs.Inner.{Searchable}
+use Rattle.chain.specs.Inner.{Readable}
+use Rattle.row_builder.specs.Inner.{Ready}
 
 module _ (table heads links : List ℕ) (n most : ℕ) (p : Part) (r : Ready table heads links n most p) where
   abbrev rows : List Row

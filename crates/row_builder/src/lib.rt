@@ -8,10 +8,10 @@ ghost use Rattle.refusal.specs.Answer.{nowhere};
 ghost use Rattle.network.specs.Rows.{rowsOf};
 ghost use Rattle.building.specs.Search.{rowWith, firstFit};
 ghost use Rattle.building.specs.Steps.{firstRow, searched, step, steps};
-ghost use Rattle.odd_parts.specs.Keys.{tapIn, partIn};
-ghost use Rattle.row_index.specs.Index.{Indexed, Grown};
-ghost use Rattle.chain.specs.Reading.{HasRoom};
-ghost use Rattle.row_builder.specs.Ready.{partOf, Ready, CanStart};
+ghost use Rattle.odd_parts.specs.Inner.{tapIn, partIn};
+ghost use Rattle.row_index.specs.Inner.{Indexed, Grown};
+ghost use Rattle.chain.specs.Inner.{HasRoom};
+ghost use Rattle.row_builder.specs.Inner.{partOf, Ready, CanStart};
 use network::Row;
 use row_index::Found;
 use row_signs::NewRow;
@@ -34,7 +34,8 @@ fn add_new(
 ) -> usize
     requires { ⌜ Ready (now table) (now heads) (now links) n most (partOf v choice) × (rowWith (rowsOf (now table) n) v ≡ nowhere) ⌝ }
     requires { ⌜ HasRoom (now table) (now links) (length (searched (firstFit (rowsOf (now table) n) v) (rowsOf (now table) n) (partOf v choice))) ⌝ }
-    ensures { λ r. ⌜ Grown (now (table .entry)) (now (table .exit)) (now (heads .exit)) (now (links .exit)) r (searched (firstFit (rowsOf (now (table .entry)) n) v) (rowsOf (now (table .entry)) n) (partOf v choice)) ⌝ }
+    ensures { λ r. ⌜ Grown (now (table .entry)) (now (table .exit)) (now (heads .exit)) (now (links .exit)) r
+        (searched (firstFit (rowsOf (now (table .entry)) n) v) (rowsOf (now (table .entry)) n) (partOf v choice)) ⌝ }
 {
     match pair_search::first_fit(table, heads, links, n, most, v) {
         NewRow::Fits(row) => {
@@ -60,7 +61,8 @@ fn add_part(
 ) -> usize
     requires { ⌜ Ready (now table) (now heads) (now links) n most (partOf v choice) ⌝ }
     requires { ⌜ HasRoom (now table) (now links) (length (step (rowsOf (now table) n) (partOf v choice))) ⌝ }
-    ensures { λ r. ⌜ Grown (now (table .entry)) (now (table .exit)) (now (heads .exit)) (now (links .exit)) r (step (rowsOf (now (table .entry)) n) (partOf v choice)) ⌝ }
+    ensures { λ r. ⌜ Grown (now (table .entry)) (now (table .exit)) (now (heads .exit)) (now (links .exit)) r
+        (step (rowsOf (now (table .entry)) n) (partOf v choice)) ⌝ }
 {
     match row_index::find(table, heads, links, n, v) {
         Found::At(_) => n,
@@ -80,7 +82,8 @@ fn add_key(
 ) -> usize
     requires { ⌜ Ready (now table) (now heads) (now links) n most (partIn (now choices) key) × (tapIn key < length (now choices)) ⌝ }
     requires { ⌜ HasRoom (now table) (now links) (length (step (rowsOf (now table) n) (partIn (now choices) key))) ⌝ }
-    ensures { λ r. ⌜ Grown (now (table .entry)) (now (table .exit)) (now (heads .exit)) (now (links .exit)) r (step (rowsOf (now (table .entry)) n) (partIn (now (choices .entry)) key)) ⌝ }
+    ensures { λ r. ⌜ Grown (now (table .entry)) (now (table .exit)) (now (heads .exit)) (now (links .exit)) r
+        (step (rowsOf (now (table .entry)) n) (partIn (now (choices .entry)) key)) ⌝ }
 {
     let tap = odd_parts::tap_of(key);
     let choice = choices[tap];
@@ -119,7 +122,8 @@ pub fn add_rows(
     links: &mut [u16],
 ) -> usize
     requires { ⌜ CanStart (now keys) m (now choices) (now table) (now heads) (now links) ⌝ }
-    ensures { λ r. ⌜ Grown (now (table .entry)) (now (table .exit)) (now (heads .exit)) (now (links .exit)) r (steps (firstRow ∷ []) (map (partIn (now (choices .entry))) (take m (now (keys .entry))))) ⌝ }
+    ensures { λ r. ⌜ Grown (now (table .entry)) (now (table .exit)) (now (heads .exit)) (now (links .exit)) r
+        (steps (firstRow ∷ []) (map (partIn (now (choices .entry))) (take m (now (keys .entry))))) ⌝ }
 {
     add_first(table, heads, links);
     let mut n: usize = 1;

@@ -11,7 +11,7 @@ use lib.Seq.{getD-set-same, getD-set-other}
 use Rattle.refusal.specs.Answer.{nowhere}
 use Rattle.network.specs.Rows.{rowWords, rowsOf}
 use Rattle.building.specs.Search.{rowWith}
-use Rattle.row_index.specs.Index.{valueAt, bucketOf, Last, Indexed}
+use Rattle.row_index.specs.Inner.{valueAt, bucketOf, Last, Indexed}
 use Rattle.row_index.proofs.Compare.{le-or-lt, eq-or-ne}
 use Rattle.row_index.proofs.Values.{row-missing}
 

@@ -4,7 +4,7 @@ use mathlib.Core.List.{List}
 use Prim.Native.Nat.{ℕ, zero, suc, _<_, zero-le}
 use native.Mathlib.Omega.{arith}
 use lib.ListN.{length, getD, replicate}
-use Rattle.row_index.specs.Index.{Last, Indexed}
+use Rattle.row_index.specs.Inner.{Last, Indexed}
 
 read-clear : (m h : ℕ) → getD (replicate {A = ℕ} m 0) h 0 ≡ 0
 read-clear zero h = refl

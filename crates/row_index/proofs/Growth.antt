@@ -7,7 +7,7 @@ use lib.ListN.{drop}
 use lib.Seq.{drop-drop}
 use Rattle.network.specs.declared.Row.{Row}
 use Rattle.network.specs.Rows.{rowWords, rowsOf}
-use Rattle.row_index.specs.Index.{Indexed, Grown}
+use Rattle.row_index.specs.Inner.{Indexed, Grown}
 
 -- nothing is added
 pub grown-none : (t heads links : List ℕ) (n : ℕ) → Indexed t heads links n → Grown t t heads links n (rowsOf t n)

@@ -10,7 +10,7 @@ use Rattle.network.specs.declared.Row.{Row}
 use Rattle.network.specs.Rows.{rowAt, rowsOf, rowIn, noRow}
 use Rattle.building.specs.Search.{rowWith}
 use Rattle.building.proofs.Lookup.{row-within, row-value, row-absent, row-is, row-none}
-use Rattle.row_index.specs.Index.{valueAt}
+use Rattle.row_index.specs.Inner.{valueAt}
 
 module _ (t : List ℕ) (n : ℕ) where
   pub length-rows : length (rowsOf t n) ≡ n

@@ -9,7 +9,7 @@ use lib.Seq.{getD-set-same, getD-set-other, drop-set-lt}
 use Rattle.sequence.specs.UpTo.{upTo}
 use Rattle.network.specs.declared.Row.{Row}
 use Rattle.network.specs.Rows.{rowWords, rowAt, rowsOf}
-use Rattle.row_index.specs.Index.{withRow}
+use Rattle.row_index.specs.Inner.{withRow}
 
 before : (l : List ℕ) (k j a : ℕ) → j < k → getD (set l k a) j 0 ≡ getD l j 0
 before l k j a h = getD-set-other l k j a 0 (λ (e : j ≡ k). omega arith)

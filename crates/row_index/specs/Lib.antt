@@ -1,3 +1,1 @@
-pub mod Found
--- For the contracts of the internal functions:
-pub mod Index
+pub mod Inner

@@ -8,8 +8,7 @@ ghost use lib.ListN.{length, getD, set};
 ghost use Rattle.refusal.specs.Answer.{nowhere};
 ghost use Rattle.network.specs.Rows.{rowWords, rowsOf};
 ghost use Rattle.building.specs.Search.{rowWith};
-ghost use Rattle.row_index.specs.Found.{foundAt};
-ghost use Rattle.row_index.specs.Index.{bucketOf, Indexed, withRow, Grown};
+ghost use Rattle.row_index.specs.Inner.{bucketOf, Indexed, withRow, Grown, foundAt};
 use network::Row;
 
 // What a look-up finds: the number of a row, or none.
@@ -87,7 +86,8 @@ pub fn put(table: &mut [u32], heads: &mut [u16], links: &mut [u16], n: usize, ro
     requires { ⌜ Indexed (now table) (now heads) (now links) n ⌝ }
     requires { ⌜ (n < 4096) × (rowWords * n + rowWords ≤ length (now table)) × (n < length (now links)) ⌝ }
     requires { ⌜ rowWith (rowsOf (now table) n) (row .value) ≡ nowhere ⌝ }
-    ensures { λ _. ⌜ Grown (now (table .entry)) (now (table .exit)) (now (heads .exit)) (now (links .exit)) (n + 1) (rowsOf (now (table .entry)) n ++ (row ∷ [])) ⌝ }
+    ensures { λ _. ⌜ Grown (now (table .entry)) (now (table .exit)) (now (heads .exit)) (now (links .exit)) (n + 1)
+        (rowsOf (now (table .entry)) n ++ (row ∷ [])) ⌝ }
 {
     write_row(table, n, row);
     let x = row.value;

@@ -8,9 +8,9 @@ use Rattle.refusal.specs.Answer.{nowhere, at-place}
 use Rattle.network.specs.declared.Row.{Row}
 use Rattle.network.specs.Rows.{plus, minus, reversed, rowsOf}
 use Rattle.network.specs.RowRule.{isRowSign}
-use Rattle.building.specs.Search.{Fit, fit, none-fits, orElse, firstOver, rowWith, rowOver, tried}
-use Rattle.row_index.specs.Index.{valueAt}
-use Rattle.row_signs.specs.Pairs.{fitAtShift, rightValue, Searchable, AtShift}
+use Rattle.building.specs.Search.{Fit, fit, none-fits, orElse, firstOver, rowWith, rowOver, tried, fitAtShift}
+use Rattle.row_index.specs.Inner.{valueAt}
+use Rattle.row_signs.specs.Inner.{rightValue, Searchable, AtShift}
 use Rattle.row_signs.proofs.FirstOver.{else-none}
 use Rattle.row_signs.proofs.Tries.{tried-right, tried-missing}
 

@@ -16,9 +16,9 @@ use Rattle.network.proofs.Booleans.{same-truth}
 use Rattle.network.proofs.RowTests.{worked-tests}
 use Rattle.building.specs.Search.{none-fits, rowWith, rowOver, tried}
 use Rattle.building.proofs.Lookup.{is-nowhere}
-use Rattle.row_index.specs.Index.{valueAt}
+use Rattle.row_index.specs.Inner.{valueAt}
 use Rattle.row_index.proofs.Values.{length-rows, value-in}
-use Rattle.row_signs.specs.Pairs.{rightValue}
+use Rattle.row_signs.specs.Inner.{rightValue}
 
 -- ---- what each sign asks of the right row, without a difference
 

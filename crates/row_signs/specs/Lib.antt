@@ -1,3 +1,1 @@
-pub mod NewRow
--- For the contracts of the internal functions:
-pub mod Pairs
+pub mod Inner

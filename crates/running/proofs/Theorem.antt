@@ -19,7 +19,8 @@ use Rattle.convolution.proofs.Steps.{held-low, held-high}
 use Rattle.convolution.proofs.Theorems.{Cleared, holds-start}
 use Rattle.network.specs.Rows.{Network, networkOf, tapRowAt}
 use Rattle.network.specs.Check.{networkAnswer, outcome}
-use Rattle.network.proofs.Passed.{Passed, Accepted, given-accepted, accepted-given}
+use Rattle.network.proofs.Passed.{given-accepted, accepted-given}
+use Rattle.network.specs.Accepted.{KeepsRules, Accepted}
 use Rattle.network.proofs.Given.{given-length, given-fits, same-coefficients}
 use Rattle.running.specs.Run.{runAnswer, runOutputs}
 use Rattle.running.specs.Call.{Call, networkIn, tableAnswer, joined, saidOf, saidFrom}
@@ -132,7 +133,7 @@ module _ (h : List ℤ) (rows : List ℕ) (n : ℕ) (taps : List ℕ) (m : ℕ) 
         rows-long = full .rows;
         taps-long = full .taps;
         others-long = rw (le-ltb (c .registers) 256 (full .registers), le-ltb (c .outputs) (length (c .samples)) (full .outputs));
-        passed = subst (λ (w : Network). Passed w h) (sym e) (accepted .passed);
+        passed = subst (λ (w : Network). KeepsRules w h) (sym e) (accepted .passed);
       })
 
   -- for every list of calls: "Take any list of running calls, refused ones included, on one set of registers cleared at the start, each accepted call

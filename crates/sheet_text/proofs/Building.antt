@@ -23,7 +23,8 @@ use Rattle.building.specs.TapRows.{built}
 use Rattle.building.specs.Answer.{noSuchForm, buildAnswer, rowCount}
 use Rattle.building.specs.Tables.{wordsOfRows, wordsOfTapRows}
 use Rattle.building.proofs.Answers.{exist-forms, not-short, network-given}
-use Rattle.building.proofs.Passes.{CanBuild, built-few, built-passed}
+use Rattle.building.specs.CanBuild.{CanBuild}
+use Rattle.building.proofs.Passes.{built-few, built-passed}
 use Rattle.building.proofs.BuiltTables.{network-left, length-rows-left, length-taps-left, length-built-taps}
 use Rattle.form_choices.proofs.FormNumbers.{choice-zero}
 use Rattle.sheet_kinds.specs.Inner.{NetworkIn}

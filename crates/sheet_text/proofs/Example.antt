@@ -8,8 +8,8 @@ use Rattle.refusal.specs.Answer.{lowestFrom}
 use Rattle.signed_digit.specs.CanonicalForm.{canonicalNat}
 use Rattle.coefficient.specs.Parts.{partsOf, oddPartOf, shiftOf}
 use Rattle.network.specs.Coefficients as Network
-use Rattle.building.specs.Parts.{leastWeight, before, insert, insertTap, takenFrom}
-use Rattle.building.specs.Search.{rowWith, orElse, firstOver, rowOver, tried, firstFit}
+use Rattle.building.specs.Parts.{leastWeight, comesBefore, insert, insertTap, takenFrom}
+use Rattle.building.specs.Search.{rowWith, orElse, firstOver, rowOver, tried, firstFit, fitAtShift, fitAtLeft}
 use Rattle.building.specs.Steps.{searched, lookedUp, step, steps, builtRows}
 use Rattle.building.specs.TapRows.{tapRowOf, built}
 use Rattle.tap.specs.Rounding.{halfOf, toNearest, nearestWhole, leftover, split, sizeOf, outside, resultOf}
@@ -23,5 +23,5 @@ use Rattle.sheet_text.specs.Sheet.{choices, tapsAnswer, sheetAnswer, she
 use Rattle.sheet_text.specs.Claims.{exampleInput, exampleText}
 
 pub example-sheet : sheetOf exampleInput missing ≡ exampleText
-unfolding sheetOf sheetAnswer tapsAnswer choices inputAnswer fractionBits tapAt lowFirst ofBits roundedTaps bounded reportFrom reported largerOf outside resultOf split sizeOf nearestWhole toNearest halfOf leftover round upTo lowestFrom built builtRows steps step lookedUp searched takenFrom insertTap insert before leastWeight partsOf oddPartOf shiftOf trailingZeros rowWith firstFit firstOver orElse tried rowOver tapRowOf canonicalNat networkText linesFrom header nodeLine tapLine totalLine columns line decimal decimalBy integer Network.coefficientOf
+unfolding sheetOf sheetAnswer tapsAnswer choices inputAnswer fractionBits tapAt lowFirst ofBits roundedTaps bounded reportFrom reported largerOf outside resultOf split sizeOf nearestWhole toNearest halfOf leftover round upTo lowestFrom built builtRows steps step lookedUp searched takenFrom insertTap insert comesBefore leastWeight partsOf oddPartOf shiftOf trailingZeros rowWith firstFit fitAtLeft fitAtShift firstOver orElse tried rowOver tapRowOf canonicalNat networkText linesFrom header nodeLine tapLine totalLine columns line decimal decimalBy integer Network.coefficientOf
 example-sheet = refl

@@ -11,9 +11,9 @@ use Rattle.sequence.specs.UpTo.{upTo}
 use Rattle.network.specs.declared.TapRow.{TapRow}
 use Rattle.network.specs.Rows.{tapWords, tapRowsOf}
 use Rattle.building.specs.Tables.{wordsOfTapRows}
-use Rattle.building.proofs.TapWritten.{withTapRow, rest-kept, length-written, taps-written}
 use Rattle.building.proofs.Words.{table-with-taps}
-use Rattle.tap_rows.specs.Table.{over}
+use Rattle.tap_rows.specs.Inner.{withTapRow, over}
+use Rattle.tap_rows.proofs.TapWritten.{rest-kept, length-written, taps-written}
 
 module _ (f : ℤ → TapRow) (cs : List ℤ) (old : List ℕ) where
   -- the tap rows of the first j coefficients are written

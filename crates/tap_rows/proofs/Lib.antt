@@ -1,1 +1,2 @@
+pub mod TapWritten
 pub mod Filling

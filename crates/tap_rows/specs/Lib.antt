@@ -1,2 +1,1 @@
--- For the contracts of the internal functions:
-pub mod Table
+pub mod Inner

@@ -8,10 +8,10 @@ use lib.ListN.{length}
 use Rattle.refusal.specs.Answer.{nowhere, placeOr, refused}
 use Rattle.refusal.proofs.Checks.{found, found-none}
 use Rattle.network.specs.Rows.{rowWords, tapWords}
-use Rattle.building.specs.Answer.{Choice, choicesOf, noSuchForm, buildAnswer}
-use Rattle.building.proofs.Answers.{short, length-choices, missingForm, no-taps, too-many, too-short, no-form, network-given}
-use Rattle.network_tables.specs.Plan.{Accepted}
-use Rattle.builder.specs.Built.{BuiltInto}
+use Rattle.building.specs.Answer.{Choice, choicesOf, noSuchForm, buildAnswer, missingForm}
+use Rattle.building.specs.Built.{BuiltInto}
+use Rattle.building.proofs.Answers.{short, length-choices, no-taps, too-many, too-short, no-form, network-given}
+use Rattle.network_tables.specs.Inner.{Accepted}
 use Rattle.builder.proofs.Answers.{turned-down, network-left, short-choices, short-rows, short-taps, none-short}
 use Rattle.builder.proofs.build.Statement.{statement}
 use Rattle.builder.proofs.build.Tie as tie
@@ -105,8 +105,8 @@ returns-5 c =
 first-without-form-requires : tie.Need-first-without-form-requires
 first-without-form-requires c κs = search needs
 
-cast-t14 : tie.Need-cast-t14
-cast-t14 c = search needs
+cast-t15 : tie.Need-cast-t15
+cast-t15 c = search needs
 
 returns-6 : tie.Need-returns-6
 returns-6 c =
@@ -120,8 +120,8 @@ returns-6 c =
 build-accepted-requires : tie.Need-build-accepted-requires
 build-accepted-requires c κs = accepted (c .before .before)
 
-cast-t20 : tie.Need-cast-t20
-cast-t20 c = record { fits = omega (arith, c .before .before .before .before .build-accepted .ensures .fits) }
+cast-t21 : tie.Need-cast-t21
+cast-t21 c = record { fits = omega (arith, c .before .before .before .before .build-accepted .ensures .fits) }
 
 same-length : tie.Need-same-length
 same-length c = search needs
@@ -150,10 +150,10 @@ build-spec =
     returns-4
     returns-5
     first-without-form-requires
-    cast-t14
+    cast-t15
     returns-6
     build-accepted-requires
-    cast-t20
+    cast-t21
     same-length
     same-length-2
     returns-7)

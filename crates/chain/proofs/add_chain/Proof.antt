@@ -12,9 +12,9 @@ use Rattle.form_masks.specs.Form.{stringOf}
 use Rattle.network.specs.declared.Row.{Row}
 use Rattle.network.specs.Rows.{rowsOf}
 use Rattle.building.specs.Chain.{chained}
-use Rattle.row_index.specs.Index.{Grown}
+use Rattle.row_index.specs.Inner.{Grown}
 use Rattle.row_index.proofs.Growth.{grown-none, grown-on}
-use Rattle.chain.specs.Reading.{HasRoom, Reading, toCome}
+use Rattle.chain.specs.Inner.{HasRoom, Reading, toCome}
 use Rattle.chain.proofs.HighDigits.{chain-none}
 use Rattle.chain.proofs.Turns.{same-room}
 use Rattle.chain.proofs.Starts.{some-digit, start-rows, started}

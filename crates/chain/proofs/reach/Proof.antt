@@ -5,7 +5,7 @@ use native.Mathlib.Omega.{arith}
 use Rattle.refusal.specs.Answer.{nowhere, at-place}
 use Rattle.network.specs.Rows.{rowsOf}
 use Rattle.building.specs.Search.{rowWith}
-use Rattle.row_index.specs.Found.{foundAt}
+use Rattle.row_index.specs.Inner.{foundAt}
 use Rattle.row_index.proofs.Values.{row-found}
 use Rattle.chain.proofs.Turns.{found, added-length, written}
 use Rattle.chain.proofs.reach.Statement.{statement}

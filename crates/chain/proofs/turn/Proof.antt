@@ -2,7 +2,7 @@
 use borrow.Author.Needs.{needs}
 use lib.ListN.{length}
 use Rattle.network.specs.Rows.{rowsOf}
-use Rattle.chain.specs.Reading.{toCome}
+use Rattle.chain.specs.Inner.{toCome}
 use Rattle.chain.proofs.Turns.{less-room, step-room, turned}
 use Rattle.chain.proofs.turn.Statement.{statement}
 use Rattle.chain.proofs.turn.Tie as tie

@@ -10,8 +10,9 @@ use lib.IntN.{ℤ}
 use lib.ListN.{length}
 use Rattle.refusal.specs.Answer.{Answer}
 use Rattle.refusal.proofs.Checks.{neither}
-use Rattle.network.proofs.Passed.{Accepted, given-accepted}
-use Rattle.network_check.specs.Steps.{isGiven}
+use Rattle.network.specs.Accepted.{Accepted}
+use Rattle.network.proofs.Passed.{given-accepted}
+use Rattle.network_check.specs.Inner.{isGiven}
 use Rattle.network.proofs.Given.{length-coefficients}
 use Rattle.network_check.proofs.Answers.{Result, result}
 use Rattle.network_check.proofs.Padded.{length-padded}

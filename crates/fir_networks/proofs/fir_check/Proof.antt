@@ -1,10 +1,6 @@
 -- `fir_networks::fir_check` meets its contract. Assumes nothing.
 use borrow.Author.Needs.{needs}
-use mathlib.Core.Path.{ap, _∙_}
-use mathlib.Core.Bool.{false}
-use Rattle.network.specs.Check.{networkAnswer}
-use Rattle.fir_words.specs.Words.{refusalWord}
-use Rattle.fir_words.proofs.Outcome.{word-of-outcome}
+use Rattle.network_check.specs.Checked.{answerOf}
 use Rattle.fir_networks.proofs.fir_check.Statement.{statement}
 use Rattle.fir_networks.proofs.fir_check.Tie as tie
 
@@ -15,11 +11,7 @@ checked-word-requires : tie.Need-checked-word-requires
 checked-word-requires c κs = search needs
 
 returns : tie.Need-returns
-returns c =
-    let s = c .before .before .before .before in
-    c .checked-word .ensures
-    ∙ ap refusalWord (c .before .check .ensures)
-    ∙ word-of-outcome (networkAnswer false (s .args .rows .now) (s .args .row-count) (s .args .taps .now) (s .args .tap-count))
+returns c = let k = c .before .check in record { answer = answerOf (k .result); word = c .checked-word .ensures; checked = k .ensures }
 
 pub fir-check-spec : {M : Type 1} → statement M
 fir-check-spec = tie.close (tie.spec check-requires checked-word-requires returns)

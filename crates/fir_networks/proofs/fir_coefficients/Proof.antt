@@ -1,11 +1,6 @@
 -- `fir_networks::fir_coefficients` meets its contract. Assumes nothing.
 use borrow.Author.Needs.{needs}
-use mathlib.Core.Path.{ap, _∙_}
-use lib.Dec.{ltb}
-use lib.ListN.{length}
-use Rattle.network.specs.Check.{networkAnswer}
-use Rattle.fir_words.specs.Words.{refusalWord}
-use Rattle.fir_words.proofs.Outcome.{word-of-outcome}
+use Rattle.network_check.specs.Checked.{answerOf}
 use Rattle.fir_networks.proofs.fir_coefficients.Statement.{statement}
 use Rattle.fir_networks.proofs.fir_coefficients.Tie as tie
 
@@ -20,14 +15,8 @@ same-length c = search needs
 
 returns : tie.Need-returns
 returns c =
-    let s = c .before .before .before .before .before .before in
-    let k = c .before .before .coefficients in (
-      c .checked-word .ensures
-          ∙ ap refusalWord (k .ensures .0)
-          ∙ word-of-outcome
-          (networkAnswer (ltb (length (s .args .table .now)) (s .args .tap-count)) (s .args .rows .now) (s .args .row-count) (s .args .taps .now) (s .args .tap-count)),
-      k .ensures .1,
-    )
+    let k = c .before .before .coefficients in
+    record { answer = answerOf (k .result); word = c .checked-word .ensures; read = k .ensures }
 
 pub fir-coefficients-spec : {M : Type 1} → statement M
 fir-coefficients-spec =

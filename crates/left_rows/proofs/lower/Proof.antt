@@ -7,8 +7,7 @@ use borrow.Author.Needs.{needs}
 use Rattle.refusal.specs.Answer.{at-place}
 use Rattle.network.specs.Rows.{rowsOf}
 use Rattle.building.specs.Search.{rowWith}
-use Rattle.row_index.specs.Found.{foundAt}
-use Rattle.row_index.specs.Index.{valueAt, Indexed}
+use Rattle.row_index.specs.Inner.{valueAt, Indexed, foundAt}
 use Rattle.row_index.proofs.Values.{row-found, row-missing}
 use Rattle.left_rows.proofs.lower.Statement.{statement}
 use Rattle.left_rows.proofs.lower.Tie as tie

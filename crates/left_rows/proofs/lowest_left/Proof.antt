@@ -4,9 +4,9 @@ use Prim.Native.Nat.{ℕ, _-_, _≤_, _<_}
 use native.Mathlib.Omega.{arith}
 use borrow.Author.Count.{below-more}
 use borrow.Author.Needs.{needs}
-use Rattle.row_index.specs.Index.{valueAt}
+use Rattle.row_index.specs.Inner.{valueAt}
 use Rattle.row_index.proofs.Values.{row-missing}
-use Rattle.left_rows.specs.NoLeft.{NoLeft}
+use Rattle.left_rows.specs.Inner.{NoLeft}
 use Rattle.left_rows.proofs.Lefts.{fewer-lefts, left-fits-none}
 use Rattle.left_rows.proofs.lowest_left.Statement.{statement}
 use Rattle.left_rows.proofs.lowest_left.Tie as tie

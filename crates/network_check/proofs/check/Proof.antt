@@ -7,7 +7,7 @@ examine-requires : tie.Need-examine-requires
 examine-requires c κs = search needs
 
 returns : tie.Need-returns
-returns c = c .examine .ensures .0
+returns c = record { answer = c .examine .ensures .0 }
 
 pub check-spec : {M : Type 1} → statement M
 check-spec = tie.close (tie.spec examine-requires returns)

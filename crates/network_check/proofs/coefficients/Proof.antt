@@ -8,9 +8,10 @@ use Rattle.refusal.specs.Answer.{Answer}
 use Rattle.network.specs.Rows.{networkOf}
 use Rattle.network.specs.Coefficients as Coefficients
 use Rattle.network.specs.Check.{networkAnswer}
-use Rattle.network.proofs.Passed.{Accepted, given-accepted}
+use Rattle.network.proofs.Passed.{given-accepted}
+use Rattle.network.specs.Accepted.{Accepted}
 use Rattle.network.proofs.Given.{length-coefficients}
-use Rattle.network_check.specs.Steps.{isGiven}
+use Rattle.network_check.specs.Inner.{isGiven}
 use Rattle.network_check.proofs.Padded.{length-padded}
 use Rattle.network_check.proofs.Answers.{Result, result, copied, unchanged}
 use mathlib.Core.Path.{_≡_, sym, ap, _∙_}
@@ -72,20 +73,23 @@ returns c =
     let x = t .before .before in
     let s = x .before .before .before .before in
     let a = s .args in
-    let cs = Coefficients.coefficients (networkOf (a .rows .now) (a .row-count) (a .taps .now) (a .tap-count)) in (
-      x .examine .ensures .0,
-      k .copy .ensures
-          ∙ copied (answer s) (held t .h) cs (buffer x) (a .table .now) (a .tap-count) (held t .given-h) (held t .held) (accepted t .passed .result) (length-coefficients (a .rows .now) (a .row-count) (a .taps .now) (a .tap-count)),
-    )
+    let cs = Coefficients.coefficients (networkOf (a .rows .now) (a .row-count) (a .taps .now) (a .tap-count)) in
+    record {
+      answer = x .examine .ensures .0;
+      written =
+          k .copy .ensures
+          ∙ copied (answer s) (held t .h) cs (buffer x) (a .table .now) (a .tap-count) (held t .given-h) (held t .held) (accepted t .passed .result) (length-coefficients (a .rows .now) (a .row-count) (a .taps .now) (a .tap-count));
+    }
 
 returns-2 : tie.Need-returns-2
 returns-2 c =
     let x = c .before .before in
     let s = x .before .before .before .before in
-    let a = s .args in (
-      x .examine .ensures .0,
-      unchanged (answer s) (Coefficients.coefficients (networkOf (a .rows .now) (a .row-count) (a .taps .now) (a .tap-count))) (a .table .now) (ap isGiven (sym (x .examine .ensures .0)) ∙ sym (c .before .passes .ensures) ∙ c .if1 .left),
-    )
+    let a = s .args in
+    record {
+      answer = x .examine .ensures .0;
+      written = unchanged (answer s) (Coefficients.coefficients (networkOf (a .rows .now) (a .row-count) (a .taps .now) (a .tap-count))) (a .table .now) (ap isGiven (sym (x .examine .ensures .0)) ∙ sym (c .before .passes .ensures) ∙ c .if1 .left);
+    }
 
 pub coefficients-spec : {M : Type 1} → statement M
 coefficients-spec =

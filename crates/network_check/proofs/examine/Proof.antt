@@ -3,7 +3,7 @@ use mathlib.Core.List.{List}
 use lib.IntN.{ℤ}
 use Rattle.refusal.specs.Answer.{Answer}
 use Rattle.network.specs.Check.{networkAnswer, outcome}
-use Rattle.network_check.specs.Steps.{Holds}
+use Rattle.network_check.specs.Inner.{Holds}
 use Rattle.network_check.proofs.Answers.{turned, no-taps, many-taps, short-rows, short-taps, short-other, long-tables}
 use mathlib.Core.Path.{ap, subst, _∙_}
 use borrow.Author.Needs.{needs}

@@ -6,7 +6,7 @@ use Rattle.network.specs.Rows.{rowsOf, tapRowAt, noTap, networkOf}
 use Rattle.network.specs.Coefficients.{coefficients}
 use Rattle.network.specs.Check.{breaksRowRule, breaksTapRowRule, numbers, checked, outcome}
 use Rattle.network.proofs.Given.{length-coefficients}
-use Rattle.network_check.specs.Steps.{Holds}
+use Rattle.network_check.specs.Inner.{Holds}
 use Rattle.network_check.proofs.Scans.{scan-found, scan-none}
 use Rattle.network_check.proofs.Padded.{padded-is}
 use Rattle.network_check.proofs.Answers.{turned, no-rows, many-rows, broken-row, broken-tap, kept}

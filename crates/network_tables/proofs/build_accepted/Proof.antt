@@ -3,7 +3,7 @@ use borrow.Author.Needs.{needs}
 use mathlib.Core.Path.{_≡_}
 use native.Mathlib.Omega.{arith}
 use lib.ListN.{length}
-use Rattle.network_tables.specs.Plan.{Planned}
+use Rattle.network_tables.specs.Inner.{Planned}
 use Rattle.network_tables.proofs.Plans.{planned}
 use Rattle.network_tables.proofs.build_accepted.Statement.{statement}
 use Rattle.network_tables.proofs.build_accepted.Tie as tie

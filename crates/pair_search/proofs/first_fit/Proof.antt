@@ -6,10 +6,9 @@ use native.Mathlib.Omega.{arith}
 use borrow.Author.Count.{below-more}
 use borrow.Author.Needs.{needs}
 use Rattle.network.specs.Rows.{rowsOf}
-use Rattle.building.specs.Search.{none-fits}
-use Rattle.row_index.specs.Index.{valueAt}
-use Rattle.row_signs.specs.NewRow.{fitOf}
-use Rattle.row_signs.specs.Pairs.{fitAtLeft}
+use Rattle.building.specs.Search.{none-fits, fitAtLeft}
+use Rattle.row_index.specs.Inner.{valueAt}
+use Rattle.row_signs.specs.Inner.{fitOf}
 use Rattle.pair_search.proofs.Shifts.{Trying, try-first, few-shifts, try-next, left-none, left-first, fit-none, fit-first}
 use Rattle.pair_search.proofs.first_fit.Statement.{statement}
 use Rattle.pair_search.proofs.first_fit.Tie as tie

@@ -6,10 +6,10 @@ use lib.ListN.{length, getD}
 use Rattle.network.specs.Rows.{rowsOf}
 use Rattle.building.specs.Parts.{Part}
 use Rattle.building.specs.Steps.{step}
-use Rattle.odd_parts.specs.Keys.{partIn}
-use Rattle.row_index.specs.Index.{Grown}
-use Rattle.chain.specs.Reading.{HasRoom}
-use Rattle.row_builder.specs.Ready.{partOf, Ready}
+use Rattle.odd_parts.specs.Inner.{partIn}
+use Rattle.row_index.specs.Inner.{Grown}
+use Rattle.chain.specs.Inner.{HasRoom}
+use Rattle.row_builder.specs.Inner.{partOf, Ready}
 use Rattle.row_builder.proofs.add_key.Statement.{statement}
 use Rattle.row_builder.proofs.add_key.Tie as tie
 

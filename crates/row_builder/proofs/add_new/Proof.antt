@@ -11,10 +11,10 @@ use Rattle.network.specs.declared.Row.{Row}
 use Rattle.network.specs.Rows.{rowsOf}
 use Rattle.building.specs.Search.{fit, none-fits, firstFit}
 use Rattle.building.specs.Chain.{chained}
-use Rattle.row_index.specs.Index.{Grown}
-use Rattle.row_signs.specs.NewRow.{fitOf}
-use Rattle.chain.specs.Reading.{HasRoom, Readable}
-use Rattle.row_builder.specs.Ready.{partOf}
+use Rattle.row_index.specs.Inner.{Grown}
+use Rattle.row_signs.specs.Inner.{fitOf}
+use Rattle.chain.specs.Inner.{HasRoom, Readable}
+use Rattle.row_builder.specs.Inner.{partOf}
 use Rattle.row_builder.proofs.Searches.{searchable, fit-added, fit-length, fit-new, readable, chain-added}
 use Rattle.row_builder.proofs.add_new.Statement.{statement}
 use Rattle.row_builder.proofs.add_new.Tie as tie

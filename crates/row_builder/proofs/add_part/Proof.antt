@@ -9,11 +9,10 @@ use Rattle.network.specs.declared.Row.{Row}
 use Rattle.network.specs.Rows.{rowsOf}
 use Rattle.building.specs.Search.{rowWith, firstFit}
 use Rattle.building.specs.Steps.{lookedUp, searched, step}
-use Rattle.row_index.specs.Found.{foundAt}
-use Rattle.row_index.specs.Index.{Grown}
+use Rattle.row_index.specs.Inner.{Grown, foundAt}
 use Rattle.row_index.proofs.Growth.{grown-none}
-use Rattle.chain.specs.Reading.{HasRoom}
-use Rattle.row_builder.specs.Ready.{partOf}
+use Rattle.chain.specs.Inner.{HasRoom}
+use Rattle.row_builder.specs.Inner.{partOf}
 use Rattle.row_builder.proofs.add_part.Statement.{statement}
 use Rattle.row_builder.proofs.add_part.Tie as tie
 

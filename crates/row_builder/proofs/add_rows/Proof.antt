@@ -2,13 +2,12 @@
 use borrow.Author.Needs.{needs}
 use mathlib.Core.Path.{_≡_, refl, ap, _∙_}
 use mathlib.Core.List.{[], _∷_, map}
-use Prim.Native.Nat.{ℕ, _-_, _≤_}
+use Prim.Native.Nat.{ℕ, _-_, _≤_, max}
 use native.Mathlib.Omega.{arith}
 use lib.ListN.{length, take}
-use Rattle.odd_parts.specs.Keys.{partIn}
 use Rattle.building.specs.Steps.{firstRow, steps}
+use Rattle.odd_parts.specs.Inner.{partIn}
 use Rattle.chain.proofs.Turns.{less-room, same-room}
-use Prim.Native.Nat.{max}
 use Rattle.row_builder.proofs.Rounds.{Round, round-start, round-end, round-next, some-rows, ready, step-room}
 use Rattle.row_builder.proofs.add_rows.Statement.{statement}
 use Rattle.row_builder.proofs.add_rows.Tie as tie

@@ -1,7 +1,7 @@
 -- `row_index::bucket` meets its contract. Assumes nothing.
 use mathlib.Core.Path.{refl}
 use borrow.Author.Needs.{needs}
-use Rattle.row_index.specs.Index.{bucketOf}
+use Rattle.row_index.specs.Inner.{bucketOf}
 use Rattle.row_index.proofs.Chains.{bucket-below}
 use Rattle.row_index.proofs.bucket.Statement.{statement}
 use Rattle.row_index.proofs.bucket.Tie as tie

@@ -4,7 +4,7 @@ use Prim.Native.Nat.{_<_, _-_}
 use native.Mathlib.Omega.{arith}
 use lib.ListN.{length, getD}
 use borrow.Author.Needs.{needs}
-use Rattle.row_index.specs.Index.{valueAt, bucketOf, Last}
+use Rattle.row_index.specs.Inner.{valueAt, bucketOf, Last}
 use Rattle.row_index.proofs.Values.{found-row, missing-row}
 use Rattle.row_index.proofs.Chains.{Passed, passed-start, passed-next}
 use Rattle.row_index.proofs.find.Statement.{statement}

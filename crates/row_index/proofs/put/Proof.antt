@@ -6,7 +6,7 @@ use lib.ListN.{length}
 use borrow.Author.Needs.{needs}
 use Rattle.network.specs.declared.Row.{Row}
 use Rattle.network.specs.Rows.{rowWords}
-use Rattle.row_index.specs.Index.{withRow}
+use Rattle.row_index.specs.Inner.{withRow}
 use Rattle.row_index.proofs.Written.{new-row, old-row, rest-kept, rows-written, length-written}
 use Rattle.row_index.proofs.Chains.{indexed-next}
 use Rattle.row_index.proofs.put.Statement.{statement}

@@ -3,7 +3,7 @@ use mathlib.Core.Path.{refl, sym, ap, _∙_}
 use borrow.Author.Needs.{needs}
 use Rattle.network.specs.Rows.{minus, reversed, rowsOf}
 use Rattle.building.specs.Search.{fit, none-fits, orElse, tried}
-use Rattle.row_signs.specs.NewRow.{fitOf}
+use Rattle.row_signs.specs.Inner.{fitOf}
 use Rattle.row_signs.proofs.Signs.{three-signs}
 use Rattle.row_signs.proofs.at_shift.Statement.{statement}
 use Rattle.row_signs.proofs.at_shift.Tie as tie

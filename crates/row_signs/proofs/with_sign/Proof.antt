@@ -2,7 +2,7 @@
 use mathlib.Core.Path.{sym, ap, _∙_}
 use native.Mathlib.Omega.{arith}
 use borrow.Author.Needs.{needs}
-use Rattle.row_index.specs.Found.{foundAt}
+use Rattle.row_index.specs.Inner.{foundAt}
 use Rattle.row_index.proofs.Values.{row-found}
 use Rattle.row_signs.proofs.Signs.{sign-zero, sign-past, sign-found, sign-missing}
 use Rattle.row_signs.proofs.with_sign.Statement.{statement}

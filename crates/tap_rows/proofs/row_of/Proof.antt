@@ -5,7 +5,7 @@ use native.Mathlib.Omega.{arith}
 use Rattle.refusal.specs.Answer.{placeOr, at-place}
 use Rattle.network.specs.Rows.{rowsOf}
 use Rattle.building.specs.Search.{rowWith}
-use Rattle.row_index.specs.Found.{foundAt}
+use Rattle.row_index.specs.Inner.{foundAt}
 use Rattle.row_index.proofs.Values.{row-found}
 use Rattle.tap_rows.proofs.row_of.Statement.{statement}
 use Rattle.tap_rows.proofs.row_of.Tie as tie

@@ -5,10 +5,10 @@ use Rattle.sequence.proofs.UpTo.{length-upTo, getD-upTo}
 use Rattle.network.specs.declared.Row.{Row}
 use Rattle.network.specs.Rows.{rowAt, rowsOf, rowIn, noRow}
 use Rattle.network.specs.RowRule.{lifted}
-use Rattle.network.specs.Coefficients.{signed, coefficientOf}
+use Rattle.network.specs.Coefficients.{withSign, coefficientOf}
 use Rattle.network.specs.TapRowRule.{isTapSign}
 use Rattle.word.specs.Bounds.{withinBounds}
-use Rattle.network_rules.specs.Products.{productIf, productOf}
+use Rattle.network_rules.specs.Inner.{productIf, productOf}
 use Rattle.network_rules.proofs.TapTests.{tap-empty, tap-row, tap-shift, tap-signed}
 use Prim.Native.Nat.{ℕ, _<_}
 use mathlib.Core.Path.{_≡_, sym, ap, _∙_}
@@ -86,7 +86,7 @@ returns-5 c =
     let e : l .lift .result ≡ lifted (p .shift) (rowIn rows (p .row) .value) = l .lift .ensures .0
     ∙ ap (lifted (p .shift)) (v .read-value .ensures ∙ ap (λ (k : ℕ). rowAt table k .value) (m .number .ensures) ∙ ap (λ (r : Row). r .value) (sym (getD-upTo (a .n) (rowAt table) noRow (p .row) h))) in
     c .signed-product .ensures
-    ∙ ap (λ (z : ℤ). productIf (isTapSign (p .sign) && withinBounds z) z) (ap (λ (k : ℕ). signed (p .sign) (pos k)) e)
+    ∙ ap (λ (z : ℤ). productIf (isTapSign (p .sign) && withinBounds z) z) (ap (λ (k : ℕ). withSign (p .sign) (pos k)) e)
     ∙ tap-signed rows p (f .if1 .left) (omega (arith, h, length-upTo (a .n) (rowAt table))) (s .if4 .left)
     ∙ ap (productOf rows) (t .read-tap-row .ensures)
 

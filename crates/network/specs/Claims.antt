@@ -1,0 +1,61 @@
+-- What is claimed of networks, of checking them and of reading their coefficients. proofs/Claims.antt proves it. Definitions only.
+use Prim.Native.Nat.{ℕ, _<_}
+use mathlib.Core.Path.{_≡_}
+use mathlib.Core.Bool.{Bool, true, false}
+use mathlib.Core.List.{List, _++_, map}
+use lib.Dec.{ltb}
+use lib.IntN.{ℤ, pos, _*ℤ_}
+use lib.ListN.{length, getD, drop}
+use Rattle.word.specs.Bounds.{Coefficient}
+use Rattle.refusal.specs.Answer.{Answer, given, refused}
+use Rattle.network.specs.declared.Row.{Row}
+use Rattle.network.specs.declared.TapRow.{TapRow}
+use Rattle.network.specs.Rows.{Network, networkOf, rowIn, tapRowIn}
+use Rattle.network.specs.RowRule.{RowRule, keepsRowRule}
+use Rattle.network.specs.Coefficients.{coefficientOf, coefficients}
+use Rattle.network.specs.TapRowRule.{TapRowRule, keepsTapRowRule}
+use Rattle.network.specs.Check.{networkAnswer}
+use Rattle.network.specs.Accepted.{KeepsRules, Accepted}
+use Rattle.network.specs.Checked.{NetworkChecked, CoefficientsRead}
+use Rattle.network.specs.Evaluation.{rowResults, tapResults}
+
+pub record NetworkClaims : Type 0 where
+  -- ---- the computed rules are the rules in document 01's words
+  pub row-rule : (rows : List Row) (i : ℕ) → keepsRowRule rows i ≡ true → RowRule rows i
+  pub row-kept : (rows : List Row) (i : ℕ) → RowRule rows i → keepsRowRule rows i ≡ true
+  pub tap-rule : (rows : List Row) (t : TapRow) → keepsTapRowRule rows t ≡ true → TapRowRule rows t
+  pub tap-kept : (rows : List Row) (t : TapRow) → TapRowRule rows t → keepsTapRowRule rows t ≡ true
+  -- ---- "a number is returned in no other circumstances": an entry that is handed a network gives its coefficients exactly where nothing is turned down
+  pub given-accepted : (short : Bool) (rows : List ℕ) (rowCount : ℕ) (taps : List ℕ) (tapCount : ℕ) (h : List ℤ)
+      → networkAnswer short rows rowCount taps tapCount ≡ given h → Accepted short rows rowCount taps tapCount h
+  pub accepted-given : (short : Bool) (rows : List ℕ) (rowCount : ℕ) (taps : List ℕ) (tapCount : ℕ) (h : List ℤ)
+      → Accepted short rows rowCount taps tapCount h → networkAnswer short rows rowCount taps tapCount ≡ given h
+  -- ---- checking: a network passes exactly where it keeps the rules
+  pub check-passes : (rows : List ℕ) (rowCount : ℕ) (taps : List ℕ) (tapCount : ℕ) → NetworkChecked rows rowCount taps tapCount (given tt)
+      → Accepted false rows rowCount taps tapCount (coefficients (networkOf rows rowCount taps tapCount))
+  pub check-accepts : (rows : List ℕ) (rowCount : ℕ) (taps : List ℕ) (tapCount : ℕ) (h : List ℤ) → Accepted false rows rowCount taps tapCount h
+      → (a : Answer (Unit {0})) → NetworkChecked rows rowCount taps tapCount a → a ≡ given tt
+  -- ---- reading the coefficients: the same, and "elements past those that the result fills are untouched"; "unchanged" on a refusal
+  pub read-passes : (rows : List ℕ) (rowCount : ℕ) (taps : List ℕ) (tapCount : ℕ) (table table′ : List ℤ)
+      → CoefficientsRead rows rowCount taps tapCount table (given tt) table′
+      → Accepted (ltb (length table) tapCount) rows rowCount taps tapCount (coefficients (networkOf rows rowCount taps tapCount))
+  pub read-accepts : (rows : List ℕ) (rowCount : ℕ) (taps : List ℕ) (tapCount : ℕ) (table : List ℤ) (h : List ℤ)
+      → Accepted (ltb (length table) tapCount) rows rowCount taps tapCount h
+      → (a : Answer (Unit {0})) (table′ : List ℤ) → CoefficientsRead rows rowCount taps tapCount table a table′ → a ≡ given tt
+  pub read-table : (rows : List ℕ) (rowCount : ℕ) (taps : List ℕ) (tapCount : ℕ) (table table′ : List ℤ)
+      → CoefficientsRead rows rowCount taps tapCount table (given tt) table′
+      → table′ ≡ coefficients (networkOf rows rowCount taps tapCount) ++ drop tapCount table
+  pub read-refused : (rows : List ℕ) (rowCount : ℕ) (taps : List ℕ) (tapCount : ℕ) (table table′ : List ℤ) (number place : ℕ)
+      → CoefficientsRead rows rowCount taps tapCount table (refused number place) table′ → table′ ≡ table
+  -- ---- "A tap row is .. a sign .., the number of a row of the network and a shift 0 to 31 whose product is a coefficient within bounds"
+  pub coefficient-is : (net : Network) (h : List ℤ) → KeepsRules net h → (j : ℕ) → getD h j (pos 0) ≡ coefficientOf (net .rows) (tapRowIn (net .taps) j)
+  pub given-fits : (short : Bool) (rows : List ℕ) (rowCount : ℕ) (taps : List ℕ) (tapCount : ℕ) (h : List ℤ)
+      → networkAnswer short rows rowCount taps tapCount ≡ given h → (j : ℕ) → j < tapCount → Coefficient (getD h j (pos 0))
+  -- equal networks have equal coefficients, whatever the tables hold past them
+  pub same-coefficients : (short short′ : Bool) (rows rows′ : List ℕ) (n n′ : ℕ) (taps taps′ : List ℕ) (m m′ : ℕ) (h h′ : List ℤ)
+      → networkOf rows n taps m ≡ networkOf rows′ n′ taps′ m′ → networkAnswer short rows n taps m ≡ given h → networkAnswer short′ rows′ n′ taps′ m′ ≡ given h′
+      → h ≡ h′
+  -- ---- "multiplierless": by shifts, sums and differences alone every row gives its value times the sample, every tap its coefficient times the sample
+  pub rows-multiply : (net : Network) (h : List ℤ) → KeepsRules net h → (sample : ℤ) (i : ℕ) → i < length (net .rows)
+      → getD (rowResults (net .rows) sample (length (net .rows))) i (pos 0) ≡ pos (rowIn (net .rows) i .value) *ℤ sample
+  pub taps-multiply : (net : Network) (h : List ℤ) → KeepsRules net h → (sample : ℤ) → tapResults net sample ≡ map (λ (c : ℤ). c *ℤ sample) h

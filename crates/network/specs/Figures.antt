@@ -1,0 +1,58 @@
+-- Document 01, "The sheet": the network of the taps 3, -6, 45, 0, and some that break a rule or stand at a bound. proofs/Figures.antt proves them.
+-- Definitions only.
+use Prim.Native.Nat.{ℕ, _*_, _≤_}
+use mathlib.Core.Path.{_≡_}
+use mathlib.Core.Bool.{false}
+use mathlib.Core.List.{List, [], _∷_, _++_}
+use lib.IntN.{ℤ, pos, negℤ}
+use lib.ListN.{length, drop}
+use Rattle.refusal.specs.Answer.{given, refused}
+use Rattle.network.specs.Rows.{plus, minus, none, rowWords, tapWords, networkOf}
+use Rattle.network.specs.Check.{checked, networkAnswer}
+use Rattle.network.specs.Accepted.{KeepsRules, Accepted}
+use Rattle.network.specs.Checked.{NetworkChecked, CoefficientsRead}
+use Rattle.network.specs.Evaluation.{tapResults}
+
+-- the words of a row, and of a tap row
+abbrev pub row : ℕ → ℕ → ℕ → ℕ → ℕ → List ℕ → List ℕ
+row left right shift sign value more = left ∷ right ∷ shift ∷ sign ∷ value ∷ more
+
+abbrev pub tap : ℕ → ℕ → ℕ → List ℕ → List ℕ
+tap sign number shift more = sign ∷ number ∷ shift ∷ more
+
+-- the sheet's tables, and what stands past it in them
+abbrev pub sheetRows : List ℕ → List ℕ
+sheetRows more = row 0 0 0 plus 1 (row 0 0 1 plus 3 (row 1 1 4 minus 45 more))
+
+abbrev pub sheetTapRows : List ℕ → List ℕ
+sheetTapRows more = tap plus 1 0 (tap minus 1 1 (tap plus 2 0 (tap none 0 0 more)))
+
+abbrev pub sheetCoefficients : List ℤ
+sheetCoefficients = pos 3 ∷ negℤ (pos 6) ∷ pos 45 ∷ pos 0 ∷ []
+
+pub record NetworkFigures : Type 0 where
+  -- the sheet's network passes, whatever stands past it in tables that are long enough
+  pub sheet-network : (r t : List ℕ) → 4096 * rowWords ≤ length (sheetRows r) → 256 * tapWords ≤ length (sheetTapRows t)
+      → networkAnswer false (sheetRows r) 3 (sheetTapRows t) 4 ≡ given sheetCoefficients
+  pub sheet-rules : (r t : List ℕ) → KeepsRules (networkOf (sheetRows r) 3 (sheetTapRows t) 4) sheetCoefficients
+  pub sheet-accepted : (r t : List ℕ) → 4096 * rowWords ≤ length (sheetRows r) → 256 * tapWords ≤ length (sheetTapRows t)
+      → Accepted false (sheetRows r) 3 (sheetTapRows t) 4 sheetCoefficients
+  pub sheet-checked : (r t : List ℕ) → 4096 * rowWords ≤ length (sheetRows r) → 256 * tapWords ≤ length (sheetTapRows t)
+      → NetworkChecked (sheetRows r) 3 (sheetTapRows t) 4 (given tt)
+  -- its coefficients are read into a table of four or more
+  pub sheet-read : (r t : List ℕ) → 4096 * rowWords ≤ length (sheetRows r) → 256 * tapWords ≤ length (sheetTapRows t) → (a b c d : ℤ) (more : List ℤ)
+      → CoefficientsRead (sheetRows r) 3 (sheetTapRows t) 4 (a ∷ b ∷ c ∷ d ∷ more) (given tt) (sheetCoefficients ++ more)
+  -- what its taps give for a sample of 7 by shifts and sums
+  pub sheet-sample : (r t : List ℕ) → tapResults (networkOf (sheetRows r) 3 (sheetTapRows t) 4) (pos 7) ≡ pos 21 ∷ negℤ (pos 42) ∷ pos 315 ∷ pos 0 ∷ []
+  -- ---- near it: each breaks one rule
+  -- row 2 names itself
+  pub own-row : checked (networkOf (row 0 0 0 plus 1 (row 0 0 1 plus 3 (row 2 1 4 minus 45 []))) 3 (sheetTapRows []) 4) ≡ refused 10 2
+  -- the third tap names row 2 of two rows
+  pub no-such-row : checked (networkOf (sheetRows []) 2 (sheetTapRows []) 4) ≡ refused 11 2
+  -- 2^31 is a coefficient with the sign `-` alone
+  pub least : checked (networkOf (sheetRows []) 3 (tap minus 0 31 []) 1) ≡ given (negℤ (pos 2147483648) ∷ [])
+  pub too-large : checked (networkOf (sheetRows []) 3 (tap plus 0 31 []) 1) ≡ refused 11 0
+  -- 2^31 - 5 = 2^30·3 - (2^30 + 5): 2^s·left is above 2^31 and the row is a good one
+  pub above-2^31 : checked
+      (networkOf (row 0 0 0 plus 1 (row 0 0 1 plus 3 (row 0 0 2 plus 5 (row 0 2 30 plus 1073741829 (row 1 3 30 minus 2147483643 []))))) 5 (tap plus 4 0 []) 1)
+      ≡ given (pos 2147483643 ∷ [])
