@@ -48,7 +48,8 @@ pub extern "C" fn fir_run(
     registers: &mut [u64],
     outputs: &mut [i64],
 ) -> u64
-    ensures { λ r. ⌜ RanWord (now (rows .entry)) «row_count» (now (taps .entry)) «tap_count» (now (samples .entry)) (now (registers .entry)) (now (outputs .entry))
+    ensures { λ r. ⌜ RanWord (now (rows .entry)) «row_count» (now (taps .entry)) «tap_count» (now (samples .entry)) (now (registers .entry))
+        (now (outputs .entry))
         r (now (registers .exit)) (now (outputs .exit)) ⌝ }
 {
     checked_word(filter::run(

@@ -5,7 +5,7 @@ use mathlib.Core.Path.{_≡_}
 use mathlib.Core.Bool.{false}
 use mathlib.Core.List.{List, [], _∷_, _++_}
 use lib.IntN.{ℤ, pos, negℤ}
-use lib.ListN.{length, drop}
+use lib.ListN.{length}
 use Rattle.refusal.specs.Answer.{given, refused}
 use Rattle.network.specs.Rows.{plus, minus, none, rowWords, tapWords, networkOf}
 use Rattle.network.specs.Check.{checked, networkAnswer}

@@ -1,6 +1,6 @@
 -- The claims about running calls, proved. Assumes nothing.
 use mathlib.Core.Path.{_≡_, refl, ap, _∙_}
-use mathlib.Core.Bool.{_||_}
+use mathlib.Core.Bool.{false, _||_}
 use mathlib.Core.List.{List}
 use Prim.Native.Nat.{ℕ, _≤_}
 use native.Mathlib.Omega.{arith}
@@ -14,7 +14,8 @@ use Rattle.convolution.proofs.Steps.{length-outputs}
 use Rattle.convolution.proofs.Theorems.{registers-any, outputs-any}
 use Rattle.network.specs.Rows.{networkOf}
 use Rattle.network.specs.Coefficients.{coefficients}
-use Rattle.network.specs.Check.{outcome}
+use Rattle.network.specs.Check.{networkAnswer, outcome}
+use Rattle.network.specs.Checked.{NetworkChecked}
 use Rattle.network.proofs.Passed.{given-accepted}
 use Rattle.network.proofs.Given.{given-is, given-length}
 use Rattle.running.specs.Run.{Ran, runAnswer, runRegisters, runOutputs}
@@ -56,5 +57,14 @@ module _ (rows : List ℕ) (n : ℕ) (taps : List ℕ) (m : ℕ) (xs : List ℤ)
         ∙ List·getD-append (outputsOf h r xs) (drop (length xs) o) (pos 0) i (omega (arith, length-outputs h r xs)) ∙ outputs-any h few r w xs i l;
   }
 
+-- what `check` passes, running accepts with the network's coefficients
+passed : (rows : List ℕ) (n : ℕ) (taps : List ℕ) (m : ℕ) → NetworkChecked rows n taps m (given tt) → networkAnswer false rows n taps m ≡ given (coefficients (networkOf rows n taps m))
+passed rows n taps m c =
+    let g = is-given (networkAnswer false rows n taps m) (c .answer) in
+    g .is ∙ ap given (given-is false rows n taps m (g .h) (g .is))
+
 pub running-claims : RunningClaims
-running-claims = record { running-sums = running-sums; any-content = any-content }
+running-claims = record {
+  running-sums = λ rows n taps m c calls. running-sums (coefficients (networkOf rows n taps m)) rows n taps m (passed rows n taps m c) calls;
+  any-content = any-content;
+}

@@ -1,6 +1,5 @@
 -- What is claimed of running calls. Definitions only; proofs/Claims.antt proves it.
 use mathlib.Core.Path.{_≡_}
-use mathlib.Core.Bool.{false}
 use mathlib.Core.List.{List}
 use Prim.Native.Nat.{ℕ, suc, _+_, _<_}
 use lib.IntN.{ℤ, pos, _+ℤ_}
@@ -13,7 +12,7 @@ use Rattle.convolution.specs.Sums.{outputSum, registerSum, held}
 use Rattle.convolution.specs.Bounds.{Words}
 use Rattle.network.specs.Rows.{networkOf}
 use Rattle.network.specs.Coefficients.{coefficients}
-use Rattle.network.specs.Check.{networkAnswer}
+use Rattle.network.specs.Checked.{NetworkChecked}
 use Rattle.running.specs.Run.{Ran}
 use Rattle.running.specs.Memory.{Step}
 use Rattle.running.specs.Demand.{Calls, Demand}
@@ -25,9 +24,10 @@ pub record AnyContent (h samples : List ℤ) (r r′ : List ℕ) (o′ : List �
   pub outputs : (i : ℕ) → i < length samples → getD o′ i (pos 0) ≡ toZ w64 (wrapped (pos (held r i) +ℤ outputSum h (take (suc i) samples)))
 
 pub record RunningClaims : Type 0 where
-  -- demand 3 of running calls, for every network that passes the check
-  pub running-sums : (h : List ℤ) (rows : List ℕ) (rowCount : ℕ) (taps : List ℕ) (tapCount : ℕ) → networkAnswer false rows rowCount taps tapCount ≡ given h
-      → (calls : List Step) → Calls (networkOf rows rowCount taps tapCount) calls → Demand h (networkOf rows rowCount taps tapCount) calls
+  -- demand 3 of running calls, with every network that `check` passes
+  pub running-sums : (rows : List ℕ) (rowCount : ℕ) (taps : List ℕ) (tapCount : ℕ) → NetworkChecked rows rowCount taps tapCount (given tt)
+      → (calls : List Step) → Calls (networkOf rows rowCount taps tapCount) calls
+      → Demand (coefficients (networkOf rows rowCount taps tapCount)) (networkOf rows rowCount taps tapCount) calls
   -- a call that is accepted, whatever the registers hold
   pub any-content : (rows : List ℕ) (rowCount : ℕ) (taps : List ℕ) (tapCount : ℕ) (samples : List ℤ) (r : List ℕ) (o : List ℤ) (r′ : List ℕ) (o′ : List ℤ) → Words r
       → Ran rows rowCount taps tapCount samples r o (given tt) r′ o′ → AnyContent (coefficients (networkOf rows rowCount taps tapCount)) samples r r′ o′

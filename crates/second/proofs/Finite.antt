@@ -1,13 +1,12 @@
 -- A number less itself is 0 exactly where it is finite. Assumes nothing.
 use mathlib.Core.Path.{_≡_, refl, sym, ap, _∙_}
-use mathlib.Core.Bool.{Bool, true, false, not, cond, _&&_}
-use Prim.Native.Nat.{ℕ, zero, suc, _+_, _-_, _*_, _/_, _%_, _^_, compare, compare·zero-suc}
+use mathlib.Core.Bool.{Bool, true, false, not}
+use Prim.Native.Nat.{ℕ, zero, suc, _-_, _*_, compare, compare·zero-suc}
 use native.Mathlib.Nat.{zero-div, zero-mod, sub-self, le-refl}
 use borrow.Author.Tests.{le-ltb, not-true, not-false}
-use lib.Dec.{ltb}
 use lib.IntN.{pos}
 use lib.Ieee.{Float, nan, inf, fin, binary64, up, down, round, units, odd, nearest, neg, sum, add, sub, eq, ne, ofBits}
-use Rattle.second.specs.Inner.{nought, isFinite}
+use Rattle.second.specs.Inner.{isFinite}
 
 none : (u : ℕ) → nearest 0 (compare 0 u) ≡ 0
 none zero = refl

@@ -18,7 +18,7 @@ use Rattle.tap.proofs.Theorems.{finite-number, left-finite}
 use Rattle.normalise.specs.Normalised.{used}
 use Rattle.tap_set.specs.declared.Report.{Report}
 use Rattle.tap_set.specs.Set.{coefficientsOf, TapsRounded}
-use Rattle.tap_set.specs.Claims.{Binary64, Rounds, leftoverAt, Earliest, LargestLeftover, SetClaims}
+use Rattle.tap_set.specs.Claims.{Binary64, Rounds, leftoverAt, EarliestTap, LargestLeftover, SetClaims}
 use Rattle.tap_set.proofs.Largest.{AtMost, First, Best, smaller-test, at-most-test}
 use Rattle.tap_set.proofs.Rounds.{whole}
 use Rattle.tap_set.proofs.Figures.{set-figures, three-binary64}
@@ -101,7 +101,7 @@ module _ (F : ℕ) (normalised : Bool) (taps : List Float) (table : List ℤ) (r
         go zero e = absurd (passed .some-taps (sym (length-used normalised taps) ∙ e))
         go (suc n) e = zero-lt-suc n
 
-    earliest : (r .leftover ≡ nought) ⊎ First (leftAt F) nought xs (r .leftover) → Earliest F xs (r .leftover)
+    earliest : (r .leftover ≡ nought) ⊎ First (leftAt F) nought xs (r .leftover) → EarliestTap F xs (r .leftover)
     earliest (inl z) = record {
       place = 0;
       within = some-number;

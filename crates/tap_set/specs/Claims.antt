@@ -41,7 +41,7 @@ abbrev pub smaller : Float → Float → Bool
 smaller l k = lt (absOf l) (absOf k)
 
 -- "the earliest tap's is taken": l is the leftover at this place, and every earlier one is smaller
-pub record Earliest (F : ℕ) (xs : List Float) (l : Float) : Type 0 where
+pub record EarliestTap (F : ℕ) (xs : List Float) (l : Float) : Type 0 where
   pub place : ℕ
   pub within : place < length xs
   pub taken : l ≡ leftoverAt F xs place
@@ -50,7 +50,7 @@ pub record Earliest (F : ℕ) (xs : List Float) (l : Float) : Type 0 where
 -- "the largest leftover by magnitude .. the leftover +0 where all taps are exact. The leftover keeps its sign; of equal magnitudes the earliest tap's is taken"
 pub record LargestLeftover (F : ℕ) (xs : List Float) (l : Float) : Type 0 where
   pub none-larger : (i : ℕ) → i < length xs → smaller l (leftoverAt F xs i) ≡ false
-  pub earliest : Earliest F xs l
+  pub earliest : EarliestTap F xs l
   pub all-exact : l ≡ fin false 0 (pos 0) ↔ ((i : ℕ) → i < length xs → (N : ℤ) × (resultOf F (getD xs i nan) ≡ exact N))
 
 pub record SetClaims : Type 0 where

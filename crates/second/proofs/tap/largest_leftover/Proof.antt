@@ -1,12 +1,11 @@
 -- `second::tap::largest_leftover` meets its contract. Assumes nothing.
 use borrow.Author.Needs.{needs}
 use Prim.Native.Nat.{_-_, _≤_}
-use mathlib.Core.Path.{_≡_, ap, _∙_}
-use mathlib.Core.List.{List, []}
+use mathlib.Core.Path.{_≡_, ap}
+use mathlib.Core.List.{[]}
 use native.Mathlib.Omega.{arith}
 use lib.ListN.{length}
-use lib.Ieee.{Float}
-use Rattle.second.specs.Inner.{nought, LargestFound}
+use Rattle.second.specs.Inner.{nought}
 use Rattle.second.proofs.Nought.{zero-is}
 use Rattle.second.proofs.tap.largest_leftover.Statement.{statement}
 use Rattle.second.proofs.tap.largest_leftover.Tie as tie

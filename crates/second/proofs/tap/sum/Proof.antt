@@ -1,6 +1,6 @@
 -- `second::tap::sum` meets its contract. The invariant: what is left of the taps, added to the sum so far, is the whole sum. Assumes nothing.
 use borrow.Author.Needs.{needs}
-use mathlib.Core.Path.{_≡_, refl, sym, ap, _∙_}
+use mathlib.Core.Path.{_≡_, sym, ap, _∙_}
 use mathlib.Core.List.{List, foldl}
 use Prim.Native.Nat.{ℕ, _+_, _-_, _≤_, _<_}
 use native.Mathlib.Numerals.{add-one}
@@ -8,7 +8,7 @@ use native.Mathlib.Omega.{arith}
 use lib.ListN.{length, getD, drop, drop-of-length-le}
 use lib.Seq.{drop-cons}
 use lib.Ieee.{Float, nan, binary64, add}
-use Rattle.second.specs.Inner.{nought, Summed}
+use Rattle.second.specs.Inner.{nought}
 use Rattle.second.proofs.Nought.{zero-is}
 use Rattle.second.proofs.tap.sum.Statement.{statement}
 use Rattle.second.proofs.tap.sum.Tie as tie
