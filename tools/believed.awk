@@ -62,7 +62,13 @@ FNR == 1 {
 kind == "specs" || kind == "proofs" {
     if ($0 != "" && $0 !~ /^use /) lines[name]++
     d = defined($0)
-    if (d != "") def[name, d] = 1
+    if (d != "") def[name, d] = $0
+    if (kind == "specs" && $0 !~ /^ *--/ && $0 !~ /^use /) said[name] = said[name] " " $0
+    if (kind == "specs" && /^pub record /) {
+        record = d
+        if ($0 ~ ("^pub record " d " : ")) closed[name, ++closeds[name]] = d
+    } else if (/^[^ -]/) record = ""
+    if (record != "" && $0 !~ /^ *--/) body[name, record] = body[name, record] " " $0
     if (d != "" && kind == "specs" && $0 !~ /^ /) top[name, ++tops[name]] = d
 }
 
@@ -109,7 +115,9 @@ kind == "src" && /^ *pub (extern "C" )?fn / {
 }
 
 inside {
-    contract[f] = contract[f] " " $0
+    text = $0
+    sub(/\/\/.*/, "", text)
+    contract[f] = contract[f] " " text
     if (/^ *\{/) inside = 0
 }
 
@@ -125,14 +133,17 @@ function read_file(file, why, i) {
     reading[++readings] = file
 }
 
-# Whether a file is another, or imports one that leads to it.
-function leads(file, other, i) {
-    if (file == other) return 1
-    if (!((file, other) in led)) {
-        led[file, other] = 0
-        for (i = 1; i <= edges[file]; i++) if (leads(edge[file, i], other)) led[file, other] = 1
-    }
-    return led[file, other]
+# Whether the contents of a parameter after the call stand in a text.
+function has_exit(text, name) {
+    return index(text, "(" name " .exit)") || index(text, "(«" name "» .exit)")
+}
+
+# Whether a file, or one that it imports, speaks of a relation outside the relation's own file.
+function speaks(file, relation, home, i) {
+    if (file == home || file ~ /\/Figures\.antt$/) return 0
+    if (has_word(said[file], relation)) return 1
+    for (i = 1; i <= edges[file]; i++) if (speaks(edge[file, i], relation, home)) return 1
+    return 0
 }
 
 # An entry, or its function for C: it has one ensures, which is the relation, and no requires.
@@ -142,7 +153,19 @@ function entry(f, relation, file, text, i, n, s) {
     listed[f] = 1
     if (has_word(text, "requires")) wrong(f " has a requires")
     if (gsub(/ensures/, "ensures", text) != 1) wrong(f " has not one ensures")
-    if (!has_word(text, relation)) wrong(f " does not ensure " relation)
+    # The relation is the whole sentence, and it speaks of the result and of all lent memory after the call.
+    s = text
+    sub(/^.*⌜ */, "", s)
+    sub(/ *⌝.*$/, "", s)
+    sub(/^[A-Za-z]+\./, "", s)
+    if (s !~ ("^" relation " ")) wrong(f " does not ensure " relation)
+    if (s ~ /→|×|⊎|≡|λ|⌜/) wrong(f " ensures more or less than " relation)
+    n = split(text, word, /[ (]+/)
+    for (i = 2; i <= n; i++) {
+        if (word[i] !~ /^&mut/) continue
+        sub(/:$/, "", word[i - 1])
+        if (!has_exit(s, word[i - 1])) wrong(f " says nothing of " word[i - 1] " after the call")
+    }
     if (!((file, relation) in def)) wrong(file " has no " relation)
     s = source[f]
     for (i = 1; i <= ghosts[s]; i++) {
@@ -180,6 +203,74 @@ function names_of(row, text, n, i, t, file, folder) {
     }
 }
 
+# A row of the table of entries: the entry and its relation, its function for C and that one's, and
+# claims that speak of the relation.
+function entry_row(i, home, relation, count) {
+    if (quoted(cell[3], second) != 2) { wrong("STATEMENTS, line " i ": an entry has a file and a relation"); return }
+    home = "crates/" second[1]
+    relation = second[2]
+    entry(first[1], relation, home)
+    count = quoted(cell[4], second)
+    if (count == 3) {
+        entry(second[1], second[3], "crates/" second[2])
+        if (!has_word(body["crates/" second[2], second[3]], relation)) wrong(second[3] " does not hold " relation)
+    } else if (count != 0) wrong("STATEMENTS, line " i ": a function for C has a file and a relation")
+    if (quoted(cell[5], second) == 0) wrong("STATEMENTS, line " i ": no claims about " first[1])
+    else if (!speaks("crates/" second[1], relation, home)) wrong(second[1] " does not speak of " relation)
+}
+
+# A row of the table of claims: a record, and the value that proves it.
+function claims_row() {
+    quoted(cell[2], second)
+    quoted(cell[3], first)
+    read_file("crates/" second[1], "docs/STATEMENTS.md")
+    claimed["crates/" second[1], second[2]] = 1
+    if (!has_word(def["crates/" first[1], first[2]], second[2])) wrong("no proof " first[2] " of " second[2])
+}
+
+# A record without parameters in a file of claims or figures is claimed, or part of one that is.
+function unclaimed(i, k, j, n, used, text) {
+    for (i = 1; i <= specs; i++) {
+        if (spec[i] !~ /\/(Claims|Figures|Demand3)\.antt$/) continue
+        for (k = 1; k <= closeds[spec[i]]; k++) {
+            n = closed[spec[i], k]
+            used = (spec[i], n) in claimed
+            for (j = 1; j <= specs && !used; j++) {
+                text = said[spec[j]]
+                gsub("pub record " n " : ", "", text)
+                used = has_word(text, n)
+            }
+            if (!used) wrong(n " of " spec[i] " is not among the claims of docs/STATEMENTS.md")
+        }
+    }
+}
+
+# A function for C, and one whose contract is a relation that is believed, is an entry.
+function unlisted(f, i, s, text) {
+    for (f in contract) {
+        text = contract[f]
+        if (f in listed || has_word(text, "requires") || gsub(/ensures/, "ensures", text) != 1) continue
+        sub(/^.*⌜ */, "", text)
+        sub(/^[A-Za-z]+\./, "", text)
+        sub(/ .*/, "", text)
+        s = source[f]
+        if (text ~ /^[A-Z]/ && (s, text) in from && from[s, text] !~ /\/Inner\.antt$/)
+            wrong(f " is not among the entries of docs/STATEMENTS.md")
+    }
+    for (i = 1; i <= exports; i++)
+        if (!(exported[i] in listed)) wrong(exported[i] " is not among the entries of docs/STATEMENTS.md")
+}
+
+# One name for one thing. Only `answerOf` stands once for each enum: what its cases say.
+function twice(i, k, n) {
+    for (i = 1; i <= readings; i++)
+        for (k = 1; k <= tops[reading[i]]; k++) {
+            n = top[reading[i], k]
+            if (n in owner && n != "answerOf") wrong(n " stands in " owner[n] " and in " reading[i])
+            owner[n] = reading[i]
+        }
+}
+
 END {
     for (i = 1; i <= statements; i++) {
         row = statement[i]
@@ -187,41 +278,19 @@ END {
         if (row !~ /^\| /) continue
         cells = split(row, cell, "|")
         for (c = 2; c < cells; c++) names_of(i, cell[c])
-        if (heading == "## Entries" && quoted(cell[2], first) == 1) {
-            split("", second)
-            if (quoted(cell[3], second) != 2) { wrong("STATEMENTS, line " i ": an entry has a file and a relation"); continue }
-            entry(first[1], second[2], "crates/" second[1])
-            relation = "crates/" second[1]
-            count = quoted(cell[4], second)
-            if (count != 0 && count != 3) wrong("STATEMENTS, line " i ": a function for C, a file and a relation")
-            if (count == 3) {
-                entry(second[1], second[3], "crates/" second[2])
-                if (!leads("crates/" second[2], relation)) wrong(second[2] " does not cite " relation)
-            }
-            split("", second)
-            if (quoted(cell[5], second) == 0) wrong("STATEMENTS, line " i ": no claims about " first[1])
-            else if (!leads("crates/" second[1], relation)) wrong(second[1] " does not speak of " relation)
-        }
-        if (heading == "## Claims" && (n = quoted(cell[2], second)) == 2) {
-            read_file("crates/" second[1], "docs/STATEMENTS.md")
-            quoted(cell[3], first)
-            proof[second[2]] = first[1]
-            if (!((("crates/" first[1]), first[2]) in def)) wrong("no proof " first[2] " of " second[2])
-        }
+        # Every row of two tables but their head has an entry, or a file and a record of claims.
+        wanted = heading == "## Entries" ? 1 : heading == "## Claims" ? 2 : 0
+        if (!wanted) continue
+        if (quoted(cell[2], first) != wanted) { if (++heads[heading] > 1) wrong("STATEMENTS, line " i ": no entry or claims") }
+        else if (wanted == 1) entry_row(i)
+        else claims_row()
     }
-    for (i = 1; i <= exports; i++) if (!(exported[i] in listed)) wrong(exported[i] " is not among the entries of docs/STATEMENTS.md")
+    unclaimed()
+    unlisted()
+    twice()
     for (i = 1; i <= specs; i++) {
         if (spec[i] ~ /\/Inner\.antt$/) { inner += lines[spec[i]]; inners++ }
         else if (!(spec[i] in reached)) wrong(spec[i] " is believed, but no entry and no claim leads to it")
-    }
-    # One name for one thing. Only `answerOf` stands once for each enum: what its cases say.
-    for (i = 1; i <= readings; i++) {
-        name = reading[i]
-        for (k = 1; k <= tops[name]; k++) {
-            n = top[name, k]
-            if (n in owner && n != "answerOf") wrong(n " stands in " owner[n] " and in " name)
-            owner[n] = name
-        }
     }
     for (i = 1; i <= readings; i++) {
         total += lines[reading[i]]

@@ -90,16 +90,28 @@ fn belief_in_a_proof() {
 #[test]
 fn a_contract_that_is_not_the_relation() {
     let file = "crates/filter/src/lib.rt";
+    let says = "filter::run does not ensure Ran";
+    refused("other", file, "⌜ Ran ", "⌜ Other ", says);
+    refused("either", file, "⌜ Ran ", "⌜ Unit {0} ⊎ Ran ", says);
+    let says = "says nothing of outputs after the call";
     refused(
-        "relation",
+        "exit",
         file,
-        "⌜ Ran ",
-        "⌜ Other ",
-        "filter::run does not ensure Ran",
+        "(now (outputs .exit))",
+        "(now (outputs .entry))",
+        says,
     );
     let old = "    ensures { λ r. ⌜ Ran";
     let new = "    requires { ⌜ Unit {0} ⌝ }\n    ensures { λ r. ⌜ Ran";
     refused("requires", file, old, new, "filter::run has a requires");
+    let file = "crates/fir_networks/specs/Run.antt";
+    refused(
+        "word",
+        file,
+        "ran : Ran ",
+        "ran : Other ",
+        "RanWord does not hold Ran",
+    );
 }
 
 #[test]
@@ -118,6 +130,25 @@ fn an_entry_or_a_name_that_is_not_there() {
         "| `filter::run` |",
         "| filter::run |",
         "fir_run is not among the entries",
+    );
+    let says = "sheet_text::sheet is not among the entries";
+    refused(
+        "program",
+        file,
+        "| `sheet_text::sheet` |",
+        "| sheet |",
+        says,
+    );
+    let claims = "| `signed_digit/specs/Claims.antt` `DigitClaims` |";
+    refused("claims", file, claims, "| digits |", "DigitClaims of");
+    let file = "crates/running/proofs/Claims.antt";
+    let says = "no proof running-claims of RunningClaims";
+    refused(
+        "proof",
+        file,
+        "running-claims : RunningClaims",
+        "running-claims : Unit",
+        says,
     );
     let file = "crates/convolution/specs/Words.antt";
     let says = "outcome stands in";

@@ -4,14 +4,14 @@ use mathlib.Core.List.{List, _++_}
 use mathlib.Core.Logic.{⊎-elim}
 use Prim.Native.Nat.{ℕ, _≤_}
 use native.Mathlib.Omega.{arith}
-use lib.ListN.{length, take, drop}
+use lib.ListN.{length, take, drop, length-append}
 use lib.Seq.{take-all, take-at, length-take-le}
 use Rattle.sheet_fields.proofs.Decimals.{lt-or-le}
 use Rattle.sheet_kinds.specs.Text.{refusedText}
 use Rattle.sheet_input.specs.Argument.{Argument, missing}
 use Rattle.sheet_input.proofs.Answers.{too-many}
 use Rattle.sheet_text.specs.Sheet.{sheetOf, SheetWritten}
-use Rattle.sheet_text.specs.Claims.{exampleInput, SheetClaims}
+use Rattle.sheet_text.specs.Claims.{exampleInput, exampleText, SheetClaims}
 use Rattle.sheet_text.proofs.Sheets.{sheet-refused}
 use Rattle.sheet_text.proofs.Example.{example-sheet}
 
@@ -34,8 +34,14 @@ same-sheet u v argument area n area′ e w = record { size = w .size ∙ ap leng
 text-of : (input : List ℕ) (argument : Argument) (area : List ℕ) (n : ℕ) (area′ : List ℕ) → SheetWritten input argument area n area′ → take n area′ ≡ sheetOf input argument
 text-of input argument area n area′ w = ap (take n) (w .text) ∙ take-at (sheetOf input argument) (drop n area) n (sym (w .size))
 
+written : (text area : List ℕ) → text ≡ sheetOf exampleInput missing → length text ≤ length area → SheetWritten exampleInput missing area (length text) (text ++ drop (length text) area)
+written text area e h =
+    let k : length text ≤ length (text ++ drop (length text) area) = omega (arith, length-append text (drop (length text) area)) in
+    record { size = ap length e; text = ap (λ (t : List ℕ). t ++ drop (length text) area) e; within = (k, sym (length-take-le (length text) (text ++ drop (length text) area) k)) }
+
 pub sheet-claims : SheetClaims
 sheet-claims = record {
   first-2056 = λ input argument area n area′ w. same-sheet (take 2056 input) input argument area n area′ (first-2056 input argument) w;
   example-sheet = λ area n area′ w. text-of exampleInput missing area n area′ w ∙ example-sheet;
+  example-written = λ area h. written exampleText area (sym example-sheet) h;
 }

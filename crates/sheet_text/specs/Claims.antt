@@ -1,8 +1,8 @@
 -- What is claimed of the sheet. Definitions only; proofs/Claims.antt proves it.
 use mathlib.Core.Path.{_≡_}
 use mathlib.Core.List.{List, [], _∷_, _++_}
-use Prim.Native.Nat.{ℕ}
-use lib.ListN.{take}
+use Prim.Native.Nat.{ℕ, _≤_}
+use lib.ListN.{length, take, drop}
 use Rattle.sheet_fields.specs.Ascii.{ascii}
 use Rattle.sheet_input.specs.Argument.{Argument, missing}
 use Rattle.sheet_text.specs.Sheet.{SheetWritten}
@@ -34,3 +34,6 @@ pub record SheetClaims : Type 0 where
       → SheetWritten input argument area n area′
   -- document 01's example
   pub example-sheet : (area : List ℕ) (n : ℕ) (area′ : List ℕ) → SheetWritten exampleInput missing area n area′ → take n area′ ≡ exampleText
+  -- and there is such an area
+  pub example-written : (area : List ℕ) → length exampleText ≤ length area
+      → SheetWritten exampleInput missing area (length exampleText) (exampleText ++ drop (length exampleText) area)
