@@ -3,7 +3,6 @@ use mathlib.Core.Path.{_≡_, sym, ap, subst}
 use mathlib.Core.Bool.{false, not}
 use mathlib.Core.List.{List}
 use Prim.Native.Nat.{ℕ, _*_, _≤_}
-use native.Mathlib.Omega.{arith}
 use borrow.Author.Tests.{eq-eqb, lt-ltb}
 use lib.IntN.{ℤ, pos}
 use lib.ListN.{length, getD}
@@ -35,7 +34,7 @@ builds cs ks rows taps t rows-long taps-long = record {
   some = t .from-1;
   can-build = record {
     few = t .to-256;
-    enough = omega (arith, t .one-per-tap);
+    enough = t .one-per-tap;
     bounds = t .within-bounds;
     forms = λ (i : ℕ) h. has-form (partsOf (getD cs i (pos 0))) (getD ks i 0) (t .listed i h);
   };

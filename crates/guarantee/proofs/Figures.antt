@@ -48,7 +48,7 @@ choices (suc (suc (suc zero))) h = refl
 choices (suc (suc (suc (suc tap)))) h = absurd (omega arith)
 
 taken : Taken sheetCoefficients sheetChoices
-taken = record { from-1 = omega arith; to-256 = omega arith; within-bounds = within; one-per-tap = refl; listed = choices }
+taken = record { from-1 = omega arith; to-256 = omega arith; within-bounds = within; one-per-tap = omega arith; listed = choices }
 
 abbrev rowsLeft : List ℕ → List ℕ → List ℕ
 rowsLeft rows taps = filled (buildAnswer sheetCoefficients sheetChoices rows taps) (wordsOfRows (built sheetCoefficients sheetChoices .rows)) rows

@@ -27,7 +27,7 @@ pub record Taken (coefficients : List ℤ) (choices : List ℕ) : Type 0 where
   pub from-1 : 1 ≤ length coefficients
   pub to-256 : length coefficients ≤ 256
   pub within-bounds : (tap : ℕ) → tap < length coefficients → Coefficient (getD coefficients tap (pos 0))
-  pub one-per-tap : length choices ≡ length coefficients
+  pub one-per-tap : length coefficients ≤ length choices
   pub listed : (tap : ℕ) → tap < length coefficients → Listed (partsOf (getD coefficients tap (pos 0))) (getD choices tap 0)
 
 -- of coefficients and choices, the answer of building and the tables that it left

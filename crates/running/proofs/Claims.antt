@@ -10,6 +10,7 @@ use lib.ListN.{length, getD, drop, List·getD-append}
 use Rattle.refusal.specs.Answer.{Answer, given, refused}
 use Rattle.convolution.specs.Running.{outputsOf}
 use Rattle.convolution.specs.Bounds.{Words}
+use Rattle.convolution.proofs.Words.{wrapped-lt, turns, wrapped-congruent}
 use Rattle.convolution.proofs.Steps.{length-outputs}
 use Rattle.convolution.proofs.Theorems.{registers-any, outputs-any}
 use Rattle.network.specs.Rows.{networkOf}
@@ -66,5 +67,6 @@ passed rows n taps m c =
 pub running-claims : RunningClaims
 running-claims = record {
   running-sums = λ rows n taps m c calls. running-sums (coefficients (networkOf rows n taps m)) rows n taps m (passed rows n taps m c) calls;
+  wraps = λ z. record { word = wrapped-lt z; turns = turns z; congruent = wrapped-congruent z };
   any-content = any-content;
 }

@@ -1,8 +1,8 @@
 -- What is claimed of running calls. Definitions only; proofs/Claims.antt proves it.
 use mathlib.Core.Path.{_≡_}
 use mathlib.Core.List.{List}
-use Prim.Native.Nat.{ℕ, suc, _+_, _<_}
-use lib.IntN.{ℤ, pos, _+ℤ_}
+use Prim.Native.Nat.{ℕ, suc, _+_, _^_, _<_}
+use lib.IntN.{ℤ, pos, _+ℤ_, _*ℤ_}
 use lib.ListN.{length, getD, take}
 use mir.Syntax.{w64}
 use mir.Val.{toZ}
@@ -23,11 +23,19 @@ pub record AnyContent (h samples : List ℤ) (r r′ : List ℕ) (o′ : List �
   pub registers : (k : ℕ) → k < 256 → getD r′ k 0 ≡ wrapped (pos (held r (length samples + k)) +ℤ registerSum h samples k)
   pub outputs : (i : ℕ) → i < length samples → getD o′ i (pos 0) ≡ toZ w64 (wrapped (pos (held r i) +ℤ outputSum h (take (suc i) samples)))
 
+-- "Sums wrap modulo 2^64": the 64-bit word n differs from z by a multiple of 2^64
+pub record WordOf (z : ℤ) (n : ℕ) : Type 0 where
+  pub word : n < 2 ^ 64
+  pub turns : ℤ
+  pub congruent : z ≡ pos n +ℤ turns *ℤ pos (2 ^ 64)
+
 pub record RunningClaims : Type 0 where
   -- demand 3 of running calls, with every network that `check` passes
   pub running-sums : (rows : List ℕ) (rowCount : ℕ) (taps : List ℕ) (tapCount : ℕ) → NetworkChecked rows rowCount taps tapCount (given tt)
       → (calls : List Step) → Calls (networkOf rows rowCount taps tapCount) calls
       → Demand (coefficients (networkOf rows rowCount taps tapCount)) (networkOf rows rowCount taps tapCount) calls
+  -- what is stored of a sum
+  pub wraps : (z : ℤ) → WordOf z (wrapped z)
   -- a call that is accepted, whatever the registers hold
   pub any-content : (rows : List ℕ) (rowCount : ℕ) (taps : List ℕ) (tapCount : ℕ) (samples : List ℤ) (r : List ℕ) (o : List ℤ) (r′ : List ℕ) (o′ : List ℤ) → Words r
       → Ran rows rowCount taps tapCount samples r o (given tt) r′ o′ → AnyContent (coefficients (networkOf rows rowCount taps tapCount)) samples r r′ o′

@@ -1,11 +1,20 @@
 -- What is claimed of the sheet. Definitions only; proofs/Claims.antt proves it.
 use mathlib.Core.Path.{_≡_}
+use mathlib.Core.Bool.{false}
 use mathlib.Core.List.{List, [], _∷_, _++_}
-use Prim.Native.Nat.{ℕ, _≤_}
+use Prim.Native.Nat.{ℕ, _*_, _≤_}
+use lib.Ieee.{Float}
+use lib.IntN.{ℤ}
 use lib.ListN.{length, take, drop}
+use Rattle.refusal.specs.Answer.{Answer, given}
+use Rattle.tap_set.specs.declared.Report.{Report}
+use Rattle.tap_set.specs.Set.{coefficientsOf, TapsRounded}
+use Rattle.network.specs.Rows.{rowWords, tapWords}
+use Rattle.building.specs.TapRows.{built}
+use Rattle.building.specs.Built.{BuiltInto}
 use Rattle.sheet_fields.specs.Ascii.{ascii}
 use Rattle.sheet_input.specs.Argument.{Argument, missing}
-use Rattle.sheet_text.specs.Sheet.{SheetWritten}
+use Rattle.sheet_text.specs.Sheet.{choices, SheetWritten}
 
 -- "Taps 3, -6, 45, 0 over 32768": 8 bytes each, low byte first
 abbrev pub exampleInput : List ℕ
@@ -32,6 +41,13 @@ pub record SheetClaims : Type 0 where
   -- the first 2,056 bytes, 257 taps, settle the sheet
   pub first-2056 : (input : List ℕ) (argument : Argument) (area : List ℕ) (n : ℕ) (area′ : List ℕ) → SheetWritten (take 2056 input) argument area n area′
       → SheetWritten input argument area n area′
+  -- "elements past those that the result fills are untouched"
+  pub past-the-text : (input : List ℕ) (argument : Argument) (area : List ℕ) (n : ℕ) (area′ : List ℕ) → SheetWritten input argument area n area′ → drop n area′ ≡ drop n area
+  -- taps that are rounded can be built, "all choices 0"
+  pub never-turned-down : (F : ℕ) (taps : List Float) (table : List ℤ) (report : Report) (table′ : List ℤ) → TapsRounded F false taps table (given report) table′
+      → (rows tapRows : List ℕ) → 4096 * rowWords ≤ length rows → 256 * tapWords ≤ length tapRows
+      → (a : Answer ℕ) (rows′ tapRows′ : List ℕ) → BuiltInto (coefficientsOf F taps) choices rows tapRows a rows′ tapRows′
+      → a ≡ given (length (built (coefficientsOf F taps) choices .rows))
   -- document 01's example
   pub example-sheet : (area : List ℕ) (n : ℕ) (area′ : List ℕ) → SheetWritten exampleInput missing area n area′ → take n area′ ≡ exampleText
   -- and there is such an area

@@ -25,7 +25,7 @@ unfoldable pub choices : List ℕ
 choices = replicate 256 0
 
 -- the network of some taps, "not normalised, all choices 0". Rounding makes the checks 5 and 6; building turns down no coefficients that come of it
--- (proofs/Building.antt)
+-- (`never-turned-down` in specs/Claims.antt)
 unfoldable pub tapsAnswer : ℕ → List Float → Answer Network
 tapsAnswer F taps = andThen (roundedTaps F false taps 256) (λ (report : Report). given (built (coefficientsOf F taps) choices))
 
@@ -47,4 +47,7 @@ sheetOf input argument = textOf (sheetAnswer input argument)
 pub record SheetWritten (input : List ℕ) (argument : Argument) (area : List ℕ) (n : ℕ) (area′ : List ℕ) : Type 0 where
   pub size : n ≡ length (sheetOf input argument)
   pub text : area′ ≡ sheetOf input argument ++ drop n area
+  -- the area has room for every sheet
+  pub room : n ≤ length area
+  -- so its first n bytes, which the program writes, are the sheet
   pub within : (n ≤ length area′) × (n ≡ length (take n area′))
