@@ -18,7 +18,8 @@ pub record TapRoundedWord (F bits received : ℕ) : Type 0 where
 
 -- the word that C receives is that of an answer with which `round_taps` may leave table′; the divisor and the leftover are left as 64 bits each, those of the report's numbers, or on
 -- a refusal the bits that were there. The contract of `fir_round_taps`
-pub record TapsRoundedWord (F normalised : ℕ) (taps : List Float) (table : List ℤ) (divisor leftover received : ℕ) (table′ : List ℤ) (divisor′ leftover′ : ℕ) : Type 0 where
+pub record TapsRoundedWord (F normalised : ℕ) (taps : List Float) (table : List ℤ) (divisor leftover received : ℕ) (table′ : List ℤ)
+    (divisor′ leftover′ : ℕ) : Type 0 where
   pub answer : Answer Report
   pub word : received ≡ refusalWord answer
   pub rounded : TapsRounded F (isSet normalised) taps table answer table′

@@ -1,4 +1,4 @@
--- What an entry answers and what it leaves in lent memory, as document 01, "Turned down", has it. Every entry's contract goes through these. Definitions only.
+-- What an entry answers and what it leaves in lent memory, as document 01, "Turned down", has it: for the contract of every entry that turns something down. Definitions only.
 use Prim.Native.Nat.{ℕ, suc}
 use mathlib.Core.Bool.{Bool, true, false, cond}
 use mathlib.Core.List.{List, [], _∷_, _++_}

@@ -5,7 +5,7 @@ use mathlib.Core.List.{List, _++_}
 use mathlib.Core.Logic.{⊎-elim}
 use Prim.Native.Nat.{ℕ, _*_, _≤_}
 use native.Mathlib.Omega.{arith}
-use lib.ListN.{length, take, drop, length-append}
+use lib.ListN.{length, take, drop, length-append, length-drop}
 use lib.Ieee.{Float}
 use lib.IntN.{ℤ}
 use lib.Seq.{take-all, take-at, drop-at, length-take-le}
@@ -52,7 +52,7 @@ written text area e h =
     record {
       size = ap length e;
       text = ap (λ (t : List ℕ). t ++ drop (length text) area) e;
-      room = h;
+      room = omega (arith, length-append text (drop (length text) area), length-drop (length text) area);
       within = (k, sym (length-take-le (length text) (text ++ drop (length text) area) k));
     }
 

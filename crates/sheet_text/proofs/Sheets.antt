@@ -55,7 +55,7 @@ put-sheet {l} {b} {e} {m} {r} input argument q p h =
     record {
       size = omega (arith, p .next, ap length q);
       text = p .text ∙ sets-eq b l 0 (omega (arith, p .within)) ∙ ap (λ j. b ++ drop j l) z ∙ ap (λ t. t ++ drop r l) (sym q);
-      room = omega (arith, p .within);
+      room = s;
       within = (k, sym (length-take-le r e k));
     }
 

@@ -48,6 +48,6 @@ pub record SheetWritten (input : List ℕ) (argument : Argument) (area : List �
   pub size : n ≡ length (sheetOf input argument)
   pub text : area′ ≡ sheetOf input argument ++ drop n area
   -- the area has room for every sheet
-  pub room : n ≤ length area
+  pub room : length area′ ≡ length area
   -- so its first n bytes, which the program writes, are the sheet
   pub within : (n ≤ length area′) × (n ≡ length (take n area′))
