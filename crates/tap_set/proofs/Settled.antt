@@ -123,7 +123,7 @@ module _ (F : ℕ) (taps : List Float) where
       ∙ sym (settled-is ∙ ap (λ (w : Place). refuseAt w 5 (refuseIf (unusable S) 7 (refuseAt (lowest infinite Q) 7 (bounded F S Q)))) p ∙ check-passes (unusable S) 7 _ u)
 
 -- not normalised
-never : (k : ℕ) (xs : List Float) → lowestFrom k (λ (q : Float). false && infinite q) xs ≡ nowhere
+pub never : (k : ℕ) (xs : List Float) → lowestFrom k (λ (q : Float). false && infinite q) xs ≡ nowhere
 unfolding lowestFrom
 never k [] = refl
 never k (x ∷ xs) = never (suc k) xs
@@ -151,14 +151,14 @@ module _ (F : ℕ) (normalised : Bool) (taps : List Float) (room : ℕ) where
     many-taps h = sym (some-taps ∙ check-applies (ltb 256 (length taps)) 2 _ (lt-ltb 256 (length taps) h))
 
     module _ (b : length taps ≤ 256) where
-      few-taps : roundedTaps F normalised taps room ≡ refuseIf (ltb room (length taps)) 3 (refuseIf (ltb 31 F) 4 (settled F normalised taps))
+      pub few-taps : roundedTaps F normalised taps room ≡ refuseIf (ltb room (length taps)) 3 (refuseIf (ltb 31 F) 4 (settled F normalised taps))
       few-taps = some-taps ∙ check-passes (ltb 256 (length taps)) 2 _ (le-ltb 256 (length taps) b)
 
       pub short-table : room < length taps → refused 3 0 ≡ roundedTaps F normalised taps room
       short-table h = sym (few-taps ∙ check-applies (ltb room (length taps)) 3 _ (lt-ltb room (length taps) h))
 
       module _ (d : length taps ≤ room) where
-        with-room : roundedTaps F normalised taps room ≡ refuseIf (ltb 31 F) 4 (settled F normalised taps)
+        pub with-room : roundedTaps F normalised taps room ≡ refuseIf (ltb 31 F) 4 (settled F normalised taps)
         with-room = few-taps ∙ check-passes (ltb room (length taps)) 3 _ (le-ltb room (length taps) d)
 
         pub many-bits : 31 < F → refused 4 0 ≡ roundedTaps F normalised taps room
