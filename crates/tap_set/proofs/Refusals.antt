@@ -245,7 +245,7 @@ module _ (F : ℕ) (normalised : Bool) (taps : List Float) (room : ℕ) where
 
   pub accepts-only : (r : Report) → Accepted F normalised taps room r → SetAccepted F normalised taps room
   accepts-only r w = record {
-    sized = record { some-taps = some (length taps) (w .some-taps); at-most-256 = w .few-taps; room-for = w .room-for; fraction-bits = w .few-bits };
+    sized = record { some-taps = some (length taps) (w .some-taps); at-most-256 = at-most (length taps) (w .few-taps); room-for = w .room-for; fraction-bits = w .few-bits };
     each-finite = λ i h. unnot (finite (getD taps i nan)) (lowest-none-at nan notFinite 0 taps i (w .taps-finite) h);
     divisible = record {
       by-sum = λ n. ap (λ (b : Bool). b && unusable (sumOf taps)) (sym n) ∙ w .usable;
@@ -255,6 +255,9 @@ module _ (F : ℕ) (normalised : Bool) (taps : List Float) (room : ℕ) where
     within-bounds = inside;
   }
     where
+      at-most : (n : ℕ) → n ≤ Settled.most-taps → n ≤ 256
+      at-most n h = omega arith
+
       some : (n : ℕ) → (n ≡ 0 → ⊥) → 0 < n
       some zero h = absurd (h refl)
       some (suc n) h = zero-lt-suc n
@@ -284,7 +287,7 @@ module _ (F : ℕ) (normalised : Bool) (taps : List Float) (room : ℕ) where
     room-row = refuseIf (ltb room n) 3 bits-row
 
     abbrev many-row : Answer Report
-    many-row = refuseIf (ltb 256 n) 2 room-row
+    many-row = refuseIf (ltb Settled.most-taps n) 2 room-row
 
     never-room : (k : ℕ) → eqb 3 k ≡ false → eqb 4 k ≡ false → Never k (settled F normalised taps) → Never k room-row
     never-room k b c w = never-if k 3 (ltb room n) bits-row b (never-if k 4 (ltb 31 F) _ c w)
@@ -292,7 +295,7 @@ module _ (F : ℕ) (normalised : Bool) (taps : List Float) (room : ℕ) where
     no-taps : a ≡ refused 1 0 ↔ length taps ≡ 0
     no-taps =
         both
-        (if-row a (eqb n 0) 1 many-row (never-if 1 2 (ltb 256 n) room-row refl (never-room 1 refl refl (never-settled F normalised taps 1 refl refl refl))) (e ∙ Settled.all-is F normalised taps room))
+        (if-row a (eqb n 0) 1 many-row (never-if 1 2 (ltb Settled.most-taps n) room-row refl (never-room 1 refl refl (never-settled F normalised taps 1 refl refl refl))) (e ∙ Settled.all-is F normalised taps room))
         (eqb-true n 0, eq-eqb n 0)
 
     many-taps : a ≡ refused 2 0 ↔ 256 < length taps
@@ -305,9 +308,9 @@ module _ (F : ℕ) (normalised : Bool) (taps : List Float) (room : ℕ) where
         past true rest q = absurd (eqb-false 1 2 refl (cc))
         past false rest q = q
 
-        forward : a ≡ refused 2 0 → ltb 256 n ≡ true
+        forward : a ≡ refused 2 0 → ltb Settled.most-taps n ≡ true
         forward q =
-            if-row many-row (ltb 256 n) 2 room-row (never-room 2 refl refl (never-settled F normalised taps 2 refl refl refl)) refl .0
+            if-row many-row (ltb Settled.most-taps n) 2 room-row (never-room 2 refl refl (never-settled F normalised taps 2 refl refl refl)) refl .0
             (past (eqb n 0) many-row (sym (e ∙ Settled.all-is F normalised taps room) ∙ q))
 
     short-table : 0 < length taps → length taps ≤ 256 → a ≡ refused 3 0 ↔ room < length taps
@@ -354,7 +357,7 @@ module _ (F : ℕ) (normalised : Bool) (taps : List Float) (room : ℕ) where
     not-normalised : normalised ≡ false → (place : ℕ) → a ≡ refused 7 place → ⊥
     not-normalised m =
         never-same 7 a _ (e ∙ Settled.all-is F normalised taps room)
-        (never-if 7 1 (eqb n 0) many-row refl (never-if 7 2 (ltb 256 n) room-row refl (never-room 7 refl refl (never-plain F normalised taps m))))
+        (never-if 7 1 (eqb n 0) many-row refl (never-if 7 2 (ltb Settled.most-taps n) room-row refl (never-room 7 refl refl (never-plain F normalised taps m))))
 
     pub refusals : SetRefusals F normalised taps room a
     refusals = record {

@@ -23,7 +23,7 @@ use Rattle.tap_set.specs.Set.{largerOf, reported, reportFrom, reportOf, 
 use Rattle.tap_set.specs.Claims.{Binary64, Finite}
 use Rattle.tap_set.proofs.Largest.{AtMost, best, AllFinite, Best, best-is}
 use Rattle.tap_set.proofs.Rounds.{notFinite, unnot, report-one, report-none}
-use Rattle.tap_set.proofs.Settled.{all-is, settled-open, infinite-quotients, usable-number}
+use Rattle.tap_set.proofs.Settled.{most-taps, all-is, settled-open, infinite-quotients, usable-number}
 
 -- the leftover of a number
 abbrev pub leftAt : ℕ → Float → Float
@@ -72,7 +72,7 @@ used-fit true taps b = quotients-fit (sumOf taps) taps
 pub record Accepted (F : ℕ) (normalised : Bool) (taps : List Float) (room : ℕ) (r : Report) : Type 0 where
   pub few-bits : F ≤ 31
   pub some-taps : length taps ≡ 0 → ⊥
-  pub few-taps : length taps ≤ 256
+  pub few-taps : length taps ≤ most-taps
   pub room-for : length taps ≤ room
   pub taps-finite : lowest notFinite taps ≡ nowhere
   pub usable : normalised && unusable (sumOf taps) ≡ false
@@ -85,7 +85,7 @@ pub record Accepted (F : ℕ) (normalised : Bool) (taps : List Float) (room : �
 pub accepted : (F : ℕ) (normalised : Bool) (taps : List Float) (room : ℕ) (r : Report) → roundedTaps F normalised taps room ≡ given r → Accepted F normalised taps room r
 accepted F normalised taps room r h =
     let c1 = given-if (eqb (length taps) 0) 1 _ r (sym (all-is F normalised taps room) ∙ h) in
-    let c2 = given-if (ltb 256 (length taps)) 2 _ r (c1 .1) in
+    let c2 = given-if (ltb most-taps (length taps)) 2 _ r (c1 .1) in
     let c3 = given-if (ltb room (length taps)) 3 _ r (c2 .1) in
     let c4 = given-if (ltb 31 F) 4 _ r (c3 .1) in
     let c5 = given-at (lowest notFinite taps) 5 _ r (sym (settled-open F normalised taps) ∙ c4 .1) in
@@ -96,7 +96,7 @@ accepted F normalised taps room r h =
     record {
       few-bits = ltb-false 31 F (c4 .0);
       some-taps = eqb-false (length taps) 0 (c1 .0);
-      few-taps = ltb-false 256 (length taps) (c2 .0);
+      few-taps = ltb-false most-taps (length taps) (c2 .0);
       room-for = ltb-false room (length taps) (c3 .0);
       taps-finite = c5 .0;
       usable = c7 .0;
