@@ -18,15 +18,13 @@ use Rattle.tap.proofs.Theorems.{finite-number, left-finite}
 use Rattle.normalise.specs.Normalised.{used}
 use Rattle.tap_set.specs.declared.Report.{Report}
 use Rattle.tap_set.specs.Set.{coefficientsOf, TapsRounded}
-use Rattle.tap_set.specs.Claims.{Binary64, Rounds, leftoverAt, EarliestTap, LargestLeftover, SetClaims}
+use Rattle.tap_set.specs.Figures.{three}
+use Rattle.tap_set.specs.Claims.{Binary64, Rounds, leftoverAt, EarliestTap, LargestLeftover, SetAccepted, SetClaims}
 use Rattle.tap_set.proofs.Largest.{AtMost, First, Best, smaller-test, at-most-test}
 use Rattle.tap_set.proofs.Rounds.{whole}
 use Rattle.tap_set.proofs.Figures.{set-figures, three-binary64}
+use Rattle.tap_set.proofs.Refusals.{length-used, is-accepted, accepts-only, refusals}
 use Rattle.tap_set.proofs.Theorems.{leftAt, Accepted, accepted, divisor-is, best-leftover, report-finite, rounds-at, used-fit, fits-at, exact-of}
-
-length-used : (normalised : Bool) (taps : List Float) → length (used normalised taps) ≡ length taps
-length-used false taps = refl
-length-used true taps = length-map _ taps
 
 none-whole : (F : ℕ) → whole F nan ≡ pos 0
 unfolding resultOf
@@ -132,8 +130,14 @@ module _ (F : ℕ) (normalised : Bool) (taps : List Float) (table : List ℤ) (r
 kept : (F : ℕ) (normalised : Bool) (taps : List Float) (table : List ℤ) (number place : ℕ) (table′ : List ℤ) → TapsRounded F normalised taps table (refused number place) table′ → table′ ≡ table
 kept F normalised taps table number place table′ t = t .written ∙ ap (λ a. filled a (coefficientsOf F (used normalised taps)) table) (sym (t .answer))
 
+only : (F : ℕ) (normalised : Bool) (taps : List Float) (table : List ℤ) (r : Report) (table′ : List ℤ) → TapsRounded F normalised taps table (given r) table′ → SetAccepted F normalised taps (length table)
+only F normalised taps table r table′ t = accepts-only F normalised taps (length table) r (passed F normalised taps table r table′ t)
+
 pub set-claims : SetClaims
 set-claims = record {
+  set-accepted = λ F normalised taps table a table′ t w. (_, t .answer ∙ is-accepted F normalised taps (length table) w);
+  set-accepts-only = only;
+  set-refusals = λ F normalised taps table a table′ t. refusals F normalised taps (length table) a (t .answer);
   each-rounds = each;
   past-untouched = past;
   refused-unchanged = kept;
@@ -145,4 +149,5 @@ set-claims = record {
       (finite-number (r .divisor) (w .divisor), finite-number (r .leftover) (w .leftover));
   figures = set-figures;
   three-binary64 = three-binary64;
+  three-accepted = only 2 false three _ _ _ (set-figures .earliest);
 }

@@ -3,5 +3,6 @@ pub mod Largest
 pub mod Rounds
 pub mod Settled
 pub mod Theorems
+pub mod Refusals
 pub mod Figures
 pub mod Claims

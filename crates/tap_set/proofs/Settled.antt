@@ -123,7 +123,7 @@ module _ (F : ℕ) (taps : List Float) where
       ∙ sym (settled-is ∙ ap (λ (w : Place). refuseAt w 5 (refuseIf (unusable S) 7 (refuseAt (lowest infinite Q) 7 (bounded F S Q)))) p ∙ check-passes (unusable S) 7 _ u)
 
 -- not normalised
-never : (k : ℕ) (xs : List Float) → lowestFrom k (λ (q : Float). false && infinite q) xs ≡ nowhere
+pub never : (k : ℕ) (xs : List Float) → lowestFrom k (λ (q : Float). false && infinite q) xs ≡ nowhere
 unfolding lowestFrom
 never k [] = refl
 never k (x ∷ xs) = never (suc k) xs
@@ -134,9 +134,13 @@ plain-settled F taps =
     ∙ sym (settled-open F false taps ∙ ap (λ (p : Place). refuseAt (lowest notFinite taps) 5 (refuseAt p 7 (bounded F (fin false 1 (pos 0)) taps))) (never 0 taps))
 
 -- ---- `roundedTaps`
+-- the most taps that a set may have
+abbrev pub most-taps : ℕ
+most-taps = 256
+
 module _ (F : ℕ) (normalised : Bool) (taps : List Float) (room : ℕ) where
   pub all-is : roundedTaps F normalised taps room
-      ≡ refuseIf (eqb (length taps) 0) 1 (refuseIf (ltb 256 (length taps)) 2 (refuseIf (ltb room (length taps)) 3 (refuseIf (ltb 31 F) 4 (settled F normalised taps))))
+      ≡ refuseIf (eqb (length taps) 0) 1 (refuseIf (ltb most-taps (length taps)) 2 (refuseIf (ltb room (length taps)) 3 (refuseIf (ltb 31 F) 4 (settled F normalised taps))))
   unfolding roundedTaps settled
   all-is = refl
 
@@ -144,21 +148,21 @@ module _ (F : ℕ) (normalised : Bool) (taps : List Float) (room : ℕ) where
   no-taps h = sym (all-is ∙ check-applies (eqb (length taps) 0) 1 _ (eq-eqb (length taps) 0 h))
 
   module _ (a : length taps ≡ 0 → ⊥) where
-    some-taps : roundedTaps F normalised taps room ≡ refuseIf (ltb 256 (length taps)) 2 (refuseIf (ltb room (length taps)) 3 (refuseIf (ltb 31 F) 4 (settled F normalised taps)))
+    some-taps : roundedTaps F normalised taps room ≡ refuseIf (ltb most-taps (length taps)) 2 (refuseIf (ltb room (length taps)) 3 (refuseIf (ltb 31 F) 4 (settled F normalised taps)))
     some-taps = all-is ∙ check-passes (eqb (length taps) 0) 1 _ (ne-eqb (length taps) 0 a)
 
-    pub many-taps : 256 < length taps → refused 2 0 ≡ roundedTaps F normalised taps room
-    many-taps h = sym (some-taps ∙ check-applies (ltb 256 (length taps)) 2 _ (lt-ltb 256 (length taps) h))
+    pub many-taps : most-taps < length taps → refused 2 0 ≡ roundedTaps F normalised taps room
+    many-taps h = sym (some-taps ∙ check-applies (ltb most-taps (length taps)) 2 _ (lt-ltb most-taps (length taps) h))
 
-    module _ (b : length taps ≤ 256) where
-      few-taps : roundedTaps F normalised taps room ≡ refuseIf (ltb room (length taps)) 3 (refuseIf (ltb 31 F) 4 (settled F normalised taps))
-      few-taps = some-taps ∙ check-passes (ltb 256 (length taps)) 2 _ (le-ltb 256 (length taps) b)
+    module _ (b : length taps ≤ most-taps) where
+      pub few-taps : roundedTaps F normalised taps room ≡ refuseIf (ltb room (length taps)) 3 (refuseIf (ltb 31 F) 4 (settled F normalised taps))
+      few-taps = some-taps ∙ check-passes (ltb most-taps (length taps)) 2 _ (le-ltb most-taps (length taps) b)
 
       pub short-table : room < length taps → refused 3 0 ≡ roundedTaps F normalised taps room
       short-table h = sym (few-taps ∙ check-applies (ltb room (length taps)) 3 _ (lt-ltb room (length taps) h))
 
       module _ (d : length taps ≤ room) where
-        with-room : roundedTaps F normalised taps room ≡ refuseIf (ltb 31 F) 4 (settled F normalised taps)
+        pub with-room : roundedTaps F normalised taps room ≡ refuseIf (ltb 31 F) 4 (settled F normalised taps)
         with-room = few-taps ∙ check-passes (ltb room (length taps)) 3 _ (le-ltb room (length taps) d)
 
         pub many-bits : 31 < F → refused 4 0 ≡ roundedTaps F normalised taps room

@@ -23,7 +23,7 @@ use Rattle.tap_set.specs.Set.{largerOf, reported, reportFrom, reportOf, 
 use Rattle.tap_set.specs.Claims.{Binary64, Finite}
 use Rattle.tap_set.proofs.Largest.{AtMost, best, AllFinite, Best, best-is}
 use Rattle.tap_set.proofs.Rounds.{notFinite, unnot, report-one, report-none}
-use Rattle.tap_set.proofs.Settled.{all-is, settled-open, infinite-quotients, usable-number}
+use Rattle.tap_set.proofs.Settled.{most-taps, all-is, settled-open, infinite-quotients, usable-number}
 
 -- the leftover of a number
 abbrev pub leftAt : ℕ → Float → Float
@@ -37,7 +37,7 @@ reported-leftover : (r : Report) (c : TapResult) → reported r c .leftover ≡ 
 unfolding reported
 reported-leftover r c = refl
 
-bounded-is : (F : ℕ) (d : Float) (xs : List Float) → bounded F d xs ≡ refuseAt (lowest (outside F) xs) 6 (given (reportOf F d xs))
+pub bounded-is : (F : ℕ) (d : Float) (xs : List Float) → bounded F d xs ≡ refuseAt (lowest (outside F) xs) 6 (given (reportOf F d xs))
 unfolding bounded
 bounded-is F d xs = refl
 
@@ -59,7 +59,7 @@ quotients-fit y [] = tt
 quotients-fit y (x ∷ xs) = (div-fits binary64 x y, quotients-fit y xs)
 
 -- the numbers that are rounded are finite, and the divisor is
-used-finite : (normalised : Bool) (taps : List Float) → lowest notFinite taps ≡ nowhere → normalised && unusable (sumOf taps) ≡ false → lowest (λ (q : Float). normalised && infinite q) (used normalised taps) ≡ nowhere
+pub used-finite : (normalised : Bool) (taps : List Float) → lowest notFinite taps ≡ nowhere → normalised && unusable (sumOf taps) ≡ false → lowest (λ (q : Float). normalised && infinite q) (used normalised taps) ≡ nowhere
     → (lowest notFinite (used normalised taps) ≡ nowhere) × (finite (divisorOf normalised taps) ≡ true)
 used-finite false taps n u q = (n, refl)
 used-finite true taps n u q = (infinite-quotients (sumOf taps) 0 0 taps u n ∙ q, usable-number (sumOf taps) u)
@@ -72,7 +72,11 @@ used-fit true taps b = quotients-fit (sumOf taps) taps
 pub record Accepted (F : ℕ) (normalised : Bool) (taps : List Float) (room : ℕ) (r : Report) : Type 0 where
   pub few-bits : F ≤ 31
   pub some-taps : length taps ≡ 0 → ⊥
+  pub few-taps : length taps ≤ most-taps
   pub room-for : length taps ≤ room
+  pub taps-finite : lowest notFinite taps ≡ nowhere
+  pub usable : normalised && unusable (sumOf taps) ≡ false
+  pub none-infinite : lowest (λ (q : Float). normalised && infinite q) (used normalised taps) ≡ nowhere
   pub numbers : lowest notFinite (used normalised taps) ≡ nowhere
   pub divisor : finite (divisorOf normalised taps) ≡ true
   pub inside : lowest (outside F) (used normalised taps) ≡ nowhere
@@ -81,7 +85,7 @@ pub record Accepted (F : ℕ) (normalised : Bool) (taps : List Float) (room : �
 pub accepted : (F : ℕ) (normalised : Bool) (taps : List Float) (room : ℕ) (r : Report) → roundedTaps F normalised taps room ≡ given r → Accepted F normalised taps room r
 accepted F normalised taps room r h =
     let c1 = given-if (eqb (length taps) 0) 1 _ r (sym (all-is F normalised taps room) ∙ h) in
-    let c2 = given-if (ltb 256 (length taps)) 2 _ r (c1 .1) in
+    let c2 = given-if (ltb most-taps (length taps)) 2 _ r (c1 .1) in
     let c3 = given-if (ltb room (length taps)) 3 _ r (c2 .1) in
     let c4 = given-if (ltb 31 F) 4 _ r (c3 .1) in
     let c5 = given-at (lowest notFinite taps) 5 _ r (sym (settled-open F normalised taps) ∙ c4 .1) in
@@ -92,7 +96,11 @@ accepted F normalised taps room r h =
     record {
       few-bits = ltb-false 31 F (c4 .0);
       some-taps = eqb-false (length taps) 0 (c1 .0);
+      few-taps = ltb-false most-taps (length taps) (c2 .0);
       room-for = ltb-false room (length taps) (c3 .0);
+      taps-finite = c5 .0;
+      usable = c7 .0;
+      none-infinite = d7 .0;
       numbers = u .0;
       divisor = u .1;
       inside = c6 .0;

@@ -49,6 +49,17 @@ held c =
     let taps = a .taps .now in
     front-held taps (t .total .result) _ _ (c .divide .ensures) (t .total .ensures)
 
+-- the quotients, once they are rounded
+divided : (f : ℕ) (taps : List Float) (sum : Float) (ys : List Float) (old new : List ℤ) (r : Answer Report) → sum ≡ sumOf taps → unusable (sumOf taps) ≡ false → ys ≡ Q taps → r ≡ checked true f sum ys
+    → new ≡ filled (checked true f sum ys) (coefficientsOf f ys) old → (r ≡ settled f true taps) × (new ≡ filled (settled f true taps) (coefficientsOf f (Q taps)) old)
+divided f taps sum ys old new r s u h e w = (
+  e ∙ b,
+  w ∙ ap (λ (r : Answer Report). filled r (coefficientsOf f ys) old) b ∙ ap (λ (xs : List Float). filled (settled f true taps) (coefficientsOf f xs) old) h,
+)
+  where
+    b : checked true f sum ys ≡ settled f true taps
+    b = ap (checked true f sum) h ∙ ap (λ (q : Float). checked true f q (Q taps)) s ∙ with-sum f taps u
+
 total-requires : tie.Need-total-requires
 total-requires c κs = search needs
 
@@ -109,15 +120,8 @@ returns-2 c =
     let t = e1 .before .before in
     let s = t .before .before in
     let a = s .args in
-    let taps = a .taps .now in
-    let b : checked true (a .f) (t .total .result) (take (length taps) (d .divide .last .1 .1 .0)) ≡ settled (a .f) true taps = ap (checked true (a .f) (t .total .result)) (held d)
-    ∙ ap (λ (q : Float). checked true (a .f) q (Q taps)) (t .total .ensures)
-    ∙ with-sum (a .f) taps (usable e1) in (
-      k .settle .ensures .0 ∙ b,
-      k .settle .ensures .1
-          ∙ ap (λ (r : Answer Report). filled r (coefficientsOf (a .f) (take (length taps) (d .divide .last .1 .1 .0))) (a .coefficients .now)) b
-          ∙ ap (λ (xs : List Float). filled (settled (a .f) true taps) (coefficientsOf (a .f) xs) (a .coefficients .now)) (held d),
-    )
+    divided (a .f) (a .taps .now) (t .total .result) (take (length (a .taps .now)) (d .divide .last .1 .1 .0)) (a .coefficients .now) _ _ (t .total .ensures) (usable e1) (held d) (k .settle .ensures .0)
+    (k .settle .ensures .1)
 
 pub round-quotients-spec : {M : Type 1} → statement M
 round-quotients-spec =

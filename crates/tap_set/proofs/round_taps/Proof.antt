@@ -1,15 +1,16 @@
 -- `tap_set::round_taps` meets its contract: each answer is a law of proofs/Settled.antt. Assumes nothing.
 use borrow.Author.Needs.{needs}
 use mathlib.Core.Path.{_≡_, refl, sym, ap, _∙_}
-use mathlib.Core.Bool.{Bool, true, false}
+use mathlib.Core.Bool.{Bool, true, false, true≢false, false≢true}
 use mathlib.Core.List.{List}
+use Prim.Native.Nat.{ℕ}
 use lib.IntN.{ℤ, pos}
 use lib.ListN.{length}
 use lib.Ieee.{Float, fin, binary64, ofBits}
 use Rattle.refusal.specs.Answer.{Answer, filled}
 use Rattle.tap_set.specs.declared.Report.{Report}
 use Rattle.normalise.specs.Normalised.{used}
-use Rattle.tap_set.specs.Set.{coefficientsOf, roundedTaps}
+use Rattle.tap_set.specs.Set.{coefficientsOf, roundedTaps, TapsRounded}
 use Rattle.tap_set.specs.Inner.{checked, settled}
 use Rattle.tap_set.proofs.Settled.{plain-settled, no-taps, many-taps, short-table, many-bits, few-bits}
 use Rattle.tap_set.proofs.round_taps.Statement.{statement}
@@ -26,6 +27,21 @@ answer c = let a = c .args in roundedTaps (a .fraction-bits) (a .normalised) (a 
 one-is : ofBits binary64 0x3ff0_0000_0000_0000 ≡ fin false 1 (pos 0)
 unfolding ofBits
 one-is = refl
+
+-- the two modes, once the numbers are rounded
+module _ (F : ℕ) (taps : List Float) (old new : List ℤ) (r : Answer Report) where
+  divided : (n : Bool) → n ≡ true → settled F n taps ≡ roundedTaps F n taps (length old) → r ≡ settled F true taps → new ≡ filled (settled F true taps) (coefficientsOf F (used true taps)) old
+      → TapsRounded F n taps old r new
+  divided false m e h w = absurd (false≢true m)
+  divided true m e h w = record { answer = h ∙ e; written = w ∙ ap (λ (b : Answer Report). filled b (coefficientsOf F (used true taps)) old) e }
+
+  undivided : (n : Bool) → n ≡ false → settled F n taps ≡ roundedTaps F n taps (length old) → (d : Float) → d ≡ fin false 1 (pos 0) → r ≡ checked false F d taps
+      → new ≡ filled (checked false F d taps) (coefficientsOf F taps) old → TapsRounded F n taps old r new
+  undivided true m e d o h w = absurd (true≢false m)
+  undivided false m e d o h w = record { answer = h ∙ b; written = w ∙ ap (λ (q : Answer Report). filled q (coefficientsOf F taps) old) b }
+    where
+      b : checked false F d taps ≡ roundedTaps F false taps (length old)
+      b = ap (λ (q : Float). checked false F q taps) o ∙ plain-settled F taps ∙ e
 
 returns : tie.Need-returns
 returns c =
@@ -85,15 +101,8 @@ returns-5 c =
     let k = c .before in
     let t = k .before .before in
     let e4 = t .before in
-    let s = e4 .before .before .before .before .before in
-    let a = s .args in
-    let b = ap (λ (n : Bool). settled (a .fraction-bits) n (a .taps .now)) (sym (t .if5 .taken)) ∙ settled-is e4 in
-    record {
-      answer = k .round-quotients .ensures .0 ∙ b;
-      written = k .round-quotients .ensures .1
-          ∙ ap (λ (r : Answer Report). filled r (coefficientsOf (a .fraction-bits) (used true (a .taps .now))) (a .coefficients .now)) b
-          ∙ ap (λ (n : Bool). filled (answer s) (coefficientsOf (a .fraction-bits) (used n (a .taps .now))) (a .coefficients .now)) (sym (t .if5 .taken));
-    }
+    let a = e4 .before .before .before .before .before .args in
+    divided (a .fraction-bits) (a .taps .now) (a .coefficients .now) _ _ (a .normalised) (t .if5 .taken) (settled-is e4) (k .round-quotients .ensures .0) (k .round-quotients .ensures .1)
 
 same-length-2 : tie.Need-same-length-2
 same-length-2 c = search needs
@@ -103,18 +112,8 @@ returns-6 c =
     let k = c .before in
     let t = k .before .before in
     let e4 = t .before in
-    let s = e4 .before .before .before .before .before in
-    let a = s .args in
-    let b = ap (λ (d : Float). checked false (a .fraction-bits) d (a .taps .now)) one-is
-    ∙ plain-settled (a .fraction-bits) (a .taps .now)
-    ∙ ap (λ (n : Bool). settled (a .fraction-bits) n (a .taps .now)) (sym (t .if5 .left))
-    ∙ settled-is e4 in
-    record {
-      answer = k .settle .ensures .0 ∙ b;
-      written = k .settle .ensures .1
-          ∙ ap (λ (r : Answer Report). filled r (coefficientsOf (a .fraction-bits) (used false (a .taps .now))) (a .coefficients .now)) b
-          ∙ ap (λ (n : Bool). filled (answer s) (coefficientsOf (a .fraction-bits) (used n (a .taps .now))) (a .coefficients .now)) (sym (t .if5 .left));
-    }
+    let a = e4 .before .before .before .before .before .args in
+    undivided (a .fraction-bits) (a .taps .now) (a .coefficients .now) _ _ (a .normalised) (t .if5 .left) (settled-is e4) (ofBits binary64 0x3ff0_0000_0000_0000) one-is (k .settle .ensures .0) (k .settle .ensures .1)
 
 pub round-taps-spec : {M : Type 1} → statement M
 round-taps-spec =
