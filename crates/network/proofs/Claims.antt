@@ -15,7 +15,7 @@ use Rattle.network.specs.Accepted.{Accepted}
 use Rattle.network.specs.Checked.{NetworkChecked, CoefficientsRead}
 use Rattle.network.specs.Claims.{NetworkRefusals, NetworkClaims}
 use Rattle.network.proofs.Rules.{row-rule, row-kept, tap-rule, tap-kept}
-use Rattle.network.proofs.Refusals.{network-refusals}
+use Rattle.network.proofs.Refusals.{network-refusals, outcome-refusals}
 use Rattle.network.proofs.Passed.{given-accepted, accepted-given}
 use Rattle.network.proofs.Given.{length-coefficients, coefficient-is, given-is, given-within, same-coefficients}
 use Rattle.network.proofs.Evaluation.{rows-multiply, taps-multiply}
@@ -33,19 +33,13 @@ untouched : (a : Answer (List ℤ)) (number place : ℕ) (results old : List ℤ
 untouched (given h) number place results old e = absurd (let z : _≡_ {A = ℕ} 0 1 = cc in omega arith)
 untouched (refused n p) number place results old e = refl
 
-refused-outcome : (a : Answer (List ℤ)) (number place : ℕ) → refused number place ≡ outcome a → a ≡ refused number place
-refused-outcome (given h) number place e = absurd (let z : _≡_ {A = ℕ} 0 1 = cc in omega arith)
-refused-outcome (refused n p) number place e = cc
-
 module _ (rows : List ℕ) (n : ℕ) (taps : List ℕ) (m : ℕ) where
   check-refusals : (number place : ℕ) → NetworkChecked rows n taps m (refused number place) → NetworkRefusals false rows n taps m number place
-  check-refusals number place c = network-refusals false rows n taps m number place (refused-outcome (networkAnswer false rows n taps m) number place (c .answer))
+  check-refusals number place c = outcome-refusals false rows n taps m number place (c .answer)
 
   read-refusals : (table table′ : List ℤ) (number place : ℕ) → CoefficientsRead rows n taps m table (refused number place) table′
       → NetworkRefusals (ltb (length table) m) rows n taps m number place
-  read-refusals table table′ number place c =
-      let short = ltb (length table) m in
-      network-refusals short rows n taps m number place (refused-outcome (networkAnswer short rows n taps m) number place (c .answer))
+  read-refusals table table′ number place c = outcome-refusals (ltb (length table) m) rows n taps m number place (c .answer)
 
   abbrev its : List ℤ
   its = coefficients (networkOf rows n taps m)

@@ -6,27 +6,23 @@ use Prim.Native.Nat.{ℕ, zero, suc, _*_, _≤_, _<_, zero-le, suc-le-suc}
 use native.Mathlib.Omega.{arith}
 use borrow.Author.Tests.{ltb-true, ltb-false, eqb-true, eqb-false, not-true, not-false}
 use lib.Dec.{eqb, ltb}
+use lib.IntN.{ℤ}
 use lib.ListN.{length, getD}
-use Rattle.refusal.specs.Answer.{given, refused, nowhere, at-place, lowest}
-use Rattle.refusal.proofs.Checks.{neither, refused-if, refused-at, lowest-none-at}
+use Rattle.refusal.specs.Answer.{Answer, given, refused, nowhere, at-place, lowest}
+use Rattle.refusal.proofs.Checks.{neither, either, refused-if, refused-at, lowest-none-at}
 use Rattle.refusal.proofs.Lowest.{lowest-is}
 use Rattle.sequence.proofs.UpTo.{length-upTo, getD-upTo}
 use Rattle.network.specs.Rows.{Network, rowWords, tapWords, networkOf, rowAt, tapRowIn, noTap}
 use Rattle.network.specs.RowRule.{RowRule}
-use Rattle.network.specs.Check.{breaksRowRule, breaksTapRowRule, numbers, checked, shortTables, networkAnswer}
+use Rattle.network.specs.Check.{breaksRowRule, breaksTapRowRule, numbers, checked, shortTables, networkAnswer, outcome}
 use Rattle.network.specs.Claims.{UnderLength, rows-short, taps-short, another-short, TablesFit, LowestRow, LowestTapRow, NetworkRefusals, no-taps, too-many-taps, short-table, no-rows, too-many-rows, row-broken, tap-row-broken}
 use Rattle.network.proofs.Rules.{row-rule, row-kept, tap-rule, tap-kept}
 
--- one of two tests applies
-either : {C : Type 0} (a b : Bool) → (a || b) ≡ true → (a ≡ true → C) → (b ≡ true → C) → C
-either true b e f g = f refl
-either false b e f g = g e
-
-some : (n : ℕ) → (n ≡ 0 → ⊥) → 1 ≤ n
+pub some : (n : ℕ) → (n ≡ 0 → ⊥) → 1 ≤ n
 some zero f = absurd (f refl)
 some (suc n) f = suc-le-suc zero-le
 
-not-both : (b : Bool) → b ≡ true → b ≡ false → ⊥
+pub not-both : (b : Bool) → b ≡ true → b ≡ false → ⊥
 not-both b p q = true≢false (sym p ∙ q)
 
 under-length : (short : Bool) (rows taps : List ℕ) → (shortTables rows taps || short) ≡ true → UnderLength short rows taps
@@ -119,3 +115,11 @@ module _ (short : Bool) (rows : List ℕ) (n : ℕ) (taps : List ℕ) (m number 
       refused-if (shortTables rows taps || short) 3 _ number place e
       (λ b q p. short-table q p from to (under-length short rows taps b))
       (λ b e. of-network (tables-fit short rows taps m from to b) e)))
+
+  -- where an entry returns no more than the outcome
+  pub outcome-refusals : refused number place ≡ outcome (networkAnswer short rows n taps m) → Meant
+  outcome-refusals e = network-refusals (same (networkAnswer short rows n taps m) e)
+    where
+      same : (a : Answer (List ℤ)) → refused number place ≡ outcome a → a ≡ refused number place
+      same (given h) e = absurd (let z : _≡_ {A = ℕ} 0 1 = cc in omega arith)
+      same (refused n p) e = cc

@@ -18,6 +18,11 @@ pub neither : (a b : Bool) → (a || b) ≡ false → (a ≡ false) × (b ≡ fa
 neither true b e = absurd (true≢false e)
 neither false b e = (refl, e)
 
+-- one of them does
+pub either : {C : Type 0} (a b : Bool) → (a || b) ≡ true → (a ≡ true → C) → (b ≡ true → C) → C
+either true b e f g = f refl
+either false b e f g = g e
+
 -- a check that applies, and one that does not
 pub check-applies : {A : Type 0} (b : Bool) (number : ℕ) (rest : Answer A) → b ≡ true → refuseIf b number rest ≡ refused number 0
 check-applies true number rest h = refl
