@@ -12,13 +12,13 @@ use lib.ListN.{length, getD}
 use Rattle.word.specs.Bounds.{Coefficient}
 use Rattle.refusal.specs.Answer.{given, refused, refuseIf, refuseAt, Place, nowhere, at-place}
 use Rattle.refusal.proofs.Checks.{check-applies, check-passes, given-if, given-at, lowest-none-at}
+use Rattle.refusal.proofs.Lowest.{is-nowhere}
 use Rattle.coefficient.specs.Parts.{partsOf}
 use Rattle.network.specs.Rows.{Network, rowWords, tapWords}
 use Rattle.network.specs.Check.{shortTables}
 use Rattle.building.specs.TapRows.{built}
 use Rattle.building.specs.Answer.{Choice, choicesOf, noSuchForm, buildAnswer, missingForm}
 use Rattle.building.specs.CanBuild.{CanBuild}
-use Rattle.building.proofs.Lookup.{is-nowhere}
 
 -- ---- the taps with their choices, by number
 pub length-choices : (cs : List ℤ) (ks : List ℕ) → length cs ≤ length ks → length (choicesOf cs ks) ≡ length cs

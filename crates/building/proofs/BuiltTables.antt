@@ -2,8 +2,8 @@
 -- built for. Assumes nothing.
 use mathlib.Core.Path.{_≡_, refl, sym, ap, ap₂, _∙_, subst}
 use mathlib.Core.Bool.{false}
-use mathlib.Core.List.{List, _++_}
-use Prim.Native.Nat.{ℕ, _≤_, _<_}
+use mathlib.Core.List.{List, [], _∷_, _++_}
+use Prim.Native.Nat.{ℕ, _*_, _≤_, _<_}
 use native.Mathlib.Omega.{arith}
 use lib.IntN.{ℤ, pos}
 use lib.ListN.{length, getD, drop, length-append, length-drop}
@@ -13,7 +13,7 @@ use Rattle.refusal.proofs.Tables.{length-map}
 use Rattle.coefficient.specs.Parts.{partsOf}
 use Rattle.network.specs.declared.Row.{Row}
 use Rattle.network.specs.declared.TapRow.{TapRow}
-use Rattle.network.specs.Rows.{Network, networkOf}
+use Rattle.network.specs.Rows.{Network, tapWords, networkOf}
 use Rattle.network.specs.Check.{networkAnswer}
 use Rattle.network.specs.Accepted.{KeepsRules}
 use Rattle.network.proofs.Passed.{accepted-given}
@@ -96,6 +96,15 @@ module _ (cs : List ℤ) (ks rows taps : List ℕ) (net : Network) (e : buildAns
         passed = subst (λ (x : Network). KeepsRules x cs) (sym (told .network) ∙ sym network-left) (built-passed cs ks can-build);
       })
 
+-- past the words that are written a table is as it was
+past : (words old new : List ℕ) (n : ℕ) → length words ≡ n → new ≡ words ++ drop (length words) old → drop n new ≡ drop n old
+past words old new n s e =
+    ap₂ drop (sym s) e ∙ after words (drop (length words) old) ∙ ap (λ (k : ℕ). drop k old) s
+  where
+    after : (words more : List ℕ) → drop (length words) (words ++ more) ≡ more
+    after [] more = refl
+    after (w ∷ words) more = after words more
+
 -- ---- what `build` answers and leaves
 module _ (cs : List ℤ) (ks rows taps : List ℕ) where
   pub can-give : CanBuildInto cs ks rows taps → buildAnswer cs ks rows taps ≡ given (built cs ks)
@@ -103,7 +112,8 @@ module _ (cs : List ℤ) (ks rows taps : List ℕ) where
       let b = c .can-build in
       network-given cs ks rows taps (c .some) (b .few) (not-short cs ks rows taps (b .enough) (c .rows-long) (c .taps-long)) (exist-forms cs ks (b .enough) (b .forms))
 
-  pub tables-hold : (a : Answer ℕ) (rows′ taps′ : List ℕ) → CanBuildInto cs ks rows taps → BuiltInto cs ks rows taps a rows′ taps′ → HoldsNetwork cs ks a rows′ taps′
+  pub tables-hold : (a : Answer ℕ) (rows′ taps′ : List ℕ) → CanBuildInto cs ks rows taps → BuiltInto cs ks rows taps a rows′ taps′
+      → HoldsNetwork cs ks rows taps a rows′ taps′
   tables-hold a rows′ taps′ c left =
       let e = can-give c in
       record {
@@ -114,6 +124,12 @@ module _ (cs : List ℤ) (ks rows taps : List ℕ) where
         passes =
             ap₂ (λ (u v : List ℕ). networkAnswer false u (length (built cs ks .rows)) v (length cs)) (left .rows-left) (left .taps-left)
             ∙ built-accepted cs ks rows taps (built cs ks) e (c .can-build .bounds);
+        rows-past =
+            past (wordsOfRows (built cs ks .rows)) rows rows′ _ (length-row-words (built cs ks .rows))
+            (left .rows-left ∙ ap (λ (x : Answer Network). filled x (wordsOfRows (built cs ks .rows)) rows) e);
+        taps-past =
+            past (wordsOfTapRows (built cs ks .taps)) taps taps′ _ (length-tap-words (built cs ks .taps) ∙ ap (λ (n : ℕ). tapWords * n) (length-built-taps cs ks))
+            (left .taps-left ∙ ap (λ (x : Answer Network). filled x (wordsOfTapRows (built cs ks .taps)) taps) e);
       }
 
   pub given-only : (n : ℕ) (rows′ taps′ : List ℕ) → ((i : ℕ) → i < length cs → Coefficient (getD cs i (pos 0))) → BuiltInto cs ks rows taps (given n) rows′ taps′

@@ -10,6 +10,7 @@ use Rattle.building.proofs.TheStep.{the-step}
 use Rattle.building.proofs.TheRows.{the-rows}
 use Rattle.building.proofs.TapRow.{tap-row}
 use Rattle.building.proofs.Passes.{built-few, built-passes}
+use Rattle.building.proofs.Refusals.{built-refusals}
 use Rattle.building.proofs.BuiltTables.{tables-hold, given-only, tables-untouched}
 
 pub building-claims : BuildingClaims
@@ -29,5 +30,6 @@ building-claims = record {
   built-few = built-few;
   built-accepted = tables-hold;
   built-only = given-only;
+  built-refusals = λ cs ks rows taps number place rows′ taps′ left. built-refusals cs ks rows taps number place (left .answer);
   built-refused = tables-untouched;
 }

@@ -1,6 +1,6 @@
 -- The figures of specs/Figures.antt: `building-figures`. Networks are built by computation. Assumes nothing.
 use mathlib.Core.Path.{_≡_, refl, sym, ap, ap₂, _∙_, subst}
-use mathlib.Core.Bool.{false, not}
+use mathlib.Core.Bool.{false, not, cond}
 use mathlib.Core.List.{List, [], _∷_}
 use Prim.Native.Nat.{ℕ, zero, suc, _*_, _≤_, _<_}
 use native.Mathlib.Omega.{arith}
@@ -10,8 +10,9 @@ use lib.Dec.{ltb}
 use lib.IntN.{pos}
 use lib.ListN.{length, getD, drop}
 use Rattle.word.specs.Bounds.{Coefficient}
-use Rattle.refusal.specs.Answer.{Answer, given, refused, filled, lowestFrom}
+use Rattle.refusal.specs.Answer.{Answer, given, refused, at-place, filled, lowestFrom}
 use Rattle.sequence.specs.UpTo.{upTo}
+use Rattle.signed_digit.specs.String.{DigitString}
 use Rattle.signed_digit.specs.CanonicalForm.{canonicalNat}
 use Rattle.signed_digit.specs.Forms.{listing}
 use Rattle.signed_digit.proofs.Figures.{figures}
@@ -22,7 +23,7 @@ use Rattle.building.specs.Parts.{leastWeight, comesBefore, insert, inser
 use Rattle.building.specs.Search.{rowWith, fit, orElse, firstOver, rowOver, tried, fitAtShift, fitAtLeft, firstFit}
 use Rattle.building.specs.Steps.{firstRow, searched, lookedUp, step, steps, builtRows}
 use Rattle.building.specs.TapRows.{tapRowOf, built}
-use Rattle.building.specs.Answer.{noSuchForm, buildAnswer, rowCount}
+use Rattle.building.specs.Answer.{choicesOf, noSuchForm, missingForm, buildAnswer, rowCount}
 use Rattle.building.specs.Tables.{wordsOfRows, wordsOfTapRows}
 use Rattle.building.specs.PartOrder.{PartsInOrder}
 use Rattle.building.specs.RowSteps.{FirstFit, Lawful}
@@ -32,6 +33,7 @@ use Rattle.building.specs.Figures.{sheetChoices, rowThen, sheetNetwork, 
 use Rattle.building.proofs.PartsInOrder.{parts-in-order}
 use Rattle.building.proofs.FirstFit.{fit-is-first}
 use Rattle.building.proofs.Passes.{rows-built}
+use Rattle.building.proofs.Answers.{no-form, not-short}
 use Rattle.building.proofs.BuiltTables.{can-give}
 
 -- document 01's 3, -6, 45, 0
@@ -108,6 +110,22 @@ into rows taps r t =
       taps-left = sym (ap₂ (λ (a : Answer Network) (net : Network). filled a (wordsOfTapRows (net .taps)) taps) e example);
     }
 
+missing : missingForm (pos 3 ∷ pos 3 ∷ pos 0 ∷ []) (0 ∷ 2 ∷ 1 ∷ []) ≡ at-place 1
+unfolding lowestFrom choicesOf noSuchForm partsOf oddPartOf shiftOf trailingZeros
+missing = ap (λ (forms : List DigitString). cond (not (ltb 0 (length forms))) (at-place 0) (cond (not (ltb 2 (length forms))) (at-place 1) (at-place 2))) (figures .of-3)
+
+no-third-form : (rows taps : List ℕ) → 4096 * rowWords ≤ length rows → 256 * tapWords ≤ length taps
+    → BuiltInto (pos 3 ∷ pos 3 ∷ pos 0 ∷ []) (0 ∷ 2 ∷ 1 ∷ []) rows taps (refused 9 1) rows taps
+no-third-form rows taps r t =
+    let cs = pos 3 ∷ pos 3 ∷ pos 0 ∷ [] in
+    let ks : List ℕ = 0 ∷ 2 ∷ 1 ∷ [] in
+    let e = no-form cs ks rows taps (omega arith) (omega arith) 1 (not-short cs ks rows taps (omega arith) r t) missing in
+    record {
+      answer = sym (ap rowCount e);
+      rows-left = sym (ap (λ (a : Answer Network). filled a (wordsOfRows (built cs ks .rows)) rows) e);
+      taps-left = sym (ap (λ (a : Answer Network). filled a (wordsOfTapRows (built cs ks .taps)) taps) e);
+    }
+
 no-taps : (rows taps : List ℕ) → BuiltInto [] [] rows taps (refused 1 0) rows taps
 unfolding buildAnswer
 no-taps rows taps = record { answer = refl; rows-left = refl; taps-left = refl }
@@ -124,5 +142,6 @@ building-figures = record {
   sheet-lawful = lawful;
   sheet-first-fit = first-fit;
   sheet-into = into;
+  no-third-form = no-third-form;
   no-taps = no-taps;
 }

@@ -4,6 +4,7 @@ pub mod Figures
 -- What they rest on, and the proofs of the crates above may cite:
 pub mod Passes
 pub mod BuiltTables
+pub mod Refusals
 pub mod TheRows
 pub mod TheStep
 pub mod PartsInOrder

@@ -9,11 +9,11 @@ use lib.Dec.{leb}
 use lib.ListN.{length}
 use Rattle.refusal.specs.Answer.{Place, nowhere, at-place, lowest}
 use Rattle.refusal.proofs.Checks.{lowest-none-at}
+use Rattle.refusal.proofs.Lowest.{lowest-is}
 use Rattle.network.specs.declared.Row.{Row}
 use Rattle.network.specs.Rows.{rowIn, noRow}
 use Rattle.network.specs.RowRule.{isWorked, lifted}
 use Rattle.building.specs.Search.{fit, none-fits, rowOver, tried}
-use Rattle.building.proofs.Lookup.{lowest-is}
 use Rattle.building.proofs.FirstOver.{not-both}
 
 module _ (rows : List Row) (v left shift sign : ℕ) where

@@ -11,11 +11,16 @@ use Rattle.signed_digit.specs.String.{DigitString}
 use Rattle.signed_digit.specs.Weight.{weight}
 use Rattle.signed_digit.specs.Minimal.{Minimal}
 use Rattle.signed_digit.specs.Forms.{listing}
-use Rattle.coefficient.specs.Parts.{partsOf}
+use Rattle.coefficient.specs.Parts.{Parts, no-odd-part, parts, partsOf}
 use Rattle.network.specs.Rows.{rowWords, tapWords}
 use Rattle.building.specs.Parts.{Part}
 use Rattle.building.specs.Chain.{chainValue, chainEnd}
 use Rattle.building.specs.Answer.{noSuchForm}
+
+-- "any choice of one listed form per tap": its number is below the form count of the tap's odd part; a zero tap has none, and its choice is 0
+abbrev pub Listed : Parts → ℕ → Type 0
+Listed no-odd-part choice = choice ≡ 0
+Listed (parts sign oddPart shift) choice = choice < length (listing 32 (pos oddPart))
 
 -- at most 256 coefficients, each a coefficient within bounds, with a choice of one listed form per tap
 pub record CanBuild (coefficients : List ℤ) (choices : List ℕ) : Type 0 where

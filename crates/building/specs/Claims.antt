@@ -1,7 +1,9 @@
 -- What is claimed of building: of its steps, and of the tables that `build` leaves. proofs/Claims.antt proves it. Definitions only.
 use mathlib.Core.Path.{_≡_}
+use mathlib.Core.Bool.{Bool}
 use mathlib.Core.List.{List}
 use Prim.Native.Nat.{ℕ, _%_, _^_, _≤_, _<_}
+use lib.Dec.{ltb}
 use lib.IntN.{ℤ, pos}
 use lib.ListN.{length, getD}
 use Rattle.word.specs.Bounds.{Coefficient}
@@ -17,6 +19,7 @@ use Rattle.network.specs.RowRule.{LaterRow}
 use Rattle.network.specs.Coefficients.{coefficientOf}
 use Rattle.network.specs.TapRowRule.{TapRowRule}
 use Rattle.network.specs.Check.{checked}
+use Rattle.network.specs.Claims.{UnderLength, TablesFit}
 use Rattle.building.specs.Parts.{Part, leastWeight, partsToBuild}
 use Rattle.building.specs.Search.{fit, none-fits, firstFit}
 use Rattle.building.specs.Chain.{chosenForm, chained}
@@ -24,7 +27,7 @@ use Rattle.building.specs.Steps.{step, builtRows}
 use Rattle.building.specs.TapRows.{tapRowOf, built}
 use Rattle.building.specs.PartOrder.{HasOddPart, PartsInOrder}
 use Rattle.building.specs.RowSteps.{FirstFit, Lawful, HasRow, TheStep, Growth, TheRows}
-use Rattle.building.specs.CanBuild.{CanBuild, CanBuildInto, Buildable, Chosen}
+use Rattle.building.specs.CanBuild.{Listed, CanBuild, CanBuildInto, Buildable, Chosen}
 use Rattle.building.specs.Built.{BuiltInto, HoldsNetwork}
 
 -- the tap row t of the coefficient n
@@ -36,6 +39,29 @@ pub record TapOf (rows : List Row) (n : ℤ) (t : TapRow) : Type 0 where
 pub record Untouched (rows taps rows′ taps′ : List ℕ) : Type 0 where
   pub rows-left : rows′ ≡ rows
   pub taps-left : taps′ ≡ taps
+
+-- "choice not below the number of forms": of tap k, and of no lower one
+pub record LowestChoice (coefficients : List ℤ) (choices : List ℕ) (k : ℕ) : Type 0 where
+  pub within : k < length coefficients
+  pub unlisted : Listed (partsOf (getD coefficients k (pos 0))) (getD choices k 0) → ⊥
+  pub listed : (i : ℕ) → i < k → Listed (partsOf (getD coefficients i (pos 0))) (getD choices i 0)
+
+-- "choices .. one per tap": the table of choices is under its length
+abbrev pub fewChoices : List ℤ → List ℕ → Bool
+fewChoices coefficients choices = ltb (length choices) (length coefficients)
+
+-- "Turned down": what a number and a place mean that `build` returns; it returns no others
+pub data BuildRefusals (coefficients : List ℤ) (choices rows taps : List ℕ) (number place : ℕ) : Type 0 where
+  -- "1, place 0: no taps"
+  no-coefficients : number ≡ 1 → place ≡ 0 → length coefficients ≡ 0 → BuildRefusals coefficients choices rows taps number place
+  -- "2, place 0: more than 256 taps"
+  too-many-coefficients : number ≡ 2 → place ≡ 0 → 256 < length coefficients → BuildRefusals coefficients choices rows taps number place
+  -- "3, place 0: a lent table is under its length"
+  table-short : number ≡ 3 → place ≡ 0 → 1 ≤ length coefficients → length coefficients ≤ 256 → UnderLength (fewChoices coefficients choices) rows taps
+      → BuildRefusals coefficients choices rows taps number place
+  -- "9, tap: choice not below the number of forms"
+  no-such-form : number ≡ 9 → TablesFit (fewChoices coefficients choices) rows taps (length coefficients) → LowestChoice coefficients choices place
+      → BuildRefusals coefficients choices rows taps number place
 
 pub record BuildingClaims : Type 0 where
   -- ---- "take the distinct odd parts by least weight, then by smaller value"; "For equal odd parts the earliest tap's choice is used."
@@ -63,13 +89,18 @@ pub record BuildingClaims : Type 0 where
   -- ---- the network: it passes the checks, and its coefficients are those given; nothing runs out
   pub built-passes : (coefficients : List ℤ) (choices : List ℕ) → CanBuild coefficients choices → checked (built coefficients choices) ≡ given coefficients
   pub built-few : (coefficients : List ℤ) (choices : List ℕ) → CanBuild coefficients choices → length (built coefficients choices .rows) ≤ 3841
-  -- ---- the tables that `build` leaves: it accepts what can be built, returns the number of rows, and the tables hold the network
+  -- ---- the tables that `build` leaves: it accepts what can be built ("a number is returned in no other circumstances"), returns the number of rows,
+  -- and the tables hold the network
   pub built-accepted : (coefficients : List ℤ) (choices rows taps : List ℕ) (a : Answer ℕ) (rows′ taps′ : List ℕ)
-      → CanBuildInto coefficients choices rows taps → BuiltInto coefficients choices rows taps a rows′ taps′ → HoldsNetwork coefficients choices a rows′ taps′
-  -- "a number is returned in no other circumstances": it accepts nothing else
+      → CanBuildInto coefficients choices rows taps → BuiltInto coefficients choices rows taps a rows′ taps′
+      → HoldsNetwork coefficients choices rows taps a rows′ taps′
+  -- it accepts nothing else
   pub built-only : (coefficients : List ℤ) (choices rows taps : List ℕ) (n : ℕ) (rows′ taps′ : List ℕ)
       → ((i : ℕ) → i < length coefficients → Coefficient (getD coefficients i (pos 0)))
       → BuiltInto coefficients choices rows taps (given n) rows′ taps′ → CanBuildInto coefficients choices rows taps
+  -- "The first that applies is returned, with the lowest place that breaks it": what a refusal means
+  pub built-refusals : (coefficients : List ℤ) (choices rows taps : List ℕ) (number place : ℕ) (rows′ taps′ : List ℕ)
+      → BuiltInto coefficients choices rows taps (refused number place) rows′ taps′ → BuildRefusals coefficients choices rows taps number place
   -- "unchanged"
   pub built-refused : (coefficients : List ℤ) (choices rows taps : List ℕ) (number place : ℕ) (rows′ taps′ : List ℕ)
       → BuiltInto coefficients choices rows taps (refused number place) rows′ taps′ → Untouched rows taps rows′ taps′

@@ -55,4 +55,7 @@ pub record BuildingFigures : Type 0 where
   -- tables that `build` leaves, and those that it leaves alone
   pub sheet-into : (rows taps : List ℕ) → 4096 * rowWords ≤ length rows → 256 * tapWords ≤ length taps
       → BuiltInto sheetCoefficients sheetChoices rows taps (given 3) (sheetRows (drop 15 rows)) (sheetTapRows (drop 12 taps))
+  -- 3 has two forms and 0 has one: the second and the third choice are not listed, and the lower one is returned
+  pub no-third-form : (rows taps : List ℕ) → 4096 * rowWords ≤ length rows → 256 * tapWords ≤ length taps
+      → BuiltInto (pos 3 ∷ pos 3 ∷ pos 0 ∷ []) (0 ∷ 2 ∷ 1 ∷ []) rows taps (refused 9 1) rows taps
   pub no-taps : (rows taps : List ℕ) → BuiltInto [] [] rows taps (refused 1 0) rows taps

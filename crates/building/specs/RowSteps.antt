@@ -94,7 +94,7 @@ pub record TheRows (coefficients : List ℤ) (rows : List Row) : Type 0 where
   pub value : (i : ℕ) → i < length rows → RowValue (rowIn rows i .value)
   -- no two rows have one value
   pub distinct : (i j : ℕ) → i < length rows → j < length rows → rowIn rows i .value ≡ rowIn rows j .value → i ≡ j
-  -- every later row is the first fit for its value over the rows before it, or a chain's
+  -- every later row is the first fit for its value over the rows before it, or 2^s·left ± 1 with row 0 on the right
   pub later : (i : ℕ) → 0 < i → i < length rows → LaterBy (take i rows) (rowIn rows i)
   -- every odd part has a row
   pub has : (i v : ℕ) → i < length coefficients → HasOddPart (getD coefficients i (pos 0)) v → HasRow rows v

@@ -7,7 +7,7 @@ use Rattle.refusal.specs.Answer.{Answer}
 use Rattle.running.specs.Run.{Ran}
 use Rattle.fir_words.specs.Words.{refusalWord}
 
--- the word that C receives is that of an answer with which `run` may leave r′ and o′
+-- the word that C receives is that of an answer with which `run` may leave r′ and o′: the contract of `fir_run`
 pub record RanWord (rows : List ℕ) (rowCount : ℕ) (taps : List ℕ) (tapCount : ℕ) (samples : List ℤ) (r : List ℕ) (o : List ℤ) (received : ℕ) (r′ : List ℕ) (o′ : List ℤ)
     : Type 0 where
   pub answer : Answer (Unit {0})

@@ -1,34 +1,26 @@
 -- Demand 3 whole, proved.
-use mathlib.Core.Path.{_≡_, sym, ap, subst}
-use mathlib.Core.Bool.{false, not}
+use mathlib.Core.Path.{_≡_, sym, subst}
 use mathlib.Core.List.{List}
 use Prim.Native.Nat.{ℕ, _*_, _≤_}
-use borrow.Author.Tests.{eq-eqb, lt-ltb}
 use lib.IntN.{ℤ, pos}
 use lib.ListN.{length, getD}
 use Rattle.refusal.specs.Answer.{Answer, given}
-use Rattle.signed_digit.specs.Forms.{listing}
-use Rattle.coefficient.specs.Parts.{Parts, no-odd-part, parts, partsOf}
+use Rattle.coefficient.specs.Parts.{partsOf}
 use Rattle.signed_digit.proofs.Claims.{digit-claims}
 use Rattle.network.specs.Rows.{Network, rowWords, tapWords}
 use Rattle.building.specs.TapRows.{built}
-use Rattle.building.specs.Answer.{noSuchForm, buildAnswer}
+use Rattle.building.specs.Answer.{buildAnswer}
 use Rattle.building.specs.CanBuild.{CanBuildInto}
 use Rattle.building.specs.Built.{BuiltInto, HoldsNetwork}
+use Rattle.building.proofs.Refusals.{has-form}
 use Rattle.building.proofs.BuiltTables.{can-give}
 use Rattle.building.proofs.Claims.{building-claims}
 use Rattle.running.specs.Memory.{Step}
 use Rattle.running.specs.Demand.{Calls, Demand}
 use Rattle.running.proofs.Theorem.{running-sums}
-use Rattle.guarantee.specs.Demand3.{Listed, Taken, Guaranteed, Demand3}
+use Rattle.guarantee.specs.Demand3.{Taken, Guaranteed, Demand3}
 
--- a choice that is listed is one of the forms
-has-form : (p : Parts) (choice : ℕ) → Listed p choice → noSuchForm p choice ≡ false
-unfolding noSuchForm
-has-form no-odd-part choice l = ap not (eq-eqb choice 0 l)
-has-form (parts sign oddPart shift) choice l = ap not (lt-ltb choice (length (listing 32 (pos oddPart))) l)
-
--- so demand 3 takes what can be built
+-- demand 3 takes what can be built
 builds : (cs : List ℤ) (ks rows taps : List ℕ) → Taken cs ks → 4096 * rowWords ≤ length rows → 256 * tapWords ≤ length taps → CanBuildInto cs ks rows taps
 builds cs ks rows taps t rows-long taps-long = record {
   some = t .from-1;
@@ -47,7 +39,7 @@ can-build cs ks rows taps t rows-long taps-long = can-give cs ks rows taps (buil
 
 module _ (cs : List ℤ) (ks rows taps : List ℕ) (answer : Answer ℕ) (rows′ taps′ : List ℕ) (t : Taken cs ks) (rows-long : 4096 * rowWords ≤ length rows)
     (taps-long : 256 * tapWords ≤ length taps) (left : BuiltInto cs ks rows taps answer rows′ taps′) where
-  hold : HoldsNetwork cs ks answer rows′ taps′
+  hold : HoldsNetwork cs ks rows taps answer rows′ taps′
   hold = building-claims .built-accepted cs ks rows taps answer rows′ taps′ (builds cs ks rows taps t rows-long taps-long) left
 
   sums : (calls : List Step) → Calls (built cs ks) calls → Demand cs (built cs ks) calls

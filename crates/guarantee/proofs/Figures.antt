@@ -14,6 +14,7 @@ use Rattle.tap.proofs.Figures.{tap-figures}
 use Rattle.network.specs.Rows.{Network, rowWords, tapWords}
 use Rattle.building.specs.TapRows.{built}
 use Rattle.building.specs.Answer.{buildAnswer, rowCount}
+use Rattle.building.specs.CanBuild.{Listed}
 use Rattle.building.specs.Tables.{wordsOfRows, wordsOfTapRows}
 use Rattle.building.proofs.Figures.{example}
 use Rattle.building.specs.Built.{BuiltInto}
@@ -24,7 +25,7 @@ use Rattle.running.specs.Memory.{cleared}
 use Rattle.running.specs.Demand.{Calls}
 use Rattle.guarantee.proofs.SheetCalls as Called
 use Rattle.guarantee.proofs.SheetFilter as Running
-use Rattle.guarantee.specs.Demand3.{Listed, Taken}
+use Rattle.guarantee.specs.Demand3.{Taken}
 use Rattle.network.specs.Figures.{sheetCoefficients}
 use Rattle.building.specs.Figures.{sheetChoices}
 use Rattle.guarantee.specs.Sheet.{sheetSamples, storedNetwork, fourCalls}

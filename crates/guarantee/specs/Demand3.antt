@@ -7,20 +7,15 @@ use lib.IntN.{ℤ, pos}
 use lib.ListN.{length, getD}
 use Rattle.refusal.specs.Answer.{Answer, given}
 use Rattle.word.specs.Bounds.{Coefficient}
-use Rattle.signed_digit.specs.Forms.{listing}
 use Rattle.signed_digit.specs.Listed.{FormsListed}
 use Rattle.signed_digit.specs.Claims.{Written}
-use Rattle.coefficient.specs.Parts.{Parts, no-odd-part, parts, partsOf}
+use Rattle.coefficient.specs.Parts.{partsOf}
 use Rattle.network.specs.Rows.{networkOf, rowWords, tapWords}
 use Rattle.building.specs.TapRows.{built}
+use Rattle.building.specs.CanBuild.{Listed}
 use Rattle.building.specs.Built.{BuiltInto}
 use Rattle.running.specs.Memory.{Step}
 use Rattle.running.specs.Demand.{Calls, Demand}
-
--- "any choice of one listed form per tap": its number is below the form count of the tap's odd part; a zero tap has none, and its choice is 0
-abbrev pub Listed : Parts → ℕ → Type 0
-Listed no-odd-part choice = choice ≡ 0
-Listed (parts sign oddPart shift) choice = choice < length (listing 32 (pos oddPart))
 
 -- "Take any 1 to 256 coefficients, any choice of one listed form per tap"
 pub record Taken (coefficients : List ℤ) (choices : List ℕ) : Type 0 where

@@ -13,8 +13,9 @@ use Rattle.network.specs.Coefficients.{coefficients}
 use Rattle.network.specs.Check.{networkAnswer, outcome}
 use Rattle.network.specs.Accepted.{Accepted}
 use Rattle.network.specs.Checked.{NetworkChecked, CoefficientsRead}
-use Rattle.network.specs.Claims.{NetworkClaims}
+use Rattle.network.specs.Claims.{NetworkRefusals, NetworkClaims}
 use Rattle.network.proofs.Rules.{row-rule, row-kept, tap-rule, tap-kept}
+use Rattle.network.proofs.Refusals.{network-refusals, outcome-refusals}
 use Rattle.network.proofs.Passed.{given-accepted, accepted-given}
 use Rattle.network.proofs.Given.{length-coefficients, coefficient-is, given-is, given-within, same-coefficients}
 use Rattle.network.proofs.Evaluation.{rows-multiply, taps-multiply}
@@ -33,6 +34,13 @@ untouched (given h) number place results old e = absurd (let z : _≡_ {A = ℕ}
 untouched (refused n p) number place results old e = refl
 
 module _ (rows : List ℕ) (n : ℕ) (taps : List ℕ) (m : ℕ) where
+  check-refusals : (number place : ℕ) → NetworkChecked rows n taps m (refused number place) → NetworkRefusals false rows n taps m number place
+  check-refusals number place c = outcome-refusals false rows n taps m number place (c .answer)
+
+  read-refusals : (table table′ : List ℤ) (number place : ℕ) → CoefficientsRead rows n taps m table (refused number place) table′
+      → NetworkRefusals (ltb (length table) m) rows n taps m number place
+  read-refusals table table′ number place c = outcome-refusals (ltb (length table) m) rows n taps m number place (c .answer)
+
   abbrev its : List ℤ
   its = coefficients (networkOf rows n taps m)
 
@@ -75,6 +83,9 @@ network-claims = record {
   accepted-given = accepted-given;
   check-passes = check-passes;
   check-accepts = check-accepts;
+  check-refusals = check-refusals;
+  read-refusals = read-refusals;
+  network-refusals = network-refusals;
   read-passes = read-passes;
   read-accepts = read-accepts;
   read-table = read-table;

@@ -8,10 +8,10 @@ use borrow.Author.Tests.{le-ltb}
 use lib.Dec.{ltb}
 use lib.IntN.{ℤ, pos, negℤ}
 use lib.ListN.{length}
-use Rattle.refusal.specs.Answer.{Answer, given, refused, filled, lowestFrom}
+use Rattle.refusal.specs.Answer.{Answer, given, filled, lowestFrom}
 use Rattle.refusal.proofs.Checks.{check-passes}
 use Rattle.sequence.specs.UpTo.{upTo}
-use Rattle.network.specs.Rows.{plus, minus, rowWords, tapWords, networkOf}
+use Rattle.network.specs.Rows.{rowWords, tapWords, networkOf}
 use Rattle.network.specs.RowRule.{keepsRowRule}
 use Rattle.network.specs.Coefficients.{coefficientOf, coefficients}
 use Rattle.network.specs.TapRowRule.{keepsTapRowRule}
@@ -19,7 +19,8 @@ use Rattle.network.specs.Check.{checked, shortTables, networkAnswer, out
 use Rattle.network.specs.Accepted.{KeepsRules, Accepted}
 use Rattle.network.specs.Checked.{NetworkChecked, CoefficientsRead}
 use Rattle.network.specs.Evaluation.{rowResults, tapResults}
-use Rattle.network.specs.Figures.{row, tap, sheetRows, sheetTapRows, sheetCoefficients, NetworkFigures}
+use Rattle.network.specs.Figures.{sheetRows, sheetTapRows, sheetCoefficients, NetworkFigures}
+use Rattle.network.proofs.NearFigures.{own-row, two-broken-rows, rows-before-taps, two-broken-taps, no-row, no-such-row, least, too-large, above-2^31}
 use Rattle.network.proofs.Passed.{checked-passed, given-accepted}
 
 -- it passes, whatever stands past it in the tables
@@ -38,32 +39,6 @@ sheet-network r t l m =
 pub sheet-sample : (r t : List ℕ) → tapResults (networkOf (sheetRows r) 3 (sheetTapRows t) 4) (pos 7) ≡ pos 21 ∷ negℤ (pos 42) ∷ pos 315 ∷ pos 0 ∷ []
 unfolding rowResults upTo
 sheet-sample r t = refl
-
--- ---- near it: each breaks one rule
-
--- row 2 names itself
-pub own-row : checked (networkOf (row 0 0 0 plus 1 (row 0 0 1 plus 3 (row 2 1 4 minus 45 []))) 3 (sheetTapRows []) 4) ≡ refused 10 2
-unfolding checked upTo lowestFrom keepsRowRule
-own-row = refl
-
--- the third tap names row 2 of two rows
-pub no-such-row : checked (networkOf (sheetRows []) 2 (sheetTapRows []) 4) ≡ refused 11 2
-unfolding checked upTo lowestFrom keepsRowRule keepsTapRowRule coefficientOf
-no-such-row = refl
-
--- 2^31 - 5 = 2^30·3 - (2^30 + 5): 2^s·left is above 2^31 and the row is a good one
-pub above-2^31 : checked (networkOf (row 0 0 0 plus 1 (row 0 0 1 plus 3 (row 0 0 2 plus 5 (row 0 2 30 plus 1073741829 (row 1 3 30 minus 2147483643 []))))) 5 (tap plus 4 0 []) 1) ≡ given (pos 2147483643 ∷ [])
-unfolding checked upTo lowestFrom keepsRowRule keepsTapRowRule coefficientOf
-above-2^31 = refl
-
--- 2^31 is a coefficient with the sign `-` alone
-pub least : checked (networkOf (sheetRows []) 3 (tap minus 0 31 []) 1) ≡ given (negℤ (pos 2147483648) ∷ [])
-unfolding checked upTo lowestFrom keepsRowRule keepsTapRowRule coefficientOf
-least = refl
-
-pub too-large : checked (networkOf (sheetRows []) 3 (tap plus 0 31 []) 1) ≡ refused 11 0
-unfolding checked upTo lowestFrom keepsRowRule keepsTapRowRule coefficientOf
-too-large = refl
 
 -- ---- the hypotheses of the claims hold of the sheet's network
 module _ (r t : List ℕ) where
@@ -99,6 +74,10 @@ network-figures = record {
   sheet-read = sheet-read;
   sheet-sample = sheet-sample;
   own-row = own-row;
+  two-broken-rows = two-broken-rows;
+  rows-before-taps = rows-before-taps;
+  two-broken-taps = two-broken-taps;
+  no-row = no-row;
   no-such-row = no-such-row;
   least = least;
   too-large = too-large;

@@ -1,5 +1,5 @@
 -- What is claimed of networks, of checking them and of reading their coefficients. proofs/Claims.antt proves it. Definitions only.
-use Prim.Native.Nat.{ℕ, _<_}
+use Prim.Native.Nat.{ℕ, _*_, _≤_, _<_}
 use mathlib.Core.Path.{_≡_}
 use mathlib.Core.Bool.{Bool, true, false}
 use mathlib.Core.List.{List, _++_, map}
@@ -10,7 +10,7 @@ use Rattle.word.specs.Bounds.{Coefficient}
 use Rattle.refusal.specs.Answer.{Answer, given, refused}
 use Rattle.network.specs.declared.Row.{Row}
 use Rattle.network.specs.declared.TapRow.{TapRow}
-use Rattle.network.specs.Rows.{Network, networkOf, rowIn, tapRowIn}
+use Rattle.network.specs.Rows.{Network, rowWords, tapWords, networkOf, rowIn, tapRowIn}
 use Rattle.network.specs.RowRule.{RowRule, keepsRowRule}
 use Rattle.network.specs.Coefficients.{coefficientOf, coefficients}
 use Rattle.network.specs.TapRowRule.{TapRowRule, keepsTapRowRule}
@@ -18,6 +18,57 @@ use Rattle.network.specs.Check.{networkAnswer}
 use Rattle.network.specs.Accepted.{KeepsRules, Accepted}
 use Rattle.network.specs.Checked.{NetworkChecked, CoefficientsRead}
 use Rattle.network.specs.Evaluation.{rowResults, tapResults}
+
+-- "a lent table is under its length: .. rows 4,096, tap rows .. 256", or another of the entry's is
+pub data UnderLength (short : Bool) (rows taps : List ℕ) : Type 0 where
+  rows-short : length rows < 4096 * rowWords → UnderLength short rows taps
+  taps-short : length taps < 256 * tapWords → UnderLength short rows taps
+  another-short : short ≡ true → UnderLength short rows taps
+
+-- the checks before those of the network pass: 1 to 256 taps, and no table under its length
+pub record TablesFit (short : Bool) (rows taps : List ℕ) (tapCount : ℕ) : Type 0 where
+  pub taps-from : 1 ≤ tapCount
+  pub taps-to : tapCount ≤ 256
+  pub rows-long : 4096 * rowWords ≤ length rows
+  pub taps-long : 256 * tapWords ≤ length taps
+  pub others-long : short ≡ false
+
+-- "row rule broken": by row k, and by no lower one
+pub record LowestRow (net : Network) (k : ℕ) : Type 0 where
+  pub rows-from : 1 ≤ length (net .rows)
+  pub rows-to : length (net .rows) ≤ 4096
+  pub within : k < length (net .rows)
+  pub broken : RowRule (net .rows) k → ⊥
+  pub kept : (i : ℕ) → i < k → RowRule (net .rows) i
+
+-- "tap row rule broken": by tap row k, and by no lower one, all rows keeping theirs
+pub record LowestTapRow (net : Network) (k : ℕ) : Type 0 where
+  pub rows-from : 1 ≤ length (net .rows)
+  pub rows-to : length (net .rows) ≤ 4096
+  pub rows-kept : (i : ℕ) → i < length (net .rows) → RowRule (net .rows) i
+  pub within : k < length (net .taps)
+  pub broken : TapRowRule (net .rows) (tapRowIn (net .taps) k) → ⊥
+  pub kept : (j : ℕ) → j < k → TapRowRule (net .rows) (tapRowIn (net .taps) j)
+
+-- "Turned down": what a number and a place mean that an entry returns which is handed a network; it returns no others
+pub data NetworkRefusals (short : Bool) (rows : List ℕ) (rowCount : ℕ) (taps : List ℕ) (tapCount number place : ℕ) : Type 0 where
+  -- "1, place 0: no taps"
+  no-taps : number ≡ 1 → place ≡ 0 → tapCount ≡ 0 → NetworkRefusals short rows rowCount taps tapCount number place
+  -- "2, place 0: more than 256 taps"
+  too-many-taps : number ≡ 2 → place ≡ 0 → 256 < tapCount → NetworkRefusals short rows rowCount taps tapCount number place
+  -- "3, place 0: a lent table is under its length"
+  short-table : number ≡ 3 → place ≡ 0 → 1 ≤ tapCount → tapCount ≤ 256 → UnderLength short rows taps
+      → NetworkRefusals short rows rowCount taps tapCount number place
+  -- "10, row: .. row count 0 or over 4,096 gives place 0"
+  no-rows : number ≡ 10 → place ≡ 0 → TablesFit short rows taps tapCount → rowCount ≡ 0 → NetworkRefusals short rows rowCount taps tapCount number place
+  too-many-rows : number ≡ 10 → place ≡ 0 → TablesFit short rows taps tapCount → 4096 < rowCount
+      → NetworkRefusals short rows rowCount taps tapCount number place
+  -- "10, row: row rule broken"
+  row-broken : number ≡ 10 → TablesFit short rows taps tapCount → LowestRow (networkOf rows rowCount taps tapCount) place
+      → NetworkRefusals short rows rowCount taps tapCount number place
+  -- "11, tap: tap row rule broken"
+  tap-row-broken : number ≡ 11 → TablesFit short rows taps tapCount → LowestTapRow (networkOf rows rowCount taps tapCount) place
+      → NetworkRefusals short rows rowCount taps tapCount number place
 
 pub record NetworkClaims : Type 0 where
   -- ---- the computed rules are the rules in document 01's words
@@ -35,6 +86,15 @@ pub record NetworkClaims : Type 0 where
       → Accepted false rows rowCount taps tapCount (coefficients (networkOf rows rowCount taps tapCount))
   pub check-accepts : (rows : List ℕ) (rowCount : ℕ) (taps : List ℕ) (tapCount : ℕ) (h : List ℤ) → Accepted false rows rowCount taps tapCount h
       → (a : Answer (Unit {0})) → NetworkChecked rows rowCount taps tapCount a → a ≡ given tt
+  -- ---- "The first that applies is returned, with the lowest place that breaks it": what a refusal means, of checking, of reading and of any other
+  -- entry that is handed a network
+  pub check-refusals : (rows : List ℕ) (rowCount : ℕ) (taps : List ℕ) (tapCount number place : ℕ)
+      → NetworkChecked rows rowCount taps tapCount (refused number place) → NetworkRefusals false rows rowCount taps tapCount number place
+  pub read-refusals : (rows : List ℕ) (rowCount : ℕ) (taps : List ℕ) (tapCount : ℕ) (table table′ : List ℤ) (number place : ℕ)
+      → CoefficientsRead rows rowCount taps tapCount table (refused number place) table′
+      → NetworkRefusals (ltb (length table) tapCount) rows rowCount taps tapCount number place
+  pub network-refusals : (short : Bool) (rows : List ℕ) (rowCount : ℕ) (taps : List ℕ) (tapCount number place : ℕ)
+      → networkAnswer short rows rowCount taps tapCount ≡ refused number place → NetworkRefusals short rows rowCount taps tapCount number place
   -- ---- reading the coefficients: the same, and "elements past those that the result fills are untouched"; "unchanged" on a refusal
   pub read-passes : (rows : List ℕ) (rowCount : ℕ) (taps : List ℕ) (tapCount : ℕ) (table table′ : List ℤ)
       → CoefficientsRead rows rowCount taps tapCount table (given tt) table′

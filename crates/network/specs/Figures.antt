@@ -47,6 +47,14 @@ pub record NetworkFigures : Type 0 where
   -- ---- near it: each breaks one rule
   -- row 2 names itself
   pub own-row : checked (networkOf (row 0 0 0 plus 1 (row 0 0 1 plus 3 (row 2 1 4 minus 45 []))) 3 (sheetTapRows []) 4) ≡ refused 10 2
+  -- rows 1 and 2 name themselves: the lower one
+  pub two-broken-rows : checked (networkOf (row 0 0 0 plus 1 (row 1 0 1 plus 3 (row 2 1 4 minus 45 []))) 3 (sheetTapRows []) 4) ≡ refused 10 1
+  -- row 2 names itself and the first tap names row 3 of three rows: rows come first
+  pub rows-before-taps : checked (networkOf (row 0 0 0 plus 1 (row 0 0 1 plus 3 (row 2 1 4 minus 45 []))) 3 (tap plus 3 0 []) 1) ≡ refused 10 2
+  -- the second and the third tap name row 3 of three rows: the lower one
+  pub two-broken-taps : checked (networkOf (sheetRows []) 3 (tap plus 1 0 (tap plus 3 0 (tap minus 3 0 []))) 3) ≡ refused 11 1
+  -- no row
+  pub no-row : checked (networkOf (sheetRows []) 0 (sheetTapRows []) 4) ≡ refused 10 0
   -- the third tap names row 2 of two rows
   pub no-such-row : checked (networkOf (sheetRows []) 2 (sheetTapRows []) 4) ≡ refused 11 2
   -- 2^31 is a coefficient with the sign `-` alone

@@ -1,5 +1,5 @@
--- The row rule. Document 01, "The network". `RowRule` says it in the document's words; `keepsRowRule` computes it, and proofs/Rules.antt shows that
--- the two say the same. Definitions only.
+-- The row rule. Document 01, "The network". `RowRule` says it in the document's words; `keepsRowRule` computes it, and `row-rule` and `row-kept` of
+-- specs/Claims.antt claim that the two say the same. Definitions only.
 use Prim.Native.Nat.{ℕ, zero, suc, _*_, _-_, _%_, _^_, _≤_, _<_}
 use mathlib.Core.Path.{_≡_}
 use mathlib.Core.Bool.{Bool, false, cond, _&&_, _||_}

@@ -1,5 +1,5 @@
 -- The tap row rule. Document 01, "The network" and "Bounds". `TapRowRule` says it in the document's words; `keepsTapRowRule` computes it, and
--- proofs/Rules.antt shows that the two say the same. Definitions only.
+-- `tap-rule` and `tap-kept` of specs/Claims.antt claim that the two say the same. Definitions only.
 use Prim.Native.Nat.{ℕ, _≤_, _<_}
 use mathlib.Core.Path.{_≡_}
 use mathlib.Core.Bool.{Bool, _&&_, _||_}

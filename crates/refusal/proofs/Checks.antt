@@ -18,6 +18,11 @@ pub neither : (a b : Bool) → (a || b) ≡ false → (a ≡ false) × (b ≡ fa
 neither true b e = absurd (true≢false e)
 neither false b e = (refl, e)
 
+-- one of them does
+pub either : {C : Type 0} (a b : Bool) → (a || b) ≡ true → (a ≡ true → C) → (b ≡ true → C) → C
+either true b e f g = f refl
+either false b e f g = g e
+
 -- a check that applies, and one that does not
 pub check-applies : {A : Type 0} (b : Bool) (number : ℕ) (rest : Answer A) → b ≡ true → refuseIf b number rest ≡ refused number 0
 check-applies true number rest h = refl
@@ -35,6 +40,17 @@ given-if false number rest a h = (refl, h)
 pub given-at : {A : Type 0} (p : Place) (number : ℕ) (rest : Answer A) (a : A) → refuseAt p number rest ≡ given a → (p ≡ nowhere) × (rest ≡ given a)
 given-at nowhere number rest a h = (refl, h)
 given-at (at-place k) number rest a h = let z : _≡_ {A = ℕ} 0 1 = cc in absurd (no-one z)
+
+-- a refusal: the check applied, or it passed and what comes after it refuses
+pub refused-if : {A C : Type 0} (b : Bool) (n : ℕ) (rest : Answer A) (number place : ℕ) → refuseIf b n rest ≡ refused number place
+    → (b ≡ true → number ≡ n → place ≡ 0 → C) → (b ≡ false → rest ≡ refused number place → C) → C
+refused-if true n rest number place e applied passed = applied refl (let q : n ≡ number = cc in sym q) (let q : _≡_ {A = ℕ} 0 place = cc in sym q)
+refused-if false n rest number place e applied passed = passed refl e
+
+pub refused-at : {A C : Type 0} (p : Place) (n : ℕ) (rest : Answer A) (number place : ℕ) → refuseAt p n rest ≡ refused number place
+    → (p ≡ at-place place → number ≡ n → C) → (p ≡ nowhere → rest ≡ refused number place → C) → C
+refused-at nowhere n rest number place e applied passed = passed refl e
+refused-at (at-place k) n rest number place e applied passed = applied (let q : k ≡ place = cc in ap at-place q) (let q : n ≡ number = cc in sym q)
 
 -- ---- the lowest place that breaks a rule, looked for from place i on
 module _ {A : Type 0} (a : A) (breaks : A → Bool) (xs : List A) (i : ℕ) where

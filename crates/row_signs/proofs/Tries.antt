@@ -9,13 +9,13 @@ use lib.Dec.{T, eqb, leb}
 use lib.ListN.{length, getD}
 use Rattle.refusal.specs.Answer.{Place, lowest, lowestFrom}
 use Rattle.refusal.proofs.Checks.{lowest-alike}
+use Rattle.refusal.proofs.Lowest.{is-nowhere}
 use Rattle.network.specs.declared.Row.{Row}
 use Rattle.network.specs.Rows.{plus, minus, reversed, rowsOf, rowIn, noRow}
 use Rattle.network.specs.RowRule.{lifted, isRowSign, isWorked}
 use Rattle.network.proofs.Booleans.{same-truth}
 use Rattle.network.proofs.RowTests.{worked-tests}
 use Rattle.building.specs.Search.{none-fits, rowWith, rowOver, tried}
-use Rattle.building.proofs.Lookup.{is-nowhere}
 use Rattle.row_index.specs.Inner.{valueAt}
 use Rattle.row_index.proofs.Values.{length-rows, value-in}
 use Rattle.row_signs.specs.Inner.{rightValue}

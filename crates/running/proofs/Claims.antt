@@ -18,6 +18,7 @@ use Rattle.network.specs.Coefficients.{coefficients}
 use Rattle.network.specs.Check.{networkAnswer, outcome}
 use Rattle.network.specs.Checked.{NetworkChecked}
 use Rattle.network.proofs.Passed.{given-accepted}
+use Rattle.network.proofs.Refusals.{outcome-refusals}
 use Rattle.network.proofs.Given.{given-is, given-length}
 use Rattle.running.specs.Run.{Ran, runAnswer, runRegisters, runOutputs}
 use Rattle.running.specs.Claims.{AnyContent, RunningClaims}
@@ -68,5 +69,7 @@ pub running-claims : RunningClaims
 running-claims = record {
   running-sums = λ rows n taps m c calls. running-sums (coefficients (networkOf rows n taps m)) rows n taps m (passed rows n taps m c) calls;
   wraps = λ z. record { word = wrapped-lt z; turns = turns z; congruent = wrapped-congruent z };
+  run-refusals = λ rows n taps m samples r o number place r′ o′ ran.
+      outcome-refusals (ltb (length r) 256 || ltb (length o) (length samples)) rows n taps m number place (ran .answer);
   any-content = any-content;
 }

@@ -1,18 +1,21 @@
 -- What is claimed of running calls. Definitions only; proofs/Claims.antt proves it.
 use mathlib.Core.Path.{_≡_}
+use mathlib.Core.Bool.{_||_}
 use mathlib.Core.List.{List}
 use Prim.Native.Nat.{ℕ, suc, _+_, _^_, _<_}
+use lib.Dec.{ltb}
 use lib.IntN.{ℤ, pos, _+ℤ_, _*ℤ_}
 use lib.ListN.{length, getD, take}
 use mir.Syntax.{w64}
 use mir.Val.{toZ}
-use Rattle.refusal.specs.Answer.{given}
+use Rattle.refusal.specs.Answer.{given, refused}
 use Rattle.convolution.specs.Words.{wrapped}
 use Rattle.convolution.specs.Sums.{outputSum, registerSum, held}
 use Rattle.convolution.specs.Bounds.{Words}
 use Rattle.network.specs.Rows.{networkOf}
 use Rattle.network.specs.Coefficients.{coefficients}
 use Rattle.network.specs.Checked.{NetworkChecked}
+use Rattle.network.specs.Claims.{NetworkRefusals}
 use Rattle.running.specs.Run.{Ran}
 use Rattle.running.specs.Memory.{Step}
 use Rattle.running.specs.Demand.{Calls, Demand}
@@ -36,6 +39,10 @@ pub record RunningClaims : Type 0 where
       → Demand (coefficients (networkOf rows rowCount taps tapCount)) (networkOf rows rowCount taps tapCount) calls
   -- what is stored of a sum
   pub wraps : (z : ℤ) → WordOf z (wrapped z)
+  -- what a refusal of a call means, "registers 256 .. outputs one per sample" being the other tables
+  pub run-refusals : (rows : List ℕ) (rowCount : ℕ) (taps : List ℕ) (tapCount : ℕ) (samples : List ℤ) (r : List ℕ) (o : List ℤ) (number place : ℕ) (r′ : List ℕ) (o′ : List ℤ)
+      → Ran rows rowCount taps tapCount samples r o (refused number place) r′ o′
+      → NetworkRefusals (ltb (length r) 256 || ltb (length o) (length samples)) rows rowCount taps tapCount number place
   -- a call that is accepted, whatever the registers hold
   pub any-content : (rows : List ℕ) (rowCount : ℕ) (taps : List ℕ) (tapCount : ℕ) (samples : List ℤ) (r : List ℕ) (o : List ℤ) (r′ : List ℕ) (o′ : List ℤ) → Words r
       → Ran rows rowCount taps tapCount samples r o (given tt) r′ o′ → AnyContent (coefficients (networkOf rows rowCount taps tapCount)) samples r r′ o′
