@@ -16,8 +16,8 @@ use Rattle.word.proofs.Bounds.{within-bounds, bounds-within}
 use Rattle.refusal.specs.Answer.{Answer, given, refused, refuseIf, refuseAt, Place, nowhere, at-place, lowestFrom, lowest}
 use Rattle.refusal.proofs.Checks.{check-applies, check-passes, lowest-none-at}
 use Rattle.refusal.proofs.Tables.{length-map}
-use Rattle.tap.specs.Rounding.{TapResult, finite, outside, resultOf, roundedTap}
-use Rattle.tap.specs.Claims.{NearestAway, TapRefusals}
+use Rattle.tap.specs.Rounding.{finite, outside, resultOf, roundedTap}
+use Rattle.tap.specs.Claims.{NearestAway}
 use Rattle.tap.proofs.Answer.{of-finite}
 use Rattle.tap.proofs.Claims.{tap-claims}
 use Rattle.normalise.specs.Normalised.{sumOf, unusable, infinite, used, divisorOf}
