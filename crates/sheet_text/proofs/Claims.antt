@@ -60,6 +60,10 @@ past-the-text : (input : List ℕ) (argument : Argument) (area : List ℕ) (n : 
 past-the-text input argument area n area′ w =
     ap (drop n) (w .text) ∙ drop-at (sheetOf input argument) (drop n area) n (sym (w .size))
 
+nothing-cut : (input : List ℕ) (argument : Argument) (area : List ℕ) (n : ℕ) (area′ : List ℕ) → SheetWritten input argument area n area′ → n ≤ length area
+nothing-cut input argument area n area′ w =
+    omega (arith, w .size, w .room, ap length (w .text), length-append (sheetOf input argument) (drop n area), length-drop n area)
+
 never-turned-down : (F : ℕ) (taps : List Float) (table : List ℤ) (report : Report) (table′ : List ℤ) → TapsRounded F false taps table (given report) table′
     → (rows tapRows : List ℕ) → 4096 * rowWords ≤ length rows → 256 * tapWords ≤ length tapRows
     → (a : Answer ℕ) (rows′ tapRows′ : List ℕ) → BuiltInto (coefficientsOf F taps) choices rows tapRows a rows′ tapRows′
@@ -71,6 +75,7 @@ pub sheet-claims : SheetClaims
 sheet-claims = record {
   first-2056 = λ input argument area n area′ w. same-sheet (take 2056 input) input argument area n area′ (first-2056 input argument) w;
   past-the-text = past-the-text;
+  nothing-cut = nothing-cut;
   never-turned-down = never-turned-down;
   example-sheet = λ area n area′ w. text-of exampleInput missing area n area′ w ∙ example-sheet;
   example-written = λ area h. written exampleText area (sym example-sheet) h;

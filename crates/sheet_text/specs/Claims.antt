@@ -43,6 +43,8 @@ pub record SheetClaims : Type 0 where
       → SheetWritten input argument area n area′
   -- "elements past those that the result fills are untouched"
   pub past-the-text : (input : List ℕ) (argument : Argument) (area : List ℕ) (n : ℕ) (area′ : List ℕ) → SheetWritten input argument area n area′ → drop n area′ ≡ drop n area
+  -- no sheet is cut: the area has room for it
+  pub nothing-cut : (input : List ℕ) (argument : Argument) (area : List ℕ) (n : ℕ) (area′ : List ℕ) → SheetWritten input argument area n area′ → n ≤ length area
   -- taps that are rounded can be built, "all choices 0"
   pub never-turned-down : (F : ℕ) (taps : List Float) (table : List ℤ) (report : Report) (table′ : List ℤ) → TapsRounded F false taps table (given report) table′
       → (rows tapRows : List ℕ) → 4096 * rowWords ≤ length rows → 256 * tapWords ≤ length tapRows
