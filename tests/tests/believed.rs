@@ -5,6 +5,7 @@ use std::env::temp_dir;
 use std::fs::{copy, create_dir_all, read_dir, read_to_string, remove_dir_all, write};
 use std::path::{Path, PathBuf};
 use std::process::{id, Command};
+use std::sync::atomic::{AtomicUsize, Ordering::Relaxed};
 
 /// Copies what the tool reads.
 fn copied(from: &Path, to: &Path) {
@@ -20,8 +21,11 @@ fn copied(from: &Path, to: &Path) {
     }
 }
 
-fn scratch(name: &str) -> PathBuf {
-    let folder = temp_dir().join(format!("believed-{}-{name}", id()));
+/// A copy of its own for every call: tests run side by side.
+fn scratch() -> PathBuf {
+    static COPIES: AtomicUsize = AtomicUsize::new(0);
+    let number = COPIES.fetch_add(1, Relaxed);
+    let folder = temp_dir().join(format!("believed-{}-{number}", id()));
     for part in ["crates", "docs", "tools"] {
         copied(&root().join(part), &folder.join(part));
     }
@@ -42,7 +46,7 @@ fn checked(folder: &Path, arguments: &[&str]) -> (Option<i32>, String) {
 
 /// The first text becomes the second in a file of a copy, and the tool must say this.
 fn refused(name: &str, file: &str, old: &str, new: &str, says: &str) {
-    let folder = scratch(name);
+    let folder = scratch();
     let path = folder.join(file);
     let text = read_to_string(&path).unwrap();
     assert!(text.contains(old), "{file} has no {old}");
