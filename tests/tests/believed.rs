@@ -65,8 +65,8 @@ fn nothing_wrong() {
     assert_eq!(status, Some(0));
     // A file comes after what it imports.
     let place = |file: &str| out.find(file).unwrap_or_else(|| panic!("no {file}"));
-    assert!(place("refusal/specs/Answer.antt") < place("running/specs/Run.antt"));
-    assert!(place("running/specs/Run.antt") < place("guarantee/specs/Demand3.antt"));
+    assert!(place("refusal/specs/Answer.antt") < place("run_calls/specs/Run.antt"));
+    assert!(place("run_calls/specs/Run.antt") < place("guarantee/specs/Demand3.antt"));
     assert!(!out.contains("Inner.antt"));
 }
 
@@ -75,16 +75,16 @@ fn belief_in_an_inner_definition() {
     let old = "use Rattle.refusal.specs.Answer";
     let new = "use Rattle.sequence.specs.Inner.{front}\nuse Rattle.refusal.specs.Answer";
     let says = "cites the inner definitions of crates/sequence/specs/Inner.antt";
-    refused("inner", "crates/running/specs/Run.antt", old, new, says);
+    refused("inner", "crates/run_calls/specs/Run.antt", old, new, says);
 }
 
 #[test]
 fn belief_in_a_proof() {
     let old = "use Rattle.refusal.specs.Answer";
-    let new = "use Rattle.convolution.proofs.Theorems.{Holds}\nuse Rattle.refusal.specs.Answer";
+    let new = "use Rattle.run_convolution.proofs.Theorems.{Holds}\nuse Rattle.refusal.specs.Answer";
     refused(
         "proof",
-        "crates/running/specs/Run.antt",
+        "crates/run_calls/specs/Run.antt",
         old,
         new,
         "imports a proof",
@@ -93,8 +93,8 @@ fn belief_in_a_proof() {
 
 #[test]
 fn a_contract_that_is_not_the_relation() {
-    let file = "crates/filter/src/lib.rt";
-    let says = "filter::run does not ensure Ran";
+    let file = "crates/run_network/src/lib.rt";
+    let says = "run_network::run does not ensure Ran";
     refused("other", file, "⌜ Ran ", "⌜ Other ", says);
     refused("either", file, "⌜ Ran ", "⌜ Unit {0} ⊎ Ran ", says);
     let says = "says nothing of outputs after the call";
@@ -107,7 +107,7 @@ fn a_contract_that_is_not_the_relation() {
     );
     let old = "    ensures { λ r. ⌜ Ran";
     let new = "    requires { ⌜ Unit {0} ⌝ }\n    ensures { λ r. ⌜ Ran";
-    refused("requires", file, old, new, "filter::run has a requires");
+    refused("requires", file, old, new, "run_network::run has a requires");
     let file = "crates/fir_networks/specs/Run.antt";
     refused(
         "word",
@@ -131,8 +131,8 @@ fn an_entry_or_a_name_that_is_not_there() {
     refused(
         "entry",
         file,
-        "| `filter::run` |",
-        "| filter::run |",
+        "| `run_network::run` |",
+        "| run_network::run |",
         "fir_run is not among the entries",
     );
     let says = "sheet_text::sheet is not among the entries";
@@ -145,7 +145,7 @@ fn an_entry_or_a_name_that_is_not_there() {
     );
     let claims = "| `signed_digit/specs/Claims.antt` `DigitClaims` |";
     refused("claims", file, claims, "| digits |", "DigitClaims of");
-    let file = "crates/running/proofs/Claims.antt";
+    let file = "crates/run_calls/proofs/Claims.antt";
     let says = "no proof running-claims of RunningClaims";
     refused(
         "proof",
@@ -154,7 +154,7 @@ fn an_entry_or_a_name_that_is_not_there() {
         "running-claims : Unit",
         says,
     );
-    let file = "crates/convolution/specs/Words.antt";
+    let file = "crates/run_convolution/specs/Words.antt";
     let says = "outcome stands in";
     refused(
         "twice",

@@ -4,7 +4,7 @@ use mathlib.Core.List.{List}
 use Prim.Native.Nat.{ℕ}
 use lib.IntN.{ℤ}
 use Rattle.refusal.specs.Answer.{Answer, stored}
-use Rattle.building.specs.Built.{BuiltInto}
+use Rattle.build_steps.specs.Built.{BuiltInto}
 use Rattle.fir_words.specs.Words.{refusalWord}
 
 -- the word that C receives and the lent row count are those of an answer with which `build` may leave rows′ and taps′: the contract of `fir_build`

@@ -1,6 +1,6 @@
 // Building a network: a function for C, declared in include/fir.h.
 ghost use Rattle.fir_build.specs.Built.{BuiltWord};
-use builder::Built;
+use build_network::Built;
 use fir_words::refusal_word;
 
 // The network of the coefficients and choices, in the two tables, and the number of its rows.
@@ -15,7 +15,7 @@ pub extern "C" fn fir_build(
     ensures { λ r. ⌜ BuiltWord (now (coefficients .entry)) (now (choices .entry)) (now (rows .entry)) (now (taps .entry)) (now («row_count» .entry))
         r (now (rows .exit)) (now (taps .exit)) (now («row_count» .exit)) ⌝ }
 {
-    let answer = builder::build(coefficients, choices, rows, taps);
+    let answer = build_network::build(coefficients, choices, rows, taps);
     match answer {
         Built::Refused(refusal) => refusal_word(refusal),
         Built::Rows(count) => {

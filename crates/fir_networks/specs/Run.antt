@@ -4,7 +4,7 @@ use mathlib.Core.List.{List}
 use Prim.Native.Nat.{ℕ}
 use lib.IntN.{ℤ}
 use Rattle.refusal.specs.Answer.{Answer}
-use Rattle.running.specs.Run.{Ran}
+use Rattle.run_calls.specs.Run.{Ran}
 use Rattle.fir_words.specs.Words.{refusalWord}
 
 -- the word that C receives is that of an answer with which `run` may leave r′ and o′: the contract of `fir_run`

@@ -52,7 +52,7 @@ pub extern "C" fn fir_run(
         (now (outputs .entry))
         r (now (registers .exit)) (now (outputs .exit)) ⌝ }
 {
-    checked_word(filter::run(
+    checked_word(run_network::run(
         rows,
         row_count,
         taps,

@@ -8,16 +8,16 @@ use Rattle.refusal.specs.Answer.{Answer, given}
 use Rattle.coefficient.specs.Parts.{partsOf}
 use Rattle.signed_digit.proofs.Claims.{digit-claims}
 use Rattle.network.specs.Rows.{Network, rowWords, tapWords}
-use Rattle.building.specs.TapRows.{built}
-use Rattle.building.specs.Answer.{buildAnswer}
-use Rattle.building.specs.CanBuild.{CanBuildInto}
-use Rattle.building.specs.Built.{BuiltInto, HoldsNetwork}
-use Rattle.building.proofs.Refusals.{has-form}
-use Rattle.building.proofs.BuiltTables.{can-give}
-use Rattle.building.proofs.Claims.{building-claims}
-use Rattle.running.specs.Memory.{Step}
-use Rattle.running.specs.Demand.{Calls, Demand}
-use Rattle.running.proofs.Theorem.{running-sums}
+use Rattle.build_steps.specs.TapRows.{built}
+use Rattle.build_steps.specs.Answer.{buildAnswer}
+use Rattle.build_steps.specs.CanBuild.{CanBuildInto}
+use Rattle.build_steps.specs.Built.{BuiltInto, HoldsNetwork}
+use Rattle.build_steps.proofs.Refusals.{has-form}
+use Rattle.build_steps.proofs.BuiltTables.{can-give}
+use Rattle.build_steps.proofs.Claims.{building-claims}
+use Rattle.run_calls.specs.Memory.{Step}
+use Rattle.run_calls.specs.Demand.{Calls, Demand}
+use Rattle.run_calls.proofs.Theorem.{running-sums}
 use Rattle.guarantee.specs.Demand3.{Taken, Guaranteed, Demand3}
 
 -- demand 3 takes what can be built

@@ -12,22 +12,22 @@ use Rattle.signed_digit.proofs.Figures.{figures}
 use Rattle.coefficient.specs.Parts.{partsOf, oddPartOf, shiftOf}
 use Rattle.tap.proofs.Figures.{tap-figures}
 use Rattle.network.specs.Rows.{Network, rowWords, tapWords}
-use Rattle.building.specs.TapRows.{built}
-use Rattle.building.specs.Answer.{buildAnswer, rowCount}
-use Rattle.building.specs.CanBuild.{Listed}
-use Rattle.building.specs.Tables.{wordsOfRows, wordsOfTapRows}
-use Rattle.building.proofs.Figures.{example}
-use Rattle.building.specs.Built.{BuiltInto}
+use Rattle.build_steps.specs.TapRows.{built}
+use Rattle.build_steps.specs.Answer.{buildAnswer, rowCount}
+use Rattle.build_steps.specs.CanBuild.{Listed}
+use Rattle.build_steps.specs.Tables.{wordsOfRows, wordsOfTapRows}
+use Rattle.build_steps.proofs.Figures.{example}
+use Rattle.build_steps.specs.Built.{BuiltInto}
 use Rattle.network.specs.Check.{outcome}
 use Rattle.sequence.specs.UpTo.{upTo}
-use Rattle.running.specs.Run.{Ran, runAnswer, runOutputs}
-use Rattle.running.specs.Memory.{cleared}
-use Rattle.running.specs.Demand.{Calls}
+use Rattle.run_calls.specs.Run.{Ran, runAnswer, runOutputs}
+use Rattle.run_calls.specs.Memory.{cleared}
+use Rattle.run_calls.specs.Demand.{Calls}
 use Rattle.guarantee.proofs.SheetCalls as Called
 use Rattle.guarantee.proofs.SheetFilter as Running
 use Rattle.guarantee.specs.Demand3.{Taken}
 use Rattle.network.specs.Figures.{sheetCoefficients}
-use Rattle.building.specs.Figures.{sheetChoices}
+use Rattle.build_steps.specs.Figures.{sheetChoices}
 use Rattle.guarantee.specs.Sheet.{sheetSamples, storedNetwork, fourCalls}
 use Rattle.guarantee.specs.Figures.{SheetFilter, SheetBuilt, SheetCalls, ProvedFigures}
 use Rattle.guarantee.proofs.Demand3.{can-build, demand-3}

@@ -12,19 +12,19 @@ use mir.Syntax.{w16}
 use Rattle.refusal.specs.Answer.{Answer, given, refused, stored, filled, lowestFrom}
 use Rattle.refusal.proofs.Checks.{check-applies, check-passes}
 use Rattle.sequence.specs.UpTo.{upTo}
-use Rattle.convolution.specs.Bounds.{Within}
-use Rattle.convolution.specs.Sums.{outputSum, outputSums}
+use Rattle.run_convolution.specs.Bounds.{Within}
+use Rattle.run_convolution.specs.Sums.{outputSum, outputSums}
 use Rattle.network.specs.Rows.{rowWords, tapWords, networkOf}
 use Rattle.network.specs.RowRule.{keepsRowRule}
 use Rattle.network.specs.Check.{outcome, checked, shortTables, networkAnswer}
 use Rattle.network.proofs.Figures.{sheet-network}
-use Rattle.running.specs.Run.{runAnswer, runRegisters, runOutputs}
-use Rattle.running.specs.Call.{tableAnswer, saidFrom}
-use Rattle.running.specs.Memory.{Lending, Step, Found, Trace, lent, after, foundFrom, dueAll, cleared}
-use Rattle.running.specs.Demand.{Fair, EachFair, Calls, Demand}
+use Rattle.run_calls.specs.Run.{runAnswer, runRegisters, runOutputs}
+use Rattle.run_calls.specs.Call.{tableAnswer, saidFrom}
+use Rattle.run_calls.specs.Memory.{Lending, Step, Found, Trace, lent, after, foundFrom, dueAll, cleared}
+use Rattle.run_calls.specs.Demand.{Fair, EachFair, Calls, Demand}
 use Rattle.network.specs.Figures.{sheetCoefficients, sheetRows, sheetTapRows}
 use Rattle.guarantee.specs.Sheet.{sheetSamples, brokenRows, storedNetwork, acceptedCall, silentCall, shortCall, brokenCall, fourCalls}
-use Rattle.running.proofs.Theorem.{running-sums}
+use Rattle.run_calls.proofs.Theorem.{running-sums}
 
 -- ---- every list of calls has a trace
 

@@ -10,14 +10,14 @@ use lib.IntN.{ℤ}
 use lib.ListN.{length, replicate, getD-replicate, length-append, length-replicate, List·getD-append}
 use mir.Syntax.{w16, w32}
 use Rattle.refusal.specs.Answer.{given}
-use Rattle.convolution.specs.Bounds.{Within}
-use Rattle.convolution.specs.Sums.{held, outputSum, outputSums}
-use Rattle.convolution.proofs.Steps.{held-low, held-high}
-use Rattle.convolution.proofs.Theorems.{Cleared, holds-start, outputs-exact}
+use Rattle.run_convolution.specs.Bounds.{Within}
+use Rattle.run_convolution.specs.Sums.{held, outputSum, outputSums}
+use Rattle.run_convolution.proofs.Steps.{held-low, held-high}
+use Rattle.run_convolution.proofs.Theorems.{Cleared, holds-start, outputs-exact}
 use Rattle.network.specs.Rows.{rowWords, tapWords}
 use Rattle.network.specs.Check.{networkAnswer}
 use Rattle.network.proofs.Figures.{sheet-network}
-use Rattle.running.specs.Run.{runAnswer, runOutputs}
+use Rattle.run_calls.specs.Run.{runAnswer, runOutputs}
 use Rattle.network.specs.Figures.{sheetCoefficients, sheetRows, sheetTapRows}
 use Rattle.guarantee.specs.Sheet.{sheetSamples, sheetOutputs}
 

@@ -11,11 +11,11 @@ use Rattle.signed_digit.specs.Listed.{FormsListed}
 use Rattle.signed_digit.specs.Claims.{Written}
 use Rattle.coefficient.specs.Parts.{partsOf}
 use Rattle.network.specs.Rows.{networkOf, rowWords, tapWords}
-use Rattle.building.specs.TapRows.{built}
-use Rattle.building.specs.CanBuild.{Listed}
-use Rattle.building.specs.Built.{BuiltInto}
-use Rattle.running.specs.Memory.{Step}
-use Rattle.running.specs.Demand.{Calls, Demand}
+use Rattle.build_steps.specs.TapRows.{built}
+use Rattle.build_steps.specs.CanBuild.{Listed}
+use Rattle.build_steps.specs.Built.{BuiltInto}
+use Rattle.run_calls.specs.Memory.{Step}
+use Rattle.run_calls.specs.Demand.{Calls, Demand}
 
 -- "Take any 1 to 256 coefficients, any choice of one listed form per tap"
 pub record Taken (coefficients : List ℤ) (choices : List ℕ) : Type 0 where

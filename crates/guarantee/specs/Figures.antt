@@ -8,13 +8,13 @@ use Rattle.refusal.specs.Answer.{Answer, given, refused}
 use Rattle.signed_digit.specs.Figures.{Figures}
 use Rattle.tap.specs.Figures.{TapFigures}
 use Rattle.network.specs.Rows.{rowWords, tapWords}
-use Rattle.building.specs.TapRows.{built}
+use Rattle.build_steps.specs.TapRows.{built}
 use Rattle.network.specs.Figures.{sheetCoefficients}
-use Rattle.building.specs.Figures.{sheetChoices, sheetNetwork}
-use Rattle.building.specs.Built.{BuiltInto}
-use Rattle.running.specs.Run.{Ran}
-use Rattle.running.specs.Memory.{Step}
-use Rattle.running.specs.Demand.{Calls, FullLength, Demand}
+use Rattle.build_steps.specs.Figures.{sheetChoices, sheetNetwork}
+use Rattle.build_steps.specs.Built.{BuiltInto}
+use Rattle.run_calls.specs.Run.{Ran}
+use Rattle.run_calls.specs.Memory.{Step}
+use Rattle.run_calls.specs.Demand.{Calls, FullLength, Demand}
 use Rattle.guarantee.specs.Demand3.{Taken}
 use Rattle.guarantee.specs.Sheet.{sheetSamples, sheetOutputs, acceptedCall, fourCalls}
 

@@ -4,7 +4,7 @@ use Prim.Native.Nat.{ℕ}
 use lib.IntN.{ℤ, pos, negℤ}
 use Rattle.network.specs.Rows.{Network, networkOf, plus, minus}
 use Rattle.network.specs.Figures.{row, sheetRows, sheetTapRows}
-use Rattle.running.specs.Memory.{Lending}
+use Rattle.run_calls.specs.Memory.{Lending}
 
 -- the samples 1, 2, -32768 and what they give
 abbrev pub sheetSamples : List ℤ

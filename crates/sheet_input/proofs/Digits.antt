@@ -10,7 +10,7 @@ use lib.Dec.{ltb}
 use lib.ListN.{length, drop, getD, drop-of-length-le}
 use lib.Seq.{drop-cons}
 use Rattle.refusal.specs.Answer.{given, refused}
-use Rattle.sheet_fields.specs.Numbers.{isDigit, areDigits, numberFrom}
+use Rattle.text.specs.Numbers.{isDigit, areDigits, numberFrom}
 use Rattle.sheet_input.specs.Argument.{text, isFraction, fractionBits}
 
 pub digit-low : (b : ℕ) → b < 48 → isDigit b ≡ false

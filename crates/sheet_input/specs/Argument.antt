@@ -5,7 +5,7 @@ use Prim.Native.Nat.{ℕ}
 use lib.Dec.{leb, ltb}
 use lib.ListN.{length}
 use Rattle.refusal.specs.Answer.{Answer, given, refuseIf}
-use Rattle.sheet_fields.specs.Numbers.{areDigits, numberFrom}
+use Rattle.text.specs.Numbers.{areDigits, numberFrom}
 
 -- missing, or its bytes
 pub data Argument : Type 0 where

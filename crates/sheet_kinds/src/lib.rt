@@ -3,15 +3,15 @@
 ghost use Prim.Native.Nat.{_+_, _≤_};
 ghost use lib.ListN.{length};
 ghost use Rattle.network.specs.Rows.{networkOf};
-ghost use Rattle.sheet_fields.specs.Inner.{Put};
+ghost use Rattle.text.specs.Inner.{Put};
 ghost use Rattle.sheet_lines.specs.Lines.{header, totalLine};
 ghost use Rattle.sheet_kinds.specs.Text.{networkText, refusedText};
 ghost use Rattle.sheet_kinds.specs.Inner.{NetworkIn};
-use sheet_fields::put;
-use sheet_fields::put_last;
-use sheet_fields::put_number;
 use sheet_nodes::node_lines;
 use sheet_taps::tap_lines;
+use text::put;
+use text::put_last;
+use text::put_number;
 
 fn put_header(out: &mut [u8], at: usize) -> usize
     requires { ⌜ at + 41 ≤ length (now out) ⌝ }

@@ -11,10 +11,10 @@ use Rattle.sequence.specs.UpTo.{upTo}
 use Rattle.sequence.proofs.UpTo.{length-upTo}
 use Rattle.network.specs.declared.Row.{Row}
 use Rattle.network.specs.declared.TapRow.{TapRow}
-use Rattle.sheet_fields.specs.Ascii.{ascii}
-use Rattle.sheet_fields.specs.Numbers.{decimalBy, decimal, integer}
-use Rattle.sheet_fields.specs.Inner.{Put}
-use Rattle.sheet_fields.proofs.Puts.{then}
+use Rattle.text.specs.Ascii.{ascii}
+use Rattle.text.specs.Numbers.{decimalBy, decimal, integer}
+use Rattle.text.specs.Inner.{Put}
+use Rattle.text.proofs.Puts.{then}
 use Rattle.sheet_lines.specs.Lines.{line, columns, nodeLine, laterLine, tapLine, emptyTapLine, productLine, linesFrom}
 use Rattle.sheet_lines.specs.Inner.{shared}
 

@@ -7,8 +7,8 @@ use lib.IntN.{ℤ}
 use Rattle.network.specs.declared.Row.{Row}
 use Rattle.network.specs.declared.TapRow.{TapRow}
 use Rattle.network.specs.Rows.{none}
-use Rattle.sheet_fields.specs.Ascii.{ascii}
-use Rattle.sheet_fields.specs.Numbers.{decimal, integer}
+use Rattle.text.specs.Ascii.{ascii}
+use Rattle.text.specs.Numbers.{decimal, integer}
 
 -- "RFC 4180 text, every line closed by CR LF": the fields with a comma between each two of them
 unfoldable pub line : List ℕ → List (List ℕ) → List ℕ

@@ -3,10 +3,10 @@
 ghost use mathlib.Core.List.{[]};
 ghost use Prim.Native.Nat.{_+_, _≤_, _<_};
 ghost use lib.ListN.{length};
-ghost use Rattle.sheet_fields.specs.Inner.{Put};
+ghost use Rattle.text.specs.Inner.{Put};
 ghost use Rattle.sheet_lines.specs.Inner.{shared};
-use sheet_fields::put_byte;
-use sheet_fields::put_field;
+use text::put_byte;
+use text::put_field;
 
 // Number, left row, shift and sign.
 pub fn put_shared(out: &mut [u8], at: usize, number: u32, left: u32, shift: u32, sign: u32) -> usize

@@ -2,14 +2,14 @@
 ghost use Prim.Native.Nat.{_+_, _*_, _≤_, _<_};
 ghost use lib.ListN.{length};
 ghost use Rattle.network.specs.Rows.{rowWords, rowAt, rowsOf};
-ghost use Rattle.sheet_fields.specs.Inner.{Put};
+ghost use Rattle.text.specs.Inner.{Put};
 ghost use Rattle.sheet_lines.specs.Lines.{laterLine, nodeLine, linesFrom};
 ghost use Rattle.sheet_nodes.specs.Inner.{RowsIn};
 use network::Row;
-use sheet_fields::put;
-use sheet_fields::put_field;
-use sheet_fields::put_last;
 use sheet_lines::put_shared;
+use text::put;
+use text::put_field;
+use text::put_last;
 
 fn later_line(out: &mut [u8], at: usize, i: u32, row: Row) -> usize
     requires { ⌜ row .sign < 256 ⌝ }

@@ -2,15 +2,15 @@
 ghost use Prim.Native.Nat.{_+_, _*_, _≤_, _<_};
 ghost use lib.ListN.{length};
 ghost use Rattle.network.specs.Rows.{tapRowsOf};
-ghost use Rattle.sheet_fields.specs.Inner.{Put};
+ghost use Rattle.text.specs.Inner.{Put};
 ghost use Rattle.sheet_lines.specs.Lines.{emptyTapLine, productLine, tapLine, linesFrom};
 ghost use Rattle.sheet_taps.specs.Inner.{TapsIn, tapLineOf};
 use network::TapRow;
-use sheet_fields::put;
-use sheet_fields::put_byte;
-use sheet_fields::put_integer;
-use sheet_fields::put_number;
 use sheet_lines::put_shared;
+use text::put;
+use text::put_byte;
+use text::put_integer;
+use text::put_number;
 
 fn empty_tap_line(out: &mut [u8], at: usize, i: u32) -> usize
     requires { ⌜ at + 53 ≤ length (now out) ⌝ }

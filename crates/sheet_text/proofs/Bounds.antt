@@ -15,7 +15,7 @@ use Rattle.refusal.proofs.Tables.{length-map}
 use Rattle.word.specs.Bounds.{Coefficient, withinBounds}
 use Rattle.word.proofs.Bounds.{bounds-within}
 use Rattle.tap.specs.Rounding.{exact, rounded, leftover, finite, signed, split, sizeOf, outside, resultOf, wholeOf}
-use Rattle.normalise.specs.Normalised.{infinite, divisorOf}
+use Rattle.tap_normalise.specs.Normalised.{infinite, divisorOf}
 use Rattle.tap_set.specs.declared.Report.{Report}
 use Rattle.tap_set.specs.Set.{bounded, reportOf, roundedTaps, coefficientsOf}
 use Rattle.sheet_text.specs.Inner.{Coefficients}

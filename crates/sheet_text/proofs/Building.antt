@@ -19,14 +19,14 @@ use Rattle.network.specs.Rows.{Network, rowAt, tapRowAt, networkOf, rowIn, tapR
 use Rattle.network.specs.RowRule.{RowRule, isRowSign}
 use Rattle.network.specs.TapRowRule.{TapRowRule, is-empty, is-product, isTapSign}
 use Rattle.network.specs.Coefficients.{coefficients}
-use Rattle.building.specs.TapRows.{built}
-use Rattle.building.specs.Answer.{noSuchForm, buildAnswer, rowCount}
-use Rattle.building.specs.Tables.{wordsOfRows, wordsOfTapRows}
-use Rattle.building.proofs.Answers.{exist-forms, not-short, network-given}
-use Rattle.building.specs.CanBuild.{CanBuild}
-use Rattle.building.proofs.Passes.{built-few, built-passed}
-use Rattle.building.proofs.BuiltTables.{network-left, length-rows-left, length-taps-left, length-built-taps}
-use Rattle.form_choices.proofs.FormNumbers.{choice-zero}
+use Rattle.build_steps.specs.TapRows.{built}
+use Rattle.build_steps.specs.Answer.{noSuchForm, buildAnswer, rowCount}
+use Rattle.build_steps.specs.Tables.{wordsOfRows, wordsOfTapRows}
+use Rattle.build_steps.proofs.Answers.{exist-forms, not-short, network-given}
+use Rattle.build_steps.specs.CanBuild.{CanBuild}
+use Rattle.build_steps.proofs.Passes.{built-few, built-passed}
+use Rattle.build_steps.proofs.BuiltTables.{network-left, length-rows-left, length-taps-left, length-built-taps}
+use Rattle.build_form_choices.proofs.FormNumbers.{choice-zero}
 use Rattle.sheet_kinds.specs.Inner.{NetworkIn}
 use Rattle.sheet_text.specs.Sheet.{choices}
 use Rattle.sheet_text.specs.Inner.{Coefficients}

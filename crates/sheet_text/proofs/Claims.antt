@@ -13,10 +13,10 @@ use Rattle.refusal.specs.Answer.{Answer, given}
 use Rattle.tap_set.specs.declared.Report.{Report}
 use Rattle.tap_set.specs.Set.{coefficientsOf, TapsRounded}
 use Rattle.network.specs.Rows.{rowWords, tapWords}
-use Rattle.building.specs.TapRows.{built}
-use Rattle.building.specs.Answer.{rowCount}
-use Rattle.building.specs.Built.{BuiltInto}
-use Rattle.sheet_fields.proofs.Decimals.{lt-or-le}
+use Rattle.build_steps.specs.TapRows.{built}
+use Rattle.build_steps.specs.Answer.{rowCount}
+use Rattle.build_steps.specs.Built.{BuiltInto}
+use Rattle.text.proofs.Decimals.{lt-or-le}
 use Rattle.sheet_kinds.specs.Text.{refusedText}
 use Rattle.sheet_input.specs.Argument.{Argument, missing}
 use Rattle.sheet_input.proofs.Answers.{too-many}

@@ -8,13 +8,13 @@ use Rattle.refusal.specs.Answer.{lowestFrom}
 use Rattle.signed_digit.specs.CanonicalForm.{canonicalNat}
 use Rattle.coefficient.specs.Parts.{partsOf, oddPartOf, shiftOf}
 use Rattle.network.specs.Coefficients as Network
-use Rattle.building.specs.Parts.{leastWeight, comesBefore, insert, insertTap, takenFrom}
-use Rattle.building.specs.Search.{rowWith, orElse, firstOver, rowOver, tried, firstFit, fitAtShift, fitAtLeft}
-use Rattle.building.specs.Steps.{searched, lookedUp, step, steps, builtRows}
-use Rattle.building.specs.TapRows.{tapRowOf, built}
+use Rattle.build_steps.specs.Parts.{leastWeight, comesBefore, insert, insertTap, takenFrom}
+use Rattle.build_steps.specs.Search.{rowWith, orElse, firstOver, rowOver, tried, firstFit, fitAtShift, fitAtLeft}
+use Rattle.build_steps.specs.Steps.{searched, lookedUp, step, steps, builtRows}
+use Rattle.build_steps.specs.TapRows.{tapRowOf, built}
 use Rattle.tap.specs.Rounding.{halfOf, toNearest, nearestWhole, leftover, split, sizeOf, outside, resultOf}
 use Rattle.tap_set.specs.Set.{largerOf, reported, reportFrom, bounded, roundedTaps}
-use Rattle.sheet_fields.specs.Numbers.{decimalBy, decimal, integer}
+use Rattle.text.specs.Numbers.{decimalBy, decimal, integer}
 use Rattle.sheet_lines.specs.Lines.{line, columns, header, nodeLine, tapLine, totalLine, linesFrom}
 use Rattle.sheet_kinds.specs.Text.{networkText}
 use Rattle.sheet_input.specs.Taps.{lowFirst, tapAt}

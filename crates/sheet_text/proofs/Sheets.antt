@@ -15,10 +15,10 @@ use Rattle.sequence.specs.Inner.{front}
 use Rattle.sequence.proofs.UpTo.{length-upTo}
 use Rattle.tap.specs.Rounding.{resultOf, wholeOf}
 use Rattle.network.specs.Rows.{Network}
-use Rattle.building.specs.TapRows.{built}
+use Rattle.build_steps.specs.TapRows.{built}
 use Rattle.tap_set.specs.declared.Report.{Report}
 use Rattle.tap_set.specs.Set.{roundedTaps, coefficientsOf}
-use Rattle.sheet_fields.specs.Inner.{Put}
+use Rattle.text.specs.Inner.{Put}
 use Rattle.sheet_kinds.specs.Text.{networkText, refusedText}
 use Rattle.sheet_input.specs.Argument.{Argument}
 use Rattle.sheet_input.specs.Taps.{tapsOf}

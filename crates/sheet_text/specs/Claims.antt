@@ -10,9 +10,9 @@ use Rattle.refusal.specs.Answer.{Answer, given}
 use Rattle.tap_set.specs.declared.Report.{Report}
 use Rattle.tap_set.specs.Set.{coefficientsOf, TapsRounded}
 use Rattle.network.specs.Rows.{rowWords, tapWords}
-use Rattle.building.specs.TapRows.{built}
-use Rattle.building.specs.Built.{BuiltInto}
-use Rattle.sheet_fields.specs.Ascii.{ascii}
+use Rattle.build_steps.specs.TapRows.{built}
+use Rattle.build_steps.specs.Built.{BuiltInto}
+use Rattle.text.specs.Ascii.{ascii}
 use Rattle.sheet_input.specs.Argument.{Argument, missing}
 use Rattle.sheet_text.specs.Sheet.{choices, SheetWritten}
 

@@ -9,7 +9,7 @@ use Rattle.refusal.specs.Answer.{Answer, given, refused}
 use Rattle.tap_set.specs.declared.Report.{Report}
 use Rattle.tap_set.specs.Set.{roundedTaps, coefficientsOf}
 use Rattle.network.specs.Rows.{Network}
-use Rattle.building.specs.TapRows.{built}
+use Rattle.build_steps.specs.TapRows.{built}
 use Rattle.sheet_kinds.specs.Text.{networkText, refusedText}
 use Rattle.sheet_input.specs.Argument.{Argument}
 use Rattle.sheet_input.specs.Taps.{tapsOf}

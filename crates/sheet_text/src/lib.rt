@@ -2,14 +2,14 @@
 ghost use Prim.Native.Nat.{_≤_};
 ghost use lib.ListN.{length};
 ghost use Rattle.refusal.specs.Table.{numberOf, placeOf};
-ghost use Rattle.building.specs.TapRows.{built};
-ghost use Rattle.sheet_fields.specs.Inner.{Put};
+ghost use Rattle.build_steps.specs.TapRows.{built};
+ghost use Rattle.text.specs.Inner.{Put};
 ghost use Rattle.sheet_kinds.specs.Text.{networkText, refusedText};
 ghost use Rattle.sheet_input.specs.Argument.{argumentOf};
 ghost use Rattle.sheet_input.specs.Taps.{wholeTaps, tapsOf};
 ghost use Rattle.sheet_text.specs.Sheet.{choices, tapsAnswer, textOf, SheetWritten};
 ghost use Rattle.sheet_text.specs.Inner.{Coefficients};
-use builder::Built;
+use build_network::Built;
 use refusal::Refusal;
 use sheet_input::Fraction;
 use tap_set::RoundedTaps;
@@ -29,7 +29,7 @@ fn coefficient_sheet(out: &mut [u8], coefficients: &[i32]) -> usize
     let choices = [0u32; 256];
     let mut rows = [0u32; 20480];
     let mut taps = [0u32; 768];
-    let answer = builder::build(coefficients, &choices, &mut rows, &mut taps);
+    let answer = build_network::build(coefficients, &choices, &mut rows, &mut taps);
     match answer {
         Built::Rows(n) => sheet_kinds::network_sheet(out, &rows, n as usize, &taps, coefficients),
         Built::Refused(refusal) => refused_sheet(out, refusal),

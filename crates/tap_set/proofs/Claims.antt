@@ -15,7 +15,7 @@ use Rattle.refusal.proofs.Tables.{length-map}
 use Rattle.tap.specs.Rounding.{exact, finite, resultOf, leftOf}
 use Rattle.tap.proofs.Value.{nought}
 use Rattle.tap.proofs.Theorems.{finite-number, left-finite}
-use Rattle.normalise.specs.Normalised.{used}
+use Rattle.tap_normalise.specs.Normalised.{used}
 use Rattle.tap_set.specs.declared.Report.{Report}
 use Rattle.tap_set.specs.Set.{coefficientsOf, TapsRounded}
 use Rattle.tap_set.specs.Figures.{three}

@@ -3,7 +3,7 @@ use mathlib.Core.Path.{refl}
 use lib.Ieee.{round, add, div, lt, fits}
 use Rattle.refusal.specs.Answer.{lowestFrom}
 use Rattle.tap.specs.Rounding.{outside, resultOf}
-use Rattle.normalise.specs.Normalised.{sumFrom}
+use Rattle.tap_normalise.specs.Normalised.{sumFrom}
 use Rattle.tap_set.specs.Set.{largerOf, reported, reportFrom, roundedTaps}
 use Rattle.tap_set.specs.Figures.{three, SetFigures}
 use Rattle.tap_set.specs.Claims.{Binary64}

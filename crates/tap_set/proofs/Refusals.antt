@@ -20,7 +20,7 @@ use Rattle.tap.specs.Rounding.{finite, outside, resultOf, roundedTap}
 use Rattle.tap.specs.Claims.{NearestAway}
 use Rattle.tap.proofs.Answer.{of-finite}
 use Rattle.tap.proofs.Claims.{tap-claims}
-use Rattle.normalise.specs.Normalised.{sumOf, unusable, infinite, used, divisorOf}
+use Rattle.tap_normalise.specs.Normalised.{sumOf, unusable, infinite, used, divisorOf}
 use Rattle.tap_set.specs.declared.Report.{Report}
 use Rattle.tap_set.specs.Set.{reportOf, bounded, roundedTaps}
 use Rattle.tap_set.specs.Inner.{settled}

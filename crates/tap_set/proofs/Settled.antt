@@ -11,7 +11,7 @@ use borrow.Author.Tests.{lt-ltb, le-ltb, eq-eqb, ne-eqb}
 use Rattle.refusal.specs.Answer.{refused, refuseIf, refuseAt, Place, nowhere, at-place, lowestFrom, lowest}
 use Rattle.refusal.proofs.Checks.{check-applies, check-passes, lowest-all, lowest-alike}
 use Rattle.tap.specs.Rounding.{finite}
-use Rattle.normalise.specs.Normalised.{sumFrom, sumOf, unusable, infinite, quotients, used, divisorOf}
+use Rattle.tap_normalise.specs.Normalised.{sumFrom, sumOf, unusable, infinite, quotients, used, divisorOf}
 use Rattle.tap_set.specs.Set.{bounded, roundedTaps}
 use Rattle.tap_set.specs.Inner.{finiteRule, checked, settled}
 use Rattle.tap_set.proofs.Rounds.{notFinite, unnot}

@@ -18,7 +18,7 @@ use Rattle.tap.proofs.Value.{nought}
 use Rattle.tap.proofs.Answer.{of-finite}
 use Rattle.tap.proofs.Theorems.{left-finite, leftover-of}
 use Rattle.tap_set.specs.declared.Report.{Report}
-use Rattle.normalise.specs.Normalised.{sumOf, unusable, infinite, quotients, used, divisorOf}
+use Rattle.tap_normalise.specs.Normalised.{sumOf, unusable, infinite, quotients, used, divisorOf}
 use Rattle.tap_set.specs.Set.{largerOf, reported, reportFrom, reportOf, bounded, roundedTaps}
 use Rattle.tap_set.specs.Claims.{Binary64, Finite}
 use Rattle.tap_set.proofs.Largest.{AtMost, best, AllFinite, Best, best-is}

@@ -13,7 +13,7 @@ use Rattle.word.specs.Bounds.{Coefficient}
 use Rattle.refusal.specs.Answer.{Answer, given, refused}
 use Rattle.tap.specs.Rounding.{TapResult, exact, finite, resultOf, absOf, wholeOf, leftOf, TapRounded}
 use Rattle.tap.specs.Claims.{NearestAway}
-use Rattle.normalise.specs.Normalised.{sumOf, unusable, infinite, used, divisorOf}
+use Rattle.tap_normalise.specs.Normalised.{sumOf, unusable, infinite, used, divisorOf}
 use Rattle.tap_set.specs.declared.Report.{Report}
 use Rattle.tap_set.specs.Set.{TapsRounded}
 use Rattle.tap_set.specs.Figures.{three, SetFigures}

@@ -9,7 +9,7 @@ use Rattle.refusal.specs.Answer.{Answer, given, refused, refuseIf, refuseAt, lo
 use lib.Ieee.{Float, fin}
 use Rattle.tap.specs.Rounding.{TapResult, finite, wholeOf, leftOf, roundedTap}
 use Rattle.tap_set.specs.declared.Report.{Report}
-use Rattle.normalise.specs.Normalised.{sumOf, unusable, infinite, used, divisorOf}
+use Rattle.tap_normalise.specs.Normalised.{sumOf, unusable, infinite, used, divisorOf}
 use Rattle.tap_set.specs.Set.{largerOf, reportOf, bounded}
 
 -- whether an answer is a refusal

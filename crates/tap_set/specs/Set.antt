@@ -12,7 +12,7 @@ use Rattle.tap.specs.Rounding.{TapResult, finite, outside, resultOf, absOf, who
 use Rattle.tap_set.specs.declared.Report.{Report}
 use Rattle.tap_set.specs.declared.RoundedTaps.{RoundedTaps}
 use Rattle.tap_set.specs.declared.RoundedTaps.the-variants.{Given, Refused}
-use Rattle.normalise.specs.Normalised.{sumOf, unusable, infinite, used, divisorOf}
+use Rattle.tap_normalise.specs.Normalised.{sumOf, unusable, infinite, used, divisorOf}
 
 -- "of equal magnitudes the earliest tap's is taken": y only where it is larger than x
 unfoldable pub largerOf : Float → Float → Float

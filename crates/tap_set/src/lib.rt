@@ -6,7 +6,7 @@ ghost use lib.ListN.{length};
 ghost use lib.Ieee.{Float};
 ghost use Rattle.refusal.specs.Answer.{refused, refuseAt, lowest, filled};
 ghost use Rattle.tap.specs.Rounding as Tap;
-ghost use Rattle.normalise.specs.Normalised.{used};
+ghost use Rattle.tap_normalise.specs.Normalised.{used};
 ghost use Rattle.tap_set.specs.Set.{largerOf, coefficientsOf, answerOf, TapsRounded};
 ghost use Rattle.tap_set.specs.Inner.{isRefused, wholeIn, leftIn, withLeftover, Front, acceptedOf, tried, finiteRule, checked, settled};
 use refusal::Refusal;
@@ -139,7 +139,7 @@ fn settle(
     match answer {
         RoundedTaps::Given(report) => RoundedTaps::Given(report),
         RoundedTaps::Refused(refusal) => {
-            let place = normalise::first_not_finite(xs);
+            let place = tap_normalise::first_not_finite(xs);
             if place < xs.len() {
                 not_finite(normalised, place as u32)
             } else {
@@ -154,7 +154,7 @@ fn no_sum(taps: &[f64]) -> RoundedTaps
     requires { ⌜ length (now taps) ≤ 256 ⌝ }
     ensures { λ r. ⌜ answerOf r ≡ refuseAt (lowest (λ (x : Float). not (Tap.finite x)) (now (taps .entry))) 5 (refused 7 0) ⌝ }
 {
-    let place = normalise::first_not_finite(taps);
+    let place = tap_normalise::first_not_finite(taps);
     if place < taps.len() {
         RoundedTaps::Refused(Refusal::TapNotFinite(place as u32))
     } else {
@@ -170,12 +170,12 @@ fn round_quotients(taps: &[f64], f: u32, coefficients: &mut [i32]) -> RoundedTap
     ensures { λ r. ⌜ now (coefficients .exit)
         ≡ filled (settled f true (now (taps .entry))) (coefficientsOf f (used true (now (taps .entry)))) (now (coefficients .entry)) ⌝ }
 {
-    let sum = normalise::total(taps);
-    if !normalise::is_usable(sum) {
+    let sum = tap_normalise::total(taps);
+    if !tap_normalise::is_usable(sum) {
         return no_sum(taps);
     }
     let mut table = [0.0f64; 256];
-    normalise::divide(taps, sum, &mut table);
+    tap_normalise::divide(taps, sum, &mut table);
     let n = taps.len();
     settle(&table[..n], f, sum, true, coefficients)
 }

@@ -3,7 +3,7 @@ use borrow.Author.Needs.{needs}
 use mathlib.Core.Path.{sym, ap, _∙_}
 use Prim.Native.Nat.{ℕ}
 use Rattle.refusal.specs.Answer.{Answer, stored}
-use Rattle.builder.specs.Answer.{answerOf}
+use Rattle.build_network.specs.Answer.{answerOf}
 use Rattle.fir_words.specs.Words.{refusalWord}
 use Rattle.fir_build.proofs.fir_build.Statement.{statement}
 use Rattle.fir_build.proofs.fir_build.Tie as tie

@@ -1,7 +1,7 @@
 -- `sheet_kinds::refused_sheet` meets its contract. Assumes nothing.
 use borrow.Author.Needs.{needs}
 use lib.Dec.{lit≤}
-use Rattle.sheet_fields.proofs.Puts.{then, widen}
+use Rattle.text.proofs.Puts.{then, widen}
 use Rattle.sheet_kinds.specs.Text.{refusedText}
 use Rattle.sheet_lines.specs.Lines.{line, columns, refusedLine}
 use Rattle.sheet_kinds.proofs.refused_sheet.Statement.{statement}

@@ -1,6 +1,6 @@
 -- `sheet_kinds::total_line` meets its contract. Assumes nothing.
 use borrow.Author.Needs.{needs}
-use Rattle.sheet_fields.proofs.Puts.{then}
+use Rattle.text.proofs.Puts.{then}
 use Rattle.sheet_lines.specs.Lines.{line, columns, totalLine}
 use Rattle.sheet_kinds.proofs.total_line.Statement.{statement}
 use Rattle.sheet_kinds.proofs.total_line.Tie as tie

@@ -1,7 +1,7 @@
 -- `sheet_lines::put_shared` meets its contract. Assumes nothing.
 use borrow.Author.Needs.{needs}
-use Rattle.sheet_fields.proofs.Puts.{then, comma}
-use Rattle.sheet_fields.specs.Numbers.{decimal}
+use Rattle.text.proofs.Puts.{then, comma}
+use Rattle.text.specs.Numbers.{decimal}
 use Rattle.sheet_lines.proofs.put_shared.Statement.{statement}
 use Rattle.sheet_lines.proofs.put_shared.Tie as tie
 

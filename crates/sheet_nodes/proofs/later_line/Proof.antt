@@ -1,7 +1,7 @@
 -- `sheet_nodes::later_line` meets its contract. Assumes nothing.
 use borrow.Author.Needs.{needs}
-use Rattle.sheet_fields.proofs.Puts.{then, comma}
-use Rattle.sheet_fields.specs.Numbers.{decimal}
+use Rattle.text.proofs.Puts.{then, comma}
+use Rattle.text.specs.Numbers.{decimal}
 use Rattle.sheet_lines.proofs.Lines.{after-shared, later-shared}
 use Rattle.sheet_nodes.proofs.later_line.Statement.{statement}
 use Rattle.sheet_nodes.proofs.later_line.Tie as tie

@@ -4,8 +4,8 @@ use mathlib.Core.Path.{ap, subst}
 use native.Mathlib.Omega.{arith}
 use lib.Dec.{lit≤}
 use Rattle.network.specs.declared.Row.{Row}
-use Rattle.sheet_fields.specs.Inner.{Put}
-use Rattle.sheet_fields.proofs.Puts.{then, widen}
+use Rattle.text.specs.Inner.{Put}
+use Rattle.text.proofs.Puts.{then, widen}
 use Rattle.sheet_lines.specs.Lines.{nodeLine}
 use Rattle.sheet_lines.proofs.Lines.{node-first, node-later}
 use Rattle.sheet_nodes.proofs.node_line.Statement.{statement}

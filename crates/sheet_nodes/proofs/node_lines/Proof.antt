@@ -5,8 +5,8 @@ use Prim.Native.Nat.{_≤_, _-_, _*_}
 use native.Mathlib.Omega.{arith}
 use lib.ListN.{length}
 use Rattle.network.specs.Rows.{rowAt, rowsOf}
-use Rattle.sheet_fields.proofs.Puts.{then, widen}
-use Rattle.sheet_fields.specs.Inner.{Put}
+use Rattle.text.proofs.Puts.{then, widen}
+use Rattle.text.specs.Inner.{Put}
 use Rattle.sheet_lines.specs.Lines.{nodeLine, linesFrom}
 use Rattle.sheet_lines.proofs.Lines.{lines-next, nothing-put}
 use Rattle.sheet_nodes.proofs.node_lines.Statement.{statement}

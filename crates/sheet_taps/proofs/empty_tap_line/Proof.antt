@@ -1,8 +1,8 @@
 -- `sheet_taps::empty_tap_line` meets its contract. Assumes nothing.
 use borrow.Author.Needs.{needs}
 use lib.Dec.{lit≤}
-use Rattle.sheet_fields.proofs.Puts.{then, widen}
-use Rattle.sheet_fields.specs.Numbers.{decimal, decimalBy}
+use Rattle.text.proofs.Puts.{then, widen}
+use Rattle.text.specs.Numbers.{decimal, decimalBy}
 use Rattle.sheet_lines.specs.Lines.{line, columns}
 use Rattle.sheet_taps.proofs.empty_tap_line.Statement.{statement}
 use Rattle.sheet_taps.proofs.empty_tap_line.Tie as tie

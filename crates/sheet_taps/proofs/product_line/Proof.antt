@@ -4,8 +4,8 @@ use mathlib.Core.Path.{subst}
 use lib.IntN.{ℤ}
 use mir.Syntax.{w32}
 use mir.ValLaws.{toZ-ofZ}
-use Rattle.sheet_fields.proofs.Puts.{then}
-use Rattle.sheet_fields.specs.Inner.{Put}
+use Rattle.text.proofs.Puts.{then}
+use Rattle.text.specs.Inner.{Put}
 use Rattle.sheet_lines.specs.Lines.{productLine}
 use Rattle.sheet_lines.proofs.Lines.{after-shared, product-shared}
 use Rattle.sheet_taps.proofs.product_line.Statement.{statement}

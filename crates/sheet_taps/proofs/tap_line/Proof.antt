@@ -4,7 +4,7 @@ use mathlib.Core.Path.{subst}
 use lib.IntN.{ℤ}
 use mir.Syntax.{w32}
 use mir.ValLaws.{toZ-ofZ}
-use Rattle.sheet_fields.specs.Inner.{Put}
+use Rattle.text.specs.Inner.{Put}
 use Rattle.sheet_lines.specs.Lines.{productLine}
 use Rattle.sheet_lines.proofs.Lines.{tap-none, tap-some}
 use Rattle.sheet_taps.proofs.tap_line.Statement.{statement}

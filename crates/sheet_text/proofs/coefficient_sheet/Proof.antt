@@ -1,9 +1,9 @@
 -- `sheet_text::coefficient_sheet` meets its contract. Assumes nothing.
 use borrow.Author.Needs.{needs}
 use mathlib.Core.Path.{sym, ap, subst, _∙_}
-use Rattle.builder.specs.Answer.{answerOf}
+use Rattle.build_network.specs.Answer.{answerOf}
 use Rattle.sheet_kinds.specs.Text.{networkText}
-use Rattle.sheet_fields.specs.Inner.{Put}
+use Rattle.text.specs.Inner.{Put}
 use Rattle.network.specs.Rows.{Network}
 use Rattle.sheet_text.specs.Sheet.{choices}
 use Rattle.sheet_text.proofs.Building.{zeros, room, Printable, printable, never-refused}

@@ -3,7 +3,7 @@ use borrow.Author.Needs.{needs}
 use mathlib.Core.Path.{subst}
 use Rattle.refusal.specs.Table.{placeOf}
 use Rattle.sheet_kinds.specs.Text.{refusedText}
-use Rattle.sheet_fields.specs.Inner.{Put}
+use Rattle.text.specs.Inner.{Put}
 use Rattle.sheet_text.proofs.refused_sheet.Statement.{statement}
 use Rattle.sheet_text.proofs.refused_sheet.Tie as tie
 

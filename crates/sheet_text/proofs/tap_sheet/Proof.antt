@@ -11,10 +11,10 @@ use Rattle.refusal.proofs.Tables.{length-map}
 use Rattle.tap.specs.Rounding.{resultOf, wholeOf}
 use Rattle.sheet_input.specs.Taps.{tapAt, tapsOf}
 use Rattle.sheet_kinds.specs.Text.{networkText}
-use Rattle.sheet_fields.specs.Inner.{Put}
+use Rattle.text.specs.Inner.{Put}
 use Rattle.sequence.proofs.UpTo.{length-upTo}
 use Rattle.tap_set.specs.Set.{roundedTaps, coefficientsOf, answerOf}
-use Rattle.building.specs.TapRows.{built}
+use Rattle.build_steps.specs.TapRows.{built}
 use Rattle.refusal.specs.Answer.{given}
 use Rattle.sheet_text.specs.Inner.{Coefficients}
 use Rattle.sheet_text.specs.Sheet.{choices}

@@ -13,7 +13,7 @@ use lib.Ieee.{Float, binary64, div}
 use Rattle.refusal.specs.Answer.{Answer, refused, refuseAt, filled, Place, lowest, nowhere, at-place}
 use Rattle.refusal.proofs.Tables.{length-map}
 use Rattle.tap_set.specs.declared.Report.{Report}
-use Rattle.normalise.specs.Normalised.{sumOf, unusable, quotients}
+use Rattle.tap_normalise.specs.Normalised.{sumOf, unusable, quotients}
 use Rattle.tap_set.specs.Set.{coefficientsOf}
 use Rattle.tap_set.specs.Inner.{checked, settled}
 use Rattle.tap_set.proofs.Rounds.{notFinite}

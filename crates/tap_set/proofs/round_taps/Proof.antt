@@ -9,7 +9,7 @@ use lib.ListN.{length}
 use lib.Ieee.{Float, fin, binary64, ofBits}
 use Rattle.refusal.specs.Answer.{Answer, filled}
 use Rattle.tap_set.specs.declared.Report.{Report}
-use Rattle.normalise.specs.Normalised.{used}
+use Rattle.tap_normalise.specs.Normalised.{used}
 use Rattle.tap_set.specs.Set.{coefficientsOf, roundedTaps, TapsRounded}
 use Rattle.tap_set.specs.Inner.{checked, settled}
 use Rattle.tap_set.proofs.Settled.{plain-settled, no-taps, many-taps, short-table, many-bits, few-bits}

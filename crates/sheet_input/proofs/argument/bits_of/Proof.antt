@@ -5,7 +5,7 @@ use Prim.Native.Nat.{_≤_, _-_, _+_, _*_, _<_}
 use native.Mathlib.Omega.{arith}
 use lib.ListN.{length, drop, getD}
 use Rattle.refusal.specs.Answer.{given}
-use Rattle.sheet_fields.specs.Numbers.{areDigits, numberFrom}
+use Rattle.text.specs.Numbers.{areDigits, numberFrom}
 use Rattle.sheet_input.proofs.Digits.{digit-low, digit-high, digit-in, digits-next, digits-stop, digits-end, number-next, number-end, number-grows, refused-empty, refused-digits, refused-large, given-bits}
 use Rattle.sheet_input.proofs.argument.bits_of.Statement.{statement}
 use Rattle.sheet_input.proofs.argument.bits_of.Tie as tie

@@ -1,0 +1,79 @@
+-- `build_chain::next_digit` meets its contract. Assumes nothing.
+use borrow.Author.Needs.{needs}
+use Prim.Native.Nat.{_*_, _-_, _^_, _≤_, _<_}
+use native.Mathlib.Omega.{arith}
+use native.Mathlib.Nat.{mul-one}
+use Rattle.build_chain.proofs.NextDigit.{before, raised-fits, is-next}
+use Rattle.build_chain.proofs.next_digit.Statement.{statement}
+use Rattle.build_chain.proofs.next_digit.Tie as tie
+
+small : (c : tie.After-struct-known2) → c .before .before .before .args .form .plus < 2 ^ 32
+small c = omega (arith, c .before .struct-known .given)
+
+below : (c : tie.After-struct-known2) → c .before .before .highest .result < c .before .before .before .args .chain .place
+below c =
+    let h = c .before .before in
+    let s = h .before in
+    before (s .args .form) (s .args .chain) (s .pre .0) (small c) (h .highest .result) (h .highest .ensures .0) (h .highest .ensures .1)
+
+fits : (c : tie.After-struct-known2)
+    → (2 ≤ 2 ^ (c .before .before .before .args .chain .place - c .before .before .highest .result) * c .before .before .before .args .chain .value)
+    × (2 ^ (c .before .before .before .args .chain .place - c .before .before .highest .result) * c .before .before .before .args .chain .value ≤ 2 ^ 31)
+fits c =
+    let h = c .before .before in
+    let s = h .before in
+    raised-fits (s .args .form) (s .args .chain) (s .pre .0) (small c) (h .highest .result) (h .highest .ensures .0) (h .highest .ensures .1)
+
+highest-requires : tie.Need-highest-requires
+highest-requires c κs = search needs
+
+shr-plus : tie.Need-shr-plus
+shr-plus c = search needs
+
+sub-gap : tie.Need-sub-gap
+sub-gap c = omega (arith, below c)
+
+lifted-requires : tie.Need-lifted-requires
+lifted-requires c κs = let s = c .before .before .before in (omega (arith, s .pre .0 .place-to), omega (arith, fits c .1))
+
+choose-requires : tie.Need-choose-requires
+choose-requires c κs = search needs
+
+add-choose : tie.Need-add-choose
+add-choose c = let l = c .before in record { fits = omega (arith, l .lifted .ensures, fits (l .before) .1) }
+
+sub-choose : tie.Need-sub-choose
+sub-choose c = let l = c .before in omega (arith, l .lifted .ensures, fits (l .before) .0)
+
+choose-requires-2 : tie.Need-choose-requires-2
+choose-requires-2 c κs = search needs
+
+lifted-requires-2 : tie.Need-lifted-requires-2
+lifted-requires-2 c κs = search needs
+
+sub-t12 : tie.Need-sub-t12
+sub-t12 c = search needs
+
+returns : tie.Need-returns
+returns c =
+    let l = c .before .before .before .before in
+    let h = l .before .before .before in
+    let s = h .before in
+    rw (c .before .before .before .choose .ensures, c .before .before .choose2 .ensures, l .lifted .ensures, c .before .lifted2 .ensures, mul-one (2 ^ h .highest .result))
+    (is-next (s .args .form) (s .args .chain) (s .pre .0) (small (l .before)) (h .highest .result) (h .highest .ensures .0) (h .highest .ensures .1))
+
+pub next-digit-spec : {M : Type 1} → statement M
+next-digit-spec =
+    tie.close
+    (tie.spec
+    highest-requires
+    shr-plus
+    sub-gap
+    lifted-requires
+    choose-requires
+    add-choose
+    sub-choose
+    choose-requires-2
+    lifted-requires-2
+    sub-t12
+    returns)

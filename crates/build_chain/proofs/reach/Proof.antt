@@ -1,0 +1,105 @@
+-- `build_chain::reach` meets its contract. Assumes nothing.
+use borrow.Author.Needs.{needs}
+use mathlib.Core.Path.{_≡_, sym, ap, _∙_}
+use native.Mathlib.Omega.{arith}
+use Rattle.refusal.specs.Answer.{nowhere, at-place}
+use Rattle.network.specs.Rows.{rowsOf}
+use Rattle.build_steps.specs.Search.{rowWith}
+use Rattle.build_index.specs.Inner.{foundAt}
+use Rattle.build_index.proofs.Values.{row-found}
+use Rattle.build_chain.proofs.Turns.{found, added-length, written}
+use Rattle.build_chain.proofs.reach.Statement.{statement}
+use Rattle.build_chain.proofs.reach.Tie as tie
+
+abbrev start : tie.After-find → tie.Start
+start c = c .before .before .before .before .before .before .before
+
+-- what `find` gave
+looked-up : (c : tie.After-find) → foundAt (c .find .result) ≡ rowWith (rowsOf (start c .args .table .now) (start c .args .n)) (start c .args .row .value)
+looked-up c = c .find .ensures
+
+at-row : (c : tie.After-i) → rowWith (rowsOf (start (c .before .before) .args .table .now) (start (c .before .before) .args .n)) (start (c .before .before) .args .row .value) ≡ at-place (c .i .given .0 .0)
+at-row c = sym (looked-up (c .before .before)) ∙ ap foundAt (c .i .given .1)
+
+no-row : (c : tie.After-enum-told) → rowWith (rowsOf (start (c .before .before) .args .table .now) (start (c .before .before) .args .n)) (start (c .before .before) .args .row .value) ≡ nowhere
+no-row c = sym (looked-up (c .before .before)) ∙ ap foundAt (c .enum-told .given .1)
+
+find-requires : tie.Need-find-requires
+find-requires c κs = search needs
+
+enum-known-i : tie.Need-enum-known-i
+enum-known-i c = search needs
+
+cast-t15 : tie.Need-cast-t15
+cast-t15 c =
+    let w = c .before in
+    let s = start (w .before .before) in
+    record { fits = omega (arith, row-found (s .args .table .now) (s .args .n) (s .args .row .value) (w .i .given .0 .0) (at-row w) .0, s .pre .0 .few) }
+
+enum-told : tie.Need-enum-told
+enum-told c = search needs
+
+put-requires : tie.Need-put-requires
+put-requires c κs =
+    let t = c .before .before .before in
+    let s = start (t .before .before) in
+    let r = s .pre .1 in
+    let e = added-length (s .args .table .now) (s .args .n) (s .args .row) (no-row t) in
+    (s .pre .0, ((omega (arith, e, r .few), omega (arith, e, r .words), omega (arith, e, r .linked)), no-row t))
+
+add-t23 : tie.Need-add-t23
+add-t23 c = search needs
+
+cast-t24 : tie.Need-cast-t24
+cast-t24 c = search needs
+
+same-length : tie.Need-same-length
+same-length c = search needs
+
+same-length-2 : tie.Need-same-length-2
+same-length-2 c = search needs
+
+same-length-3 : tie.Need-same-length-3
+same-length-3 c = search needs
+
+returns : tie.Need-returns
+returns c =
+    let w = c .before in
+    let s = start (w .before .before) in
+    found (s .args .table .now) (s .args .n) (s .args .row) (s .args .heads .now) (s .args .links .now) (w .i .given .0 .0) (s .pre .0) (at-row w)
+
+same-length-4 : tie.Need-same-length-4
+same-length-4 c = search needs
+
+same-length-5 : tie.Need-same-length-5
+same-length-5 c = search needs
+
+same-length-6 : tie.Need-same-length-6
+same-length-6 c = search needs
+
+returns-2 : tie.Need-returns-2
+returns-2 c =
+    let p = c .before .before .before .before .before .before in
+    let t = p .before .before .before .before in
+    let s = start (t .before .before) in
+    written (s .args .table .now) (s .args .n) (s .args .row) (no-row t) (p .put .last .0) (p .put .last .1 .0) (p .put .last .1 .1 .0) (p .put .ensures)
+
+pub reach-spec : {M : Type 1} → statement M
+reach-spec =
+    tie.close
+    (tie.spec
+    find-requires
+    enum-known-i
+    cast-t15
+    enum-told
+    put-requires
+    add-t23
+    cast-t24
+    same-length
+    same-length-2
+    same-length-3
+    returns
+    same-length-4
+    same-length-5
+    same-length-6
+    returns-2)

@@ -1,0 +1,95 @@
+// Rows written to a lent table one after the other, and found again by their values. Internal: the
+// crates above bring the index, heads cleared, links for as many rows as are written.
+ghost use mathlib.Core.Path.{_≡_};
+ghost use mathlib.Core.List.{[], _∷_, _++_};
+ghost use Prim.Native.Nat.{_+_, _*_, _≤_, _<_};
+ghost use lib.Dec.{eqb};
+ghost use lib.ListN.{length, getD, set};
+ghost use Rattle.refusal.specs.Answer.{nowhere};
+ghost use Rattle.network.specs.Rows.{rowWords, rowsOf};
+ghost use Rattle.build_steps.specs.Search.{rowWith};
+ghost use Rattle.build_index.specs.Inner.{bucketOf, Indexed, withRow, Grown, foundAt};
+use network::Row;
+
+// What a look-up finds: the number of a row, or none.
+pub enum Found {
+    At(usize),
+    Missing,
+}
+
+fn number(x: u16) -> usize
+    ensures { λ r. ⌜ r ≡ x ⌝ }
+{
+    x as usize
+}
+
+// The bucket of a value, of m buckets. Every bucket is in use where m is a power of 2.
+fn bucket(x: u32, m: usize) -> usize
+    requires { ⌜ 0 < m ⌝ }
+    ensures { λ r. ⌜ (r ≡ bucketOf m x) × (r < m) ⌝ }
+{
+    ((x / 2) as usize) & (m - 1)
+}
+
+// Whether no row is in the bucket of x: then no row has this value.
+pub fn is_empty(heads: &[u16], x: u32) -> bool
+    requires { ⌜ 0 < length (now heads) ⌝ }
+    ensures { λ r. ⌜ r ≡ eqb (getD (now (heads .entry)) (bucketOf (length (now (heads .entry))) x) 0) 0 ⌝ }
+{
+    let h = bucket(x, heads.len());
+    heads[h] == 0
+}
+
+// The row that has the value x.
+pub fn find(table: &[u32], heads: &[u16], links: &[u16], n: usize, x: u32) -> Found
+    requires { ⌜ Indexed (now table) (now heads) (now links) n ⌝ }
+    ensures { λ r. ⌜ foundAt r ≡ rowWith (rowsOf (now (table .entry)) n) x ⌝ }
+{
+    let h = bucket(x, heads.len());
+    let mut p = number(heads[h]);
+    while p != 0 {
+        let k = p - 1;
+        if network::read_value(table, k) == x {
+            return Found::At(k);
+        }
+        p = number(links[k]);
+    }
+    Found::Missing
+}
+
+// Row n is written.
+fn write_row(table: &mut [u32], n: usize, row: Row)
+    requires { ⌜ rowWords * n + rowWords ≤ length (now table) ⌝ }
+    ensures { λ _. ⌜ now (table .exit) ≡ withRow (now (table .entry)) n row ⌝ }
+{
+    let at = 5 * n;
+    table[at] = row.left;
+    table[at + 1] = row.right;
+    table[at + 2] = row.shift;
+    table[at + 3] = row.sign;
+    table[at + 4] = row.value;
+}
+
+// Row n, of value x, becomes the last row of its bucket.
+fn enter(heads: &mut [u16], links: &mut [u16], n: usize, x: u32)
+    requires { ⌜ (n < 4096) × (0 < length (now heads)) × (n < length (now links)) ⌝ }
+    ensures { λ _. ⌜ now (links .exit) ≡ set (now (links .entry)) n (getD (now (heads .entry)) (bucketOf (length (now (heads .entry))) x) 0) ⌝ }
+    ensures { λ _. ⌜ now (heads .exit) ≡ set (now (heads .entry)) (bucketOf (length (now (heads .entry))) x) (n + 1) ⌝ }
+{
+    let own = bucket(x, heads.len());
+    links[n] = heads[own];
+    heads[own] = (n + 1) as u16;
+}
+
+// Row n is written and joins the index. No row has its value yet.
+pub fn put(table: &mut [u32], heads: &mut [u16], links: &mut [u16], n: usize, row: Row)
+    requires { ⌜ Indexed (now table) (now heads) (now links) n ⌝ }
+    requires { ⌜ (n < 4096) × (rowWords * n + rowWords ≤ length (now table)) × (n < length (now links)) ⌝ }
+    requires { ⌜ rowWith (rowsOf (now table) n) (row .value) ≡ nowhere ⌝ }
+    ensures { λ _. ⌜ Grown (now (table .entry)) (now (table .exit)) (now (heads .exit)) (now (links .exit)) (n + 1)
+        (rowsOf (now (table .entry)) n ++ (row ∷ [])) ⌝ }
+{
+    write_row(table, n, row);
+    let x = row.value;
+    enter(heads, links, n, x);
+}

@@ -1,0 +1,159 @@
+-- `build_network::build` meets its contract. Assumes nothing.
+use borrow.Author.Needs.{needs}
+use mathlib.Core.Path.{_≡_, sym, ap, _∙_}
+use mathlib.Core.Bool.{Bool, false}
+use Prim.Native.Nat.{ℕ, _*_, _≤_}
+use native.Mathlib.Omega.{arith}
+use lib.ListN.{length}
+use Rattle.refusal.specs.Answer.{nowhere, placeOr, refused}
+use Rattle.refusal.proofs.Checks.{found, found-none}
+use Rattle.network.specs.Rows.{rowWords, tapWords}
+use Rattle.build_steps.specs.Answer.{Choice, choicesOf, noSuchForm, buildAnswer, missingForm}
+use Rattle.build_steps.specs.Built.{BuiltInto}
+use Rattle.build_steps.proofs.Answers.{short, length-choices, no-taps, too-many, too-short, no-form, network-given}
+use Rattle.build_tables.specs.Inner.{Accepted}
+use Rattle.build_network.proofs.Answers.{turned-down, network-left, short-choices, short-rows, short-taps, none-short}
+use Rattle.build_network.proofs.build.Statement.{statement}
+use Rattle.build_network.proofs.build.Tie as tie
+
+-- the tests on the way
+abbrev start : tie.Else2 → tie.Start
+start c = c .before .before .before .before .before
+
+abbrev within : tie.After-first-without-form → tie.Else2
+within c = c .before .before .before .before
+
+some : (c : tie.Else2) → 1 ≤ length (start c .args .coefficients .now)
+some c = omega (arith, c .before .if1 .left)
+
+few : (c : tie.Else2) → length (start c .args .coefficients .now) ≤ 256
+few c = omega (arith, c .if2 .left)
+
+-- every table is long enough
+record Long (c : tie.After-first-without-form) : Type 0 where
+  choices : length (start (within c) .args .coefficients .now) ≤ length (start (within c) .args .choices .now)
+  rows : 4096 * rowWords ≤ length (start (within c) .args .rows .now)
+  taps : 256 * tapWords ≤ length (start (within c) .args .taps .now)
+
+lengths : (c : tie.After-first-without-form) → Long c
+lengths c = record { choices = omega (arith, c .before .before .before .if3 .left); rows = omega (arith, c .before .before .if4 .left); taps = omega (arith, c .before .if5 .left) }
+
+long : (c : tie.After-first-without-form) → short (start (within c) .args .coefficients .now) (start (within c) .args .choices .now) (start (within c) .args .rows .now) (start (within c) .args .taps .now) ≡ false
+long c =
+    let a = start (within c) .args in
+    let l = lengths c in
+    none-short (a .coefficients .now) (a .choices .now) (a .rows .now) (a .taps .now) (l .choices) (l .rows) (l .taps)
+
+-- check 9
+abbrev breaks : Choice → Bool
+breaks c = noSuchForm (c .tap) (c .number)
+
+taps-are : (c : tie.After-first-without-form) → length (choicesOf (start (within c) .args .coefficients .now) (start (within c) .args .choices .now)) ≡ length (start (within c) .args .coefficients .now)
+taps-are c = let a = start (within c) .args in length-choices (a .coefficients .now) (a .choices .now) (lengths c .choices)
+
+place-is : (c : tie.After-first-without-form)
+    → c .first-without-form .result
+    ≡ placeOr (length (choicesOf (start (within c) .args .coefficients .now) (start (within c) .args .choices .now))) (missingForm (start (within c) .args .coefficients .now) (start (within c) .args .choices .now))
+place-is c =
+    let a = start (within c) .args in
+    c .first-without-form .ensures ∙ ap (λ (n : ℕ). placeOr n (missingForm (a .coefficients .now) (a .choices .now))) (sym (taps-are c))
+
+all-forms : (c : tie.Else6) → missingForm (start (within (c .before)) .args .coefficients .now) (start (within (c .before)) .args .choices .now) ≡ nowhere
+all-forms c =
+    let f = c .before in
+    let a = start (within f) .args in
+    found-none breaks (choicesOf (a .coefficients .now) (a .choices .now)) (f .first-without-form .result) (length (a .coefficients .now)) (place-is f) (taps-are f) (omega (arith, c .if6 .left))
+
+accepted : (c : tie.Else6)
+    → Accepted (start (within (c .before)) .args .coefficients .now) (start (within (c .before)) .args .choices .now) (start (within (c .before)) .args .rows .now) (start (within (c .before)) .args .taps .now)
+accepted c =
+    let f = c .before in
+    let l = lengths f in
+    record { few = few (within f); enough = l .choices; forms = all-forms c; rows-long = l .rows; taps-long = l .taps }
+
+-- a refusal leaves the tables as they were
+refusal : (s : tie.Start) (number place : ℕ) → buildAnswer (s .args .coefficients .now) (s .args .choices .now) (s .args .rows .now) (s .args .taps .now) ≡ refused number place
+    → BuiltInto (s .args .coefficients .now) (s .args .choices .now) (s .args .rows .now) (s .args .taps .now) (refused number place) (s .args .rows .now) (s .args .taps .now)
+refusal s number place e = turned-down (s .args .coefficients .now) (s .args .choices .now) (s .args .rows .now) (s .args .taps .now) number place e
+
+returns : tie.Need-returns
+returns c = let s = c .before .before .before .before in let a = s .args in refusal s 1 0 (no-taps (a .coefficients .now) (a .choices .now) (a .rows .now) (a .taps .now) (omega (arith, c .if1 .taken)))
+
+returns-2 : tie.Need-returns-2
+returns-2 c = let s = c .before .before .before .before .before in let a = s .args in refusal s 2 0 (too-many (a .coefficients .now) (a .choices .now) (a .rows .now) (a .taps .now) (omega (arith, c .if2 .taken)))
+
+returns-3 : tie.Need-returns-3
+returns-3 c =
+    let s = start (c .before) in
+    let a = s .args in
+    refusal s 3 0 (too-short (a .coefficients .now) (a .choices .now) (a .rows .now) (a .taps .now) (some (c .before)) (few (c .before)) (short-choices (a .coefficients .now) (a .choices .now) (a .rows .now) (a .taps .now) (omega (arith, c .if3 .taken))))
+
+returns-4 : tie.Need-returns-4
+returns-4 c =
+    let w = c .before .before in
+    let s = start w in
+    let a = s .args in
+    refusal s 3 0 (too-short (a .coefficients .now) (a .choices .now) (a .rows .now) (a .taps .now) (some w) (few w) (short-rows (a .coefficients .now) (a .choices .now) (a .rows .now) (a .taps .now) (omega (arith, c .if4 .taken))))
+
+returns-5 : tie.Need-returns-5
+returns-5 c =
+    let w = c .before .before .before in
+    let s = start w in
+    let a = s .args in
+    refusal s 3 0 (too-short (a .coefficients .now) (a .choices .now) (a .rows .now) (a .taps .now) (some w) (few w) (short-taps (a .coefficients .now) (a .choices .now) (a .rows .now) (a .taps .now) (omega (arith, c .if5 .taken))))
+
+first-without-form-requires : tie.Need-first-without-form-requires
+first-without-form-requires c κs = search needs
+
+cast-t15 : tie.Need-cast-t15
+cast-t15 c = search needs
+
+returns-6 : tie.Need-returns-6
+returns-6 c =
+    let f = c .before in
+    let w = within f in
+    let s = start w in
+    let a = s .args in
+    let h = found breaks (choicesOf (a .coefficients .now) (a .choices .now)) (f .first-without-form .result) (length (a .coefficients .now)) (place-is f) (taps-are f) (omega (arith, c .if6 .taken)) in
+    refusal s 9 (f .first-without-form .result) (no-form (a .coefficients .now) (a .choices .now) (a .rows .now) (a .taps .now) (some w) (few w) (f .first-without-form .result) (long f) h)
+
+build-accepted-requires : tie.Need-build-accepted-requires
+build-accepted-requires c κs = accepted (c .before .before)
+
+cast-t21 : tie.Need-cast-t21
+cast-t21 c = record { fits = omega (arith, c .before .before .before .before .build-accepted .ensures .fits) }
+
+same-length : tie.Need-same-length
+same-length c = search needs
+
+same-length-2 : tie.Need-same-length-2
+same-length-2 c = search needs
+
+returns-7 : tie.Need-returns-7
+returns-7 c =
+    let b = c .before .before .before .before in
+    let k = b .before .before .before in
+    let f = k .before in
+    let w = within f in
+    let s = start w in
+    let a = s .args in
+    let e = network-given (a .coefficients .now) (a .choices .now) (a .rows .now) (a .taps .now) (some w) (few w) (long f) (all-forms k) in
+    network-left (a .coefficients .now) (a .choices .now) (a .rows .now) (a .taps .now) (b .build-accepted .last .1 .1 .0) (b .build-accepted .last .1 .1 .1 .0) (b .build-accepted .result) e (b .build-accepted .ensures)
+
+pub build-spec : {M : Type 1} → statement M
+build-spec =
+    tie.close
+    (tie.spec
+    returns
+    returns-2
+    returns-3
+    returns-4
+    returns-5
+    first-without-form-requires
+    cast-t15
+    returns-6
+    build-accepted-requires
+    cast-t21
+    same-length
+    same-length-2
+    returns-7)

@@ -1,0 +1,159 @@
+-- `build_pair::first_fit` meets its contract. The invariants: nothing fits with the left rows passed, and with this one at the shifts passed.
+-- Assumes nothing.
+use mathlib.Core.Path.{_≡_, sym, ap, _∙_}
+use Prim.Native.Nat.{ℕ, _-_, _*_, _^_, _≤_, _<_}
+use native.Mathlib.Omega.{arith}
+use borrow.Author.Count.{below-more}
+use borrow.Author.Needs.{needs}
+use Rattle.network.specs.Rows.{rowsOf}
+use Rattle.build_steps.specs.Search.{none-fits, fitAtLeft}
+use Rattle.build_index.specs.Inner.{valueAt}
+use Rattle.build_pair_signs.specs.Inner.{fitOf}
+use Rattle.build_pair.proofs.Shifts.{Trying, try-first, few-shifts, try-next, left-none, left-first, fit-none, fit-first}
+use Rattle.build_pair.proofs.first_fit.Statement.{statement}
+use Rattle.build_pair.proofs.first_fit.Tie as tie
+
+abbrev Inv-loop : tie.InvT-loop
+Inv-loop table heads links n most v limit i left value a₀ s₀ a s = Trying table n v left s a
+
+abbrev μ-loop : tie.MeasureT-loop
+μ-loop table heads links n most v limit i left value a₀ s₀ a s = 33 - s
+
+abbrev Inv-search : tie.InvT-search
+Inv-search table heads links n most v limit i₀ i = (i ≤ n) × ((k : ℕ) → k < i → fitAtLeft (rowsOf table n) v k ≡ none-fits)
+
+abbrev μ-search : tie.MeasureT-search
+μ-search table heads links n most v limit i₀ i = n - i
+
+add-limit : tie.Need-add-limit Inv-loop μ-loop Inv-search μ-search
+add-limit c = omega (arith, c .before .before .before .pre .small, c .before .before .before .pre .new-small)
+
+lowest-left-requires : tie.Need-lowest-left-requires Inv-loop μ-loop Inv-search μ-search
+lowest-left-requires c κs = search needs
+
+search-holds : tie.Need-search-holds Inv-loop μ-loop Inv-search μ-search
+search-holds c = c .lowest-left .ensures
+
+narrow-requires : tie.Need-narrow-requires Inv-loop μ-loop Inv-search μ-search
+narrow-requires c κs = omega (arith, c .before .before .before .before .before .before .pre .index .few)
+
+read-value-requires : tie.Need-read-value-requires Inv-loop μ-loop Inv-search μ-search
+read-value-requires c κs = omega (arith, c .before .before .before .before .before .before .before .pre .index .room)
+
+cast-a : tie.Need-cast-a Inv-loop μ-loop Inv-search μ-search
+cast-a c = search needs
+
+mul-a : tie.Need-mul-a Inv-loop μ-loop Inv-search μ-search
+mul-a c = omega (arith, c .read-value .ok)
+
+loop-holds : tie.Need-loop-holds Inv-loop μ-loop Inv-search μ-search
+loop-holds c =
+    let a = c .before .before .before .before .before .before .before .before .args in
+    try-first (a .table .now) (a .n) (a .v) (c .before .narrow .result) (2 * c .read-value .result)
+    (ap (λ k. 2 * k) (c .read-value .ensures ∙ ap (valueAt (a .table .now)) (sym (c .before .narrow .ensures))))
+
+at-shift-requires : tie.Need-at-shift-requires Inv-loop μ-loop Inv-search μ-search
+at-shift-requires c κs =
+    let s = c .before .before .before .before .before .before .before .before .before .before in
+    (s .pre, record { within = omega (arith, c .before .before .before .narrow .ensures); is-lifted = c .before .loop .inv .is-lifted; low = omega (arith, s .pre .small, s .pre .new-small) })
+
+enum-known-row : tie.Need-enum-known-row Inv-loop μ-loop Inv-search μ-search
+enum-known-row c = search needs
+
+enum-told : tie.Need-enum-told Inv-loop μ-loop Inv-search μ-search
+enum-told c = search needs
+
+mul-a-2 : tie.Need-mul-a-2 Inv-loop μ-loop Inv-search μ-search
+mul-a-2 c = omega (arith, c .before .before .before .loop-test .taken, c .before .before .before .before .before .before .before .before .before .before .before .before .before .pre .small, c .before .before .before .before .before .before .before .before .before .before .before .before .before .pre .new-small)
+
+add-s : tie.Need-add-s Inv-loop μ-loop Inv-search μ-search
+add-s c = omega (arith, c .before .before .before .before .loop .inv .to)
+
+loop-less : tie.Need-loop-less Inv-loop μ-loop Inv-search μ-search
+loop-less c =
+    let s = c .before .before .before .before .before .before .before .before .before .before .before .before .before in
+    let a = s .args in
+    let lp = c .before .before .before .before .loop in
+    let left = c .before .before .before .before .before .before .narrow in
+    let w : left .result < a .n = omega (arith, left .ensures) in
+    let h : lp .a < 2 ^ 32 = omega (arith, c .before .before .before .loop-test .taken, s .pre .small, s .pre .new-small) in
+    omega (arith, few-shifts (a .table .now) (a .heads .now) (a .links .now) (a .n) (a .most) (a .v) (s .pre) (left .result) w (lp .s) (lp .a) (lp .inv) h)
+
+loop-again : tie.Need-loop-again Inv-loop μ-loop Inv-search μ-search
+loop-again c =
+    let s = c .before .before .before .before .before .before .before .before .before .before .before .before .before in
+    let a = s .args in
+    let lp = c .before .before .before .before .loop in
+    let left = c .before .before .before .before .before .before .narrow in
+    let w : left .result < a .n = omega (arith, left .ensures) in
+    let h : lp .a < 2 ^ 32 = omega (arith, c .before .before .before .loop-test .taken, s .pre .small, s .pre .new-small) in
+    try-next (a .table .now) (a .heads .now) (a .links .now) (a .n) (a .most) (a .v) (s .pre) (left .result) w (lp .s) (lp .a) (lp .inv) h (sym (c .before .before .at-shift .ensures) ∙ ap fitOf (c .enum-told .given .1))
+
+add-i : tie.Need-add-i Inv-loop μ-loop Inv-search μ-search
+add-i c = search needs
+
+search-less : tie.Need-search-less Inv-loop μ-loop Inv-search μ-search
+search-less c = search needs
+
+search-again : tie.Need-search-again Inv-loop μ-loop Inv-search μ-search
+search-again c =
+    let s = c .before .before .before .before .before .before .before .before .before .before in
+    let a = s .args in
+    let lp = c .before .loop in
+    let left = c .before .before .before .narrow in
+    let w : left .result < a .n = omega (arith, left .ensures) in
+    let sc = c .before .before .before .before .before .search in (
+      omega arith,
+      below-more (λ k. fitAtLeft (rowsOf (a .table .now) (a .n)) (a .v) k ≡ none-fits) (sc .i) (sc .inv .1)
+          (ap (fitAtLeft (rowsOf (a .table .now) (a .n)) (a .v)) (sym (left .ensures))
+          ∙ left-none (a .table .now) (a .heads .now) (a .links .now) (a .n) (a .most) (a .v) (s .pre) (left .result) w (lp .s) (lp .a) (lp .inv) (omega (arith, c .loop-test .left))),
+    )
+
+returns : tie.Need-returns Inv-loop μ-loop Inv-search μ-search
+returns c =
+    let a = c .before .before .before .before .before .before .args in
+    sym (fit-none (a .table .now) (a .n) (a .v) (c .before .search .i) (c .before .search .inv .1) (c .if1 .taken))
+
+returns-2 : tie.Need-returns-2 Inv-loop μ-loop Inv-search μ-search
+returns-2 c =
+    let s = c .before .before .before .before .before .before .before .before .before .before .before .before .before .before in
+    let a = s .args in
+    let lp = c .before .before .before .before .before .loop in
+    let left = c .before .before .before .before .before .before .before .narrow in
+    let w : left .result < a .n = omega (arith, left .ensures) in
+    let h : lp .a < 2 ^ 32 = omega (arith, c .before .before .before .before .loop-test .taken, s .pre .small, s .pre .new-small) in
+    let sc = c .before .before .before .before .before .before .before .before .before .search in
+    let row = c .before .row .given .0 .0 in
+    sym
+    (fit-first (a .table .now) (a .n) (a .v) (sc .i) (sc .inv .1) row (omega arith)
+    (ap (fitAtLeft (rowsOf (a .table .now) (a .n)) (a .v)) (sym (left .ensures))
+    ∙ left-first (a .table .now) (a .heads .now) (a .links .now) (a .n) (a .most) (a .v) (s .pre) (left .result) w (lp .s) (lp .a) (lp .inv) h row (sym (c .before .before .before .at-shift .ensures) ∙ ap fitOf (c .before .row .given .1))))
+
+pub first-fit-spec : {M : Type 1} → statement M
+first-fit-spec =
+    tie.close
+    (tie.spec
+    Inv-loop
+    μ-loop
+    Inv-search
+    μ-search
+    add-limit
+    lowest-left-requires
+    search-holds
+    narrow-requires
+    read-value-requires
+    cast-a
+    mul-a
+    loop-holds
+    at-shift-requires
+    enum-known-row
+    enum-told
+    mul-a-2
+    add-s
+    loop-less
+    loop-again
+    add-i
+    search-less
+    search-again
+    returns
+    returns-2)

@@ -1,0 +1,37 @@
+// Step 2 of building: the search for one new row from two that are there. Internal: the crate above
+// brings the rows with their index.
+ghost use mathlib.Core.Path.{_≡_};
+ghost use Rattle.network.specs.Rows.{rowsOf};
+ghost use Rattle.build_steps.specs.Search.{firstFit};
+ghost use Rattle.build_pair_signs.specs.Inner.{Searchable, fitOf};
+use build_pair_signs::NewRow;
+use build_pair_signs::narrow;
+
+// The first fit for v: lowest left, then lowest shift, then sign. No row's value is above most, so
+// that no shift fits past v + most.
+pub fn first_fit(table: &[u32], heads: &[u16], links: &[u16], n: usize, most: u32, v: u32) -> NewRow
+    requires { ⌜ Searchable (now table) (now heads) (now links) n most v ⌝ }
+    ensures { λ r. ⌜ fitOf r ≡ firstFit (rowsOf (now (table .entry)) n) v ⌝ }
+{
+    let limit = v as u64 + most as u64;
+    let mut i = build_pair_lefts::lowest_left(table, heads, links, n, most, v);
+    let found = 'search: loop {
+        if i >= n {
+            break 'search NewRow::NoneFits;
+        }
+        let left = narrow(i);
+        let value = network::read_value(table, i);
+        let mut a = 2 * (value as u64);
+        let mut s: u32 = 1;
+        while a <= limit {
+            match build_pair_signs::at_shift(table, heads, links, n, most, v, left, s, a) {
+                NewRow::Fits(row) => break 'search NewRow::Fits(row),
+                NewRow::NoneFits => {}
+            }
+            a *= 2;
+            s += 1;
+        }
+        i += 1;
+    };
+    found
+}

@@ -1,0 +1,59 @@
+-- `build_tap_rows::tap_row` meets its contract. Assumes nothing.
+use borrow.Author.Needs.{needs}
+use mathlib.Core.Path.{_≡_, sym, ap, ap₂, _∙_}
+use Prim.Native.Nat.{ℕ}
+use mir.Syntax.{w32}
+use mir.ValLaws.{toZ-ofZ}
+use Rattle.coefficient.specs.Parts.{partsOf, partsIn}
+use Rattle.network.specs.Rows.{rowsOf}
+use Rattle.build_steps.specs.TapRows.{tapRowOf}
+use Rattle.build_tap_rows.proofs.tap_row.Statement.{statement}
+use Rattle.build_tap_rows.proofs.tap_row.Tie as tie
+
+abbrev start : tie.After-reduce → tie.Start
+start c = c .before .before .before .before
+
+-- what `reduce` gave
+reduced : (c : tie.After-reduce) → partsIn (c .reduce .result) ≡ partsOf (start c .args .coefficient)
+reduced c = let s = start c in c .reduce .ensures .split ∙ ap partsOf (toZ-ofZ w32 (s .args .coefficient) (s .fits .coefficient))
+
+reduce-requires : tie.Need-reduce-requires
+reduce-requires c κs = search needs
+
+enum-told : tie.Need-enum-told
+enum-told c = search needs
+
+enum-known-reduction : tie.Need-enum-known-reduction
+enum-known-reduction c = search needs
+
+sign-code-requires : tie.Need-sign-code-requires
+sign-code-requires c κs = search needs
+
+row-of-requires : tie.Need-row-of-requires
+row-of-requires c κs = search needs
+
+returns : tie.Need-returns
+unfolding tapRowOf
+returns c =
+    let a = start (c .before .before) .args in
+    ap (tapRowOf (rowsOf (a .table .now) (a .n))) (ap partsIn (sym (c .enum-told .given .1)) ∙ reduced (c .before .before))
+
+returns-2 : tie.Need-returns-2
+unfolding tapRowOf
+returns-2 c =
+    let w = c .before .before .before in
+    let a = start (w .before .before) .args in
+    ap₂ (λ (x y : ℕ). record { sign = x; row = y; shift = w .reduction .given .0 .0 .shift }) (c .before .sign-code .ensures) (c .row-of .ensures)
+    ∙ ap (tapRowOf (rowsOf (a .table .now) (a .n))) (ap partsIn (sym (w .reduction .given .1)) ∙ reduced (w .before .before))
+
+pub tap-row-spec : {M : Type 1} → statement M
+tap-row-spec =
+    tie.close
+    (tie.spec
+    reduce-requires
+    enum-told
+    enum-known-reduction
+    sign-code-requires
+    row-of-requires
+    returns
+    returns-2)

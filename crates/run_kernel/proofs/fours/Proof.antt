@@ -1,0 +1,90 @@
+-- `run_kernel::fours` meets its contract. Assumes nothing.
+use Prim.Native.Nat.{ℕ, _≤_, _-_, _+_, _%_}
+use mathlib.Core.Path.{_≡_, refl, subst}
+use mathlib.Core.List.{List}
+use native.Mathlib.Omega.{arith}
+use lib.ListN.{length}
+use borrow.Author.Needs.{needs}
+use Rattle.run_tables.specs.Inner.{coefficientsIn, Raised, Quiet}
+use Rattle.run_moves.proofs.Places.{length-in}
+use Rattle.run_kernel.specs.Inner.{Passed}
+use Rattle.run_kernel.proofs.Passes.{passed-none, passed-four}
+use Rattle.run_kernel.proofs.fours.Statement.{statement}
+use Rattle.run_kernel.proofs.fours.Tie as tie
+
+abbrev Inv-loop : tie.InvT-loop
+Inv-loop c v w samples words₀ outputs₀ gain₀ i₀ words outputs gain i =
+    ((i ≤ length samples) × (i % 4 ≡ 0)) × (((length words ≡ 260) × (length outputs ≡ length outputs₀))
+    × ((r : List ℕ) → 256 ≤ length r → Quiet w (coefficientsIn c) r → Raised w v 0 r words₀ → Passed (coefficientsIn c) w v r samples outputs₀ i gain words outputs))
+
+abbrev μ-loop : tie.MeasureT-loop
+μ-loop c v w samples words₀ outputs₀ gain₀ i₀ words outputs gain i = length samples - i
+
+loop-holds : tie.Need-loop-holds Inv-loop μ-loop
+loop-holds c =
+    let a = c .args in
+    ((search needs, refl), ((c .pre .0 .1, refl), λ r l q f. passed-none (coefficientsIn (a .c .now)) (omega (arith, length-in (a .c .now))) (a .w) (a .v .now) r (a .samples .now) (a .outputs .now) (a .words .now) q f))
+
+sub-loop : tie.Need-sub-loop Inv-loop μ-loop
+sub-loop c = search needs
+
+of-four-requires : tie.Need-of-four-requires Inv-loop μ-loop
+of-four-requires c κs =
+    let at = c .before .before .before in
+    let st = at .before in (
+      (st .pre .0 .0, at .loop .inv .1 .0 .0),
+      (
+        (omega (arith, at .loop .inv .0 .0, c .before .before .loop-test .taken), omega (arith, at .loop .inv .1 .0 .1, st .pre .1 .0)),
+        (st .pre .1 .1 .0, st .pre .1 .1 .1),
+      ),
+    )
+
+add-i : tie.Need-add-i Inv-loop μ-loop
+add-i c = search needs
+
+loop-less : tie.Need-loop-less Inv-loop μ-loop
+loop-less c = search needs
+
+loop-again : tie.Need-loop-again Inv-loop μ-loop
+loop-again c =
+    let of = c .before in
+    let at = of .before .before .before .before in
+    let st = at .before in
+    let a = st .args in
+    let i = at .loop .i in
+    let l : i + 4 ≤ length (a .samples .now) = omega (arith, at .loop .inv .0 .0, of .before .before .before .loop-test .taken) in (
+      (l, omega (arith, at .loop .inv .0 .1)),
+      (
+        (of .of-four .ensures .0, search needs),
+        (λ r b q f.
+            passed-four (coefficientsIn (a .c .now)) (omega (arith, length-in (a .c .now))) (a .w) (a .v .now) r (a .samples .now) (a .outputs .now) i (at .loop .gain) _ (at .loop .words) _ (at .loop .outputs) _ l b
+            (of .of-four .ensures .1) (at .loop .inv .1 .1 r b q f)),
+      ),
+    )
+
+same-length : tie.Need-same-length Inv-loop μ-loop
+same-length c = search needs
+
+returns : tie.Need-returns Inv-loop μ-loop
+returns c =
+    let at = c .before in
+    let a = at .before .args in
+    let n = length (a .samples .now) in
+    let e : at .loop .i ≡ n - n % 4 = omega (arith, at .loop .inv .0 .0, at .loop .inv .0 .1, c .loop-test .left) in
+    λ r b q f.
+    subst (λ i. Passed (coefficientsIn (a .c .now)) (a .w) (a .v .now) r (a .samples .now) (a .outputs .now) i (at .loop .gain) (at .loop .words) (at .loop .outputs)) e (at .loop .inv .1 .1 r b q f)
+
+pub fours-spec : {M : Type 1} → statement M
+fours-spec =
+    tie.close
+    (tie.spec
+    Inv-loop
+    μ-loop
+    loop-holds
+    sub-loop
+    of-four-requires
+    add-i
+    loop-less
+    loop-again
+    same-length
+    returns)

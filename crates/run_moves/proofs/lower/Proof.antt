@@ -1,0 +1,103 @@
+-- `run_moves::lower` meets its contract. Assumes nothing.
+use Prim.Native.Nat.{ℕ, _≤_, _-_, _+_, _<_}
+use mathlib.Core.Path.{_≡_, refl, sym, ap, _∙_}
+use mathlib.Core.List.{List}
+use native.Mathlib.Omega.{arith}
+use lib.ListN.{length, length-set, set, getD}
+use borrow.Author.Needs.{needs}
+use Rattle.sequence.specs.Inner.{front}
+use Rattle.sequence.proofs.Front.{front-start, front-next}
+use Rattle.run_convolution.specs.Sums.{held}
+use Rattle.run_convolution.specs.Bounds.{Words}
+use Rattle.run_products.proofs.FourSums.{raised-one}
+use Rattle.run_tables.specs.Inner.{Raised}
+use Rattle.run_moves.proofs.lower.Statement.{statement}
+use Rattle.run_moves.proofs.lower.Tie as tie
+
+abbrev Inv-loop : tie.InvT-loop
+Inv-loop v w gain words registers₀ k₀ registers k =
+    (k ≤ w) × (((r : List ℕ) → Words r → Raised w v gain r words → registers ≡ front (held r) registers₀ k) × (length registers ≡ length registers₀))
+
+abbrev μ-loop : tie.MeasureT-loop
+μ-loop v w gain words registers₀ k₀ registers k = w - k
+
+loop-holds : tie.Need-loop-holds Inv-loop μ-loop
+loop-holds c = (search needs, ((λ r f g. sym (front-start _ _)), refl))
+
+mul-lowered : tie.Need-mul-lowered Inv-loop μ-loop
+mul-lowered c = search needs
+
+element-copy-out-lowered : tie.Need-element-copy-out-lowered Inv-loop μ-loop
+element-copy-out-lowered c = search needs
+
+add-lowered : tie.Need-add-lowered Inv-loop μ-loop
+add-lowered c = search needs
+
+mul-lowered-2 : tie.Need-mul-lowered-2 Inv-loop μ-loop
+mul-lowered-2 c = search needs
+
+element-copy-out-lowered-2 : tie.Need-element-copy-out-lowered-2 Inv-loop μ-loop
+element-copy-out-lowered-2 c = search needs
+
+lowered-requires : tie.Need-lowered-requires Inv-loop μ-loop
+lowered-requires c κs = search needs
+
+mul-registers : tie.Need-mul-registers Inv-loop μ-loop
+mul-registers c = search needs
+
+slice-write-registers : tie.Need-slice-write-registers Inv-loop μ-loop
+slice-write-registers c = search needs
+
+add-k : tie.Need-add-k Inv-loop μ-loop
+add-k c = search needs
+
+loop-less : tie.Need-loop-less Inv-loop μ-loop
+loop-less c = search needs
+
+loop-again : tie.Need-loop-again Inv-loop μ-loop
+loop-again c =
+    let at = c .before .before .before .before in
+    let st = at .before .before in
+    let a = st .args in
+    let k = at .loop .k in
+    let l : k < a .w = c .before .before .before .loop-test .taken in
+    let n : k < length (a .registers .now) = omega (arith, l, st .pre .0, st .pre .1) in (
+      search needs,
+      (
+        (λ r f g.
+            let v : c .lowered .result ≡ held r k = raised-one (getD (a .v .now) (k + 5) 0) (a .gain) (c .lowered .result) (held r k) (omega arith) (f k) (c .lowered .ensures ∙ g .at k l) in
+            ap (λ q. set q k (c .lowered .result)) (at .loop .inv .1 .0 r f g) ∙ ap (set (front (held r) (a .registers .now) k) k) v ∙ front-next (held r) (a .registers .now) k 0 n),
+        simp length-set (at .loop .inv .1 .1),
+      ),
+    )
+
+same-length : tie.Need-same-length Inv-loop μ-loop
+same-length c = search needs
+
+returns : tie.Need-returns Inv-loop μ-loop
+returns c =
+    let at = c .before in
+    let a = at .before .before .args in
+    let e : at .loop .k ≡ a .w = omega (arith, at .loop .inv .0, c .loop-test .left) in
+    λ r f g. at .loop .inv .1 .0 r f g ∙ ap (front (held r) (a .registers .now)) e
+
+pub lower-spec : {M : Type 1} → statement M
+lower-spec =
+    tie.close
+    (tie.spec
+    Inv-loop
+    μ-loop
+    loop-holds
+    mul-lowered
+    element-copy-out-lowered
+    add-lowered
+    mul-lowered-2
+    element-copy-out-lowered-2
+    lowered-requires
+    mul-registers
+    slice-write-registers
+    add-k
+    loop-less
+    loop-again
+    same-length
+    returns)

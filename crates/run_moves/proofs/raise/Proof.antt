@@ -1,0 +1,101 @@
+-- `run_moves::raise` meets its contract. Assumes nothing.
+use Prim.Native.Nat.{ℕ, _≤_, _-_, _+_, _<_}
+use mathlib.Core.Path.{_≡_, sym, ap, _∙_}
+use native.Mathlib.Omega.{arith}
+use lib.ListN.{length, length-set, set, getD}
+use borrow.Author.Needs.{needs}
+use Rattle.sequence.specs.Inner.{front}
+use Rattle.sequence.proofs.Front.{front-start, front-next, front-done}
+use Rattle.run_convolution.proofs.Steps.{held-low}
+use Rattle.run_products.specs.Inner.{raisedBy}
+use Rattle.run_moves.proofs.raise.Statement.{statement}
+use Rattle.run_moves.proofs.raise.Tie as tie
+
+abbrev Inv-loop : tie.InvT-loop
+Inv-loop v w registers words₀ k₀ words k =
+    (k ≤ w) × ((words ≡ front (λ i. raisedBy (getD v (i + 5) 0) 0 (getD registers i 0)) words₀ k) × (length words ≡ 260))
+
+abbrev μ-loop : tie.MeasureT-loop
+μ-loop v w registers words₀ k₀ words k = w - k
+
+loop-holds : tie.Need-loop-holds Inv-loop μ-loop
+loop-holds c = (search needs, (sym (front-start _ _), c .before .pre .1 .1))
+
+mul-raised : tie.Need-mul-raised Inv-loop μ-loop
+mul-raised c = search needs
+
+shared-slice-read-raised : tie.Need-shared-slice-read-raised Inv-loop μ-loop
+shared-slice-read-raised c = search needs
+
+add-raised : tie.Need-add-raised Inv-loop μ-loop
+add-raised c = search needs
+
+mul-raised-2 : tie.Need-mul-raised-2 Inv-loop μ-loop
+mul-raised-2 c = search needs
+
+element-copy-out-raised : tie.Need-element-copy-out-raised Inv-loop μ-loop
+element-copy-out-raised c = search needs
+
+raised-requires : tie.Need-raised-requires Inv-loop μ-loop
+raised-requires c κs = search needs
+
+mul-words : tie.Need-mul-words Inv-loop μ-loop
+mul-words c = search needs
+
+element-write-words : tie.Need-element-write-words Inv-loop μ-loop
+element-write-words c = search needs
+
+add-k : tie.Need-add-k Inv-loop μ-loop
+add-k c = search needs
+
+loop-less : tie.Need-loop-less Inv-loop μ-loop
+loop-less c = search needs
+
+loop-again : tie.Need-loop-again Inv-loop μ-loop
+loop-again c =
+    let at = c .before .before .before .before in
+    let st = at .before .before in
+    let a = st .args in
+    let k = at .loop .k in
+    let f : ℕ → ℕ = λ i. raisedBy (getD (a .v .now) (i + 5) 0) 0 (getD (a .registers .now) i 0) in
+    let n : k < length (a .words .now) = omega (arith, c .before .before .before .loop-test .taken, st .pre .0, st .pre .1 .1) in (
+      search needs,
+      (
+        ap (λ q. set q k (c .raised .result)) (at .loop .inv .1 .0) ∙ ap (set (front f (a .words .now) k) k) (c .raised .ensures) ∙ front-next f (a .words .now) k 0 n,
+        simp length-set (at .loop .inv .1 .1),
+      ),
+    )
+
+returns : tie.Need-returns Inv-loop μ-loop
+returns c =
+    let at = c .before in
+    let st = at .before .before in
+    let a = st .args in
+    let e : at .loop .k ≡ a .w = omega (arith, at .loop .inv .0, c .loop-test .left) in (
+      at .loop .inv .1 .1,
+      record {
+        at =
+            λ k l. ap (λ q. getD q k 0) (at .loop .inv .1 .0) ∙ front-done _ (a .words .now) (at .loop .k) k 0 (omega (arith, e, l))
+            ∙ ap (raisedBy (getD (a .v .now) (k + 5) 0) 0) (sym (held-low (a .registers .now) k (omega (arith, l, st .pre .0))));
+      },
+    )
+
+pub raise-spec : {M : Type 1} → statement M
+raise-spec =
+    tie.close
+    (tie.spec
+    Inv-loop
+    μ-loop
+    loop-holds
+    mul-raised
+    shared-slice-read-raised
+    add-raised
+    mul-raised-2
+    element-copy-out-raised
+    raised-requires
+    mul-words
+    element-write-words
+    add-k
+    loop-less
+    loop-again
+    returns)

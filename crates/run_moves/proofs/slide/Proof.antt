@@ -1,0 +1,92 @@
+-- `run_moves::slide` meets its contract. Assumes nothing.
+use Prim.Native.Nat.{ℕ, _≤_, _-_, _+_, _<_}
+use mathlib.Core.Path.{_≡_, sym, ap, _∙_}
+use native.Mathlib.Omega.{arith}
+use lib.ListN.{length, length-set, set, getD}
+use borrow.Author.Needs.{needs}
+use Rattle.sequence.specs.Inner.{front}
+use Rattle.sequence.proofs.Front.{front-start, front-read, front-next}
+use Rattle.run_moves.specs.Inner.{placed}
+use Rattle.run_moves.proofs.slide.Statement.{statement}
+use Rattle.run_moves.proofs.slide.Tie as tie
+
+abbrev Inv-loop : tie.InvT-loop
+Inv-loop c y0 y1 y2 y3 n words₀ k₀ words k =
+    (k ≤ n) × ((words ≡ front (λ i. placed c y0 y1 y2 y3 (i + 4) (getD words₀ (i + 4) 0)) words₀ k) × (length words ≡ 260))
+
+abbrev μ-loop : tie.MeasureT-loop
+μ-loop c y0 y1 y2 y3 n words₀ k₀ words k = n - k
+
+loop-holds : tie.Need-loop-holds Inv-loop μ-loop
+loop-holds c = (search needs, (sym (front-start _ _), c .pre .1))
+
+add-place : tie.Need-add-place Inv-loop μ-loop
+add-place c = search needs
+
+add-place-2 : tie.Need-add-place-2 Inv-loop μ-loop
+add-place-2 c = search needs
+
+mul-place : tie.Need-mul-place Inv-loop μ-loop
+mul-place c = search needs
+
+element-copy-out-place : tie.Need-element-copy-out-place Inv-loop μ-loop
+element-copy-out-place c = search needs
+
+place-requires : tie.Need-place-requires Inv-loop μ-loop
+place-requires c κs = search needs
+
+mul-words : tie.Need-mul-words Inv-loop μ-loop
+mul-words c = search needs
+
+element-write-words : tie.Need-element-write-words Inv-loop μ-loop
+element-write-words c = search needs
+
+add-k : tie.Need-add-k Inv-loop μ-loop
+add-k c = search needs
+
+loop-less : tie.Need-loop-less Inv-loop μ-loop
+loop-less c = search needs
+
+loop-again : tie.Need-loop-again Inv-loop μ-loop
+loop-again c =
+    let at = c .before .before .before in
+    let st = at .before in
+    let a = st .args in
+    let r = a .words .now in
+    let k = at .loop .k in
+    let f : ℕ → ℕ = λ i. placed (a .c .now) (a .y0) (a .y1) (a .y2) (a .y3) (i + 4) (getD r (i + 4) 0) in
+    let e : getD (at .loop .words) (k + 4) 0 ≡ getD r (k + 4) 0 = ap (λ q. getD q (k + 4) 0) (at .loop .inv .1 .0) ∙ front-read f r k 4 0 in
+    let v : c .place .result ≡ f k = c .place .ensures ∙ ap (placed (a .c .now) (a .y0) (a .y1) (a .y2) (a .y3) (k + 4)) e in
+    let n : k < length r = omega (arith, c .before .before .loop-test .taken, st .pre .0, st .pre .1) in (
+      search needs,
+      (
+        ap (λ q. set q k (c .place .result)) (at .loop .inv .1 .0) ∙ ap (set (front f r k) k) v ∙ front-next f r k 0 n,
+        simp length-set (at .loop .inv .1 .1),
+      ),
+    )
+
+returns : tie.Need-returns Inv-loop μ-loop
+returns c =
+    let at = c .before in
+    let a = at .before .args in
+    let e : at .loop .k ≡ a .n = omega (arith, at .loop .inv .0, c .loop-test .left) in
+    at .loop .inv .1 .0 ∙ ap (front (λ i. placed (a .c .now) (a .y0) (a .y1) (a .y2) (a .y3) (i + 4) (getD (a .words .now) (i + 4) 0)) (a .words .now)) e
+
+pub slide-spec : {M : Type 1} → statement M
+slide-spec =
+    tie.close
+    (tie.spec
+    Inv-loop
+    μ-loop
+    loop-holds
+    add-place
+    add-place-2
+    mul-place
+    element-copy-out-place
+    place-requires
+    mul-words
+    element-write-words
+    add-k
+    loop-less
+    loop-again
+    returns)

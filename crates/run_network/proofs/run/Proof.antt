@@ -1,0 +1,97 @@
+-- `run_network::run` meets its contract. Assumes nothing.
+use mathlib.Core.Path.{_≡_, sym, ap, _∙_}
+use mathlib.Core.Bool.{_||_}
+use mathlib.Core.List.{List}
+use native.Mathlib.Nat.{le-trans, le-of-eq}
+use borrow.Author.Needs.{needs}
+use borrow.Author.Tests.{ltb-false}
+use lib.Dec.{ltb}
+use lib.IntN.{ℤ}
+use lib.ListN.{length}
+use Rattle.refusal.specs.Answer.{Answer}
+use Rattle.refusal.proofs.Checks.{neither}
+use Rattle.network.specs.Accepted.{Accepted}
+use Rattle.network.proofs.Passed.{given-accepted}
+use Rattle.network_check.specs.Inner.{isGiven}
+use Rattle.network.proofs.Given.{length-coefficients}
+use Rattle.network_check.proofs.Answers.{Result, result}
+use Rattle.network_check.proofs.Padded.{length-padded}
+use Rattle.run_calls.specs.Run.{runAnswer}
+use Rattle.run_network.proofs.Answers.{moved, written, kept-registers, kept-outputs}
+use Rattle.run_network.proofs.run.Statement.{statement}
+use Rattle.run_network.proofs.run.Tie as tie
+
+abbrev answer : tie.Start → Answer (List ℤ)
+answer s =
+    let a = s .args in
+    runAnswer (a .rows .now) (a .row-count) (a .taps .now) (a .tap-count) (a .samples .now) (length (a .registers .now)) (length (a .outputs .now))
+
+abbrev buffer : tie.After-examine → List ℤ
+buffer x = x .examine .last .1 .1 .1 .1 .1 .0
+
+abbrev start : tie.After-examine → tie.Start
+start x = x .before .before .before .before .before
+
+-- the network has passed
+held : (c : tie.Then1) → Result (answer (start (c .before .before))) (buffer (c .before .before))
+held c =
+    let x = c .before .before in
+    result (answer (start x)) (buffer x) (ap isGiven (sym (x .examine .ensures .0)) ∙ sym (c .before .passes .ensures) ∙ c .if1 .taken) (x .examine .ensures .1)
+
+accepted : (c : tie.Then1)
+    → let a = start (c .before .before) .args in
+    Accepted (ltb (length (a .registers .now)) 256 || ltb (length (a .outputs .now)) (length (a .samples .now))) (a .rows .now) (a .row-count) (a .taps .now) (a .tap-count) (held c .h)
+accepted c =
+    let a = start (c .before .before) .args in
+    given-accepted (ltb (length (a .registers .now)) 256 || ltb (length (a .outputs .now)) (length (a .samples .now))) (a .rows .now) (a .row-count) (a .taps .now) (a .tap-count) (held c .h) (held c .given-h)
+
+length-buffer : (c : tie.Then1) → length (buffer (c .before .before)) ≡ 256
+length-buffer c =
+    let a = start (c .before .before) .args in
+    ap length (held c .held)
+    ∙ length-padded (held c .h) (le-trans (le-of-eq (ap length (accepted c .passed .result) ∙ length-coefficients (a .rows .now) (a .row-count) (a .taps .now) (a .tap-count))) (accepted c .taps-to))
+
+examine-requires : tie.Need-examine-requires
+examine-requires c κs = search needs
+
+passes-requires : tie.Need-passes-requires
+passes-requires c κs = search needs
+
+feed-requires : tie.Need-feed-requires
+feed-requires c κs =
+    let t = c .before .before .before in
+    let a = start (t .before .before) .args in
+    let long = neither (ltb (length (a .registers .now)) 256) (ltb (length (a .outputs .now)) (length (a .samples .now))) (accepted t .others-long) in
+    (length-buffer t, (ltb-false (length (a .registers .now)) 256 (long .0), ltb-false (length (a .outputs .now)) (length (a .samples .now)) (long .1)))
+
+same-length : tie.Need-same-length
+same-length c = search needs
+
+same-length-2 : tie.Need-same-length-2
+same-length-2 c = search needs
+
+returns : tie.Need-returns
+returns c =
+    let fe = c .before .before .before .feed in
+    let t = c .before .before .before .before .before .before .before in
+    let x = t .before .before in
+    let a = start x .args in
+    record {
+      answer = x .examine .ensures .0;
+      registers = fe .ensures .0 ∙ moved (answer (start x)) (held t .h) (buffer x) (held t .given-h) (held t .held) (a .registers .now) (a .samples .now);
+      outputs = fe .ensures .1 ∙ written (answer (start x)) (held t .h) (buffer x) (held t .given-h) (held t .held) (a .registers .now) (a .samples .now) (a .outputs .now);
+    }
+
+returns-2 : tie.Need-returns-2
+returns-2 c =
+    let x = c .before .before in
+    let a = start x .args in
+    let e = ap isGiven (sym (x .examine .ensures .0)) ∙ sym (c .before .passes .ensures) ∙ c .if1 .left in
+    record {
+      answer = x .examine .ensures .0;
+      registers = kept-registers (answer (start x)) (a .registers .now) (a .samples .now) e;
+      outputs = kept-outputs (answer (start x)) (a .registers .now) (a .samples .now) (a .outputs .now) e;
+    }
+
+pub run-spec : {M : Type 1} → statement M
+run-spec = tie.close (tie.spec examine-requires passes-requires feed-requires same-length same-length-2 returns returns-2)

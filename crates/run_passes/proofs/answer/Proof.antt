@@ -1,0 +1,106 @@
+-- `run_passes::answer` meets its contract. Assumes nothing.
+use mathlib.Core.Path.{refl, ap, _∙_}
+use native.Mathlib.Omega.{arith}
+use lib.ListN.{length-set}
+use borrow.Author.Needs.{needs}
+use mir.Syntax.{w64}
+use mir.Val.{toZ}
+use mir.ValLaws.{toZ-ofZ}
+use Rattle.run_convolution.specs.Sums.{held}
+use Rattle.run_products.specs.Inner.{sampleIn}
+use Rattle.run_tables.specs.Inner.{coefficientsIn}
+use Rattle.run_moves.proofs.Places.{output-place0, output-place1, output-place2, output-place3}
+use Rattle.run_passes.proofs.Outputs.{four-outputs}
+use Rattle.run_passes.proofs.answer.Statement.{statement}
+use Rattle.run_passes.proofs.answer.Tie as tie
+
+output-requires : tie.Need-output-requires
+output-requires c κs = search needs
+
+mul-outputs : tie.Need-mul-outputs
+mul-outputs c = search needs
+
+slice-set-from-outputs : tie.Need-slice-set-from-outputs
+slice-set-from-outputs c = search needs
+
+output-requires-2 : tie.Need-output-requires-2
+output-requires-2 c κs = search needs
+
+add-outputs : tie.Need-add-outputs
+add-outputs c = search needs
+
+mul-outputs-2 : tie.Need-mul-outputs-2
+mul-outputs-2 c = search needs
+
+slice-set-from-outputs-2 : tie.Need-slice-set-from-outputs-2
+slice-set-from-outputs-2 c = simp length-set (omega (arith, c .before .before .pre .0))
+
+output-requires-3 : tie.Need-output-requires-3
+output-requires-3 c κs = search needs
+
+add-outputs-2 : tie.Need-add-outputs-2
+add-outputs-2 c = search needs
+
+mul-outputs-3 : tie.Need-mul-outputs-3
+mul-outputs-3 c = search needs
+
+slice-set-from-outputs-3 : tie.Need-slice-set-from-outputs-3
+slice-set-from-outputs-3 c = simp length-set (omega (arith, c .before .before .before .pre .0))
+
+output-requires-4 : tie.Need-output-requires-4
+output-requires-4 c κs = search needs
+
+add-t12 : tie.Need-add-t12
+add-t12 c = omega (arith, c .before .before .before .before .good .1 .1 .1 .1 .1 .1 .1 .1 .0, c .before .before .before .before .pre .0)
+
+mul-t14 : tie.Need-mul-t14
+mul-t14 c = omega (arith, c .before .before .before .before .good .1 .1 .1 .1 .1 .1 .1 .1 .0, c .before .before .before .before .pre .0)
+
+slice-set-from-outputs-4 : tie.Need-slice-set-from-outputs-4
+slice-set-from-outputs-4 c = simp length-set (omega (arith, c .before .before .before .before .pre .0))
+
+same-length : tie.Need-same-length
+same-length c = search needs
+
+returns : tie.Need-returns
+returns c =
+    let q4 = c .output4 in
+    let q3 = c .before .output3 in
+    let q2 = c .before .before .output2 in
+    let q1 = c .before .before .before .output in
+    let st = c .before .before .before .before in
+    let a = st .args in
+    let t = a .c .now in
+    let p = st .pre .1 .0 in
+    let x0 = sampleIn (a .y0) in
+    let x1 = sampleIn (a .y1) in
+    let x2 = sampleIn (a .y2) in
+    let x3 = sampleIn (a .y3) in
+    λ g r e f.
+    let o0 = toZ-ofZ w64 (q1 .result) (record { sfits = q1 .ok }) ∙ q1 .ensures g r e f ∙ ap (toZ w64) (output-place0 t p x0 x1 x2 x3 r (held r 0) refl) in
+    let o1 = toZ-ofZ w64 (q2 .result) (record { sfits = q2 .ok }) ∙ q2 .ensures g r e f ∙ ap (toZ w64) (output-place1 t p x0 x1 x2 x3 r (held r 1) refl) in
+    let o2 = toZ-ofZ w64 (q3 .result) (record { sfits = q3 .ok }) ∙ q3 .ensures g r e f ∙ ap (toZ w64) (output-place2 t p x0 x1 x2 x3 r (held r 2) refl) in
+    let o3 = toZ-ofZ w64 (q4 .result) (record { sfits = q4 .ok }) ∙ q4 .ensures g r e f ∙ ap (toZ w64) (output-place3 t p x0 x1 x2 x3 r (held r 3) refl) in
+    four-outputs (coefficientsIn t) r x0 x1 x2 x3 (a .outputs .now) (a .i) _ _ _ _ o0 o1 o2 o3
+
+pub answer-spec : {M : Type 1} → statement M
+answer-spec =
+    tie.close
+    (tie.spec
+    output-requires
+    mul-outputs
+    slice-set-from-outputs
+    output-requires-2
+    add-outputs
+    mul-outputs-2
+    slice-set-from-outputs-2
+    output-requires-3
+    add-outputs-2
+    mul-outputs-3
+    slice-set-from-outputs-3
+    output-requires-4
+    add-t12
+    mul-t14
+    slice-set-from-outputs-4
+    same-length
+    returns)

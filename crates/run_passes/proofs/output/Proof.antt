@@ -1,0 +1,71 @@
+-- `run_passes::output` meets its contract. Assumes nothing.
+use Prim.Native.Nat.{_+_}
+use mathlib.Core.Path.{_≡_, sym, ap, _∙_}
+use native.Mathlib.Omega.{arith}
+use lib.ListN.{getD}
+use borrow.Author.Needs.{needs}
+use mir.Syntax.{w64}
+use mir.Val.{toZ}
+use mir.ValLaws.{toZ-ofZ}
+use Rattle.run_convolution.specs.Sums.{held}
+use Rattle.run_products.specs.Inner.{coefficientIn, sampleIn, fourSums, gainAfter, raisedBy}
+use Rattle.run_products.proofs.FourSums.{four-word, raised-one}
+use Rattle.run_moves.specs.Inner.{placed}
+use Rattle.run_moves.proofs.Raising.{place-raised}
+use Rattle.run_passes.proofs.output.Statement.{statement}
+use Rattle.run_passes.proofs.output.Tie as tie
+
+mul-place : tie.Need-mul-place
+mul-place c = search needs
+
+element-copy-out-place : tie.Need-element-copy-out-place
+element-copy-out-place c = search needs
+
+place-requires : tie.Need-place-requires
+place-requires c κs = search needs
+
+add-lowered : tie.Need-add-lowered
+add-lowered c = search needs
+
+mul-lowered : tie.Need-mul-lowered
+mul-lowered c = search needs
+
+element-copy-out-lowered : tie.Need-element-copy-out-lowered
+element-copy-out-lowered c = search needs
+
+lowered-requires : tie.Need-lowered-requires
+lowered-requires c κs = search needs
+
+signed-requires : tie.Need-signed-requires
+signed-requires c κs = search needs
+
+returns : tie.Need-returns
+returns c =
+    let lo = c .before .lowered in
+    let pl = c .before .before .before .place in
+    let st = c .before .before .before .before .before in
+    let a = st .args in
+    let t = a .c .now in
+    let v = a .v .now in
+    let j = a .j in
+    λ g r e f.
+    let s = fourSums (held r j) (coefficientIn (getD t (j + 4) 0)) (coefficientIn (getD t (j + 3) 0)) (coefficientIn (getD t (j + 2) 0)) (coefficientIn (getD t (j + 1) 0)) (sampleIn (a .y0)) (sampleIn (a .y1)) (sampleIn (a .y2)) (sampleIn (a .y3)) in
+    let p : pl .result ≡ raisedBy (getD v (j + 1) 0) (gainAfter g (a .y0) (a .y1) (a .y2) (a .y3)) s =
+    pl .ensures ∙ ap (placed t (a .y0) (a .y1) (a .y2) (a .y3) j) (f .at j (st .pre .0))
+    ∙ place-raised t v (st .pre .1) (a .y0) (a .y1) (a .y2) (a .y3) (omega arith) (omega arith) (omega arith) (omega arith) g j (held r j) (omega (arith, st .pre .0)) in
+    let q : raisedBy (getD v (j + 1) 0) (a .gain) (lo .result) ≡ raisedBy (getD v (j + 1) 0) (a .gain) s = lo .ensures ∙ p ∙ ap (λ n. raisedBy (getD v (j + 1) 0) n s) (sym e) in
+    toZ-ofZ w64 (c .signed .result) (record { sfits = c .signed .ok }) ∙ c .signed .ensures ∙ ap (toZ w64) (raised-one (getD v (j + 1) 0) (a .gain) (lo .result) s (omega arith) (four-word (held r j) _ _ _ _ _ _ _ _) q)
+
+pub output-spec : {M : Type 1} → statement M
+output-spec =
+    tie.close
+    (tie.spec
+    mul-place
+    element-copy-out-place
+    place-requires
+    add-lowered
+    mul-lowered
+    element-copy-out-lowered
+    lowered-requires
+    signed-requires
+    returns)

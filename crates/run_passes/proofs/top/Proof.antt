@@ -1,0 +1,89 @@
+-- `run_passes::top` meets its contract. Assumes nothing.
+use Prim.Native.Nat.{ℕ, _≤_, _-_, _+_, _<_}
+use mathlib.Core.Path.{_≡_, subst}
+use mathlib.Core.List.{List}
+use native.Mathlib.Omega.{arith}
+use lib.ListN.{length, length-set}
+use borrow.Author.Needs.{needs}
+use Rattle.run_convolution.specs.Sums.{held}
+use Rattle.run_tables.specs.Inner.{Raised}
+use Rattle.run_passes.proofs.Tops.{raised-more}
+use Rattle.run_passes.proofs.top.Statement.{statement}
+use Rattle.run_passes.proofs.top.Tie as tie
+
+abbrev Inv-loop : tie.InvT-loop
+Inv-loop v w gain words₀ k₀ words k =
+    ((w ≤ k) × (k ≤ w + 4)) × (((r : List ℕ) → ((i : ℕ) → w ≤ i → held r i ≡ 0) → Raised w v gain r words₀ → Raised k v gain r words) × (length words ≡ 260))
+
+abbrev μ-loop : tie.MeasureT-loop
+μ-loop v w gain words₀ k₀ words k = w + 4 - k
+
+loop-holds : tie.Need-loop-holds Inv-loop μ-loop
+loop-holds c = ((search needs, search needs), ((λ r z f. f), c .pre .1))
+
+add-loop : tie.Need-add-loop Inv-loop μ-loop
+add-loop c = search needs
+
+add-raised : tie.Need-add-raised Inv-loop μ-loop
+add-raised c = search needs
+
+mul-raised : tie.Need-mul-raised Inv-loop μ-loop
+mul-raised c = search needs
+
+element-copy-out-raised : tie.Need-element-copy-out-raised Inv-loop μ-loop
+element-copy-out-raised c = search needs
+
+raised-requires : tie.Need-raised-requires Inv-loop μ-loop
+raised-requires c κs = search needs
+
+mul-words : tie.Need-mul-words Inv-loop μ-loop
+mul-words c = search needs
+
+element-write-words : tie.Need-element-write-words Inv-loop μ-loop
+element-write-words c = search needs
+
+add-k : tie.Need-add-k Inv-loop μ-loop
+add-k c = search needs
+
+loop-less : tie.Need-loop-less Inv-loop μ-loop
+loop-less c = search needs
+
+loop-again : tie.Need-loop-again Inv-loop μ-loop
+loop-again c =
+    let at = c .before .before .before in
+    let st = at .before in
+    let a = st .args in
+    let k = at .loop .k in
+    let l : k < length (at .loop .words) = omega (arith, c .before .before .loop-test .taken, st .pre .0, at .loop .inv .1 .1) in (
+      (omega (arith, at .loop .inv .0 .0), omega (arith, c .before .before .loop-test .taken)),
+      (
+        (λ r z f. raised-more (a .v .now) (a .gain) r (at .loop .words) k (c .raised .result) l (z k (at .loop .inv .0 .0)) (c .raised .ensures) (at .loop .inv .1 .0 r z f)),
+        simp length-set (at .loop .inv .1 .1),
+      ),
+    )
+
+returns : tie.Need-returns Inv-loop μ-loop
+returns c =
+    let at = c .before in
+    let a = at .before .args in
+    let e : at .loop .k ≡ a .w + 4 = omega (arith, at .loop .inv .0, c .loop-test .left) in
+    (at .loop .inv .1 .1, λ r z f. subst (λ n. Raised n (a .v .now) (a .gain) r (at .loop .words)) e (at .loop .inv .1 .0 r z f))
+
+pub top-spec : {M : Type 1} → statement M
+top-spec =
+    tie.close
+    (tie.spec
+    Inv-loop
+    μ-loop
+    loop-holds
+    add-loop
+    add-raised
+    mul-raised
+    element-copy-out-raised
+    raised-requires
+    mul-words
+    element-write-words
+    add-k
+    loop-less
+    loop-again
+    returns)

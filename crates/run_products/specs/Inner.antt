@@ -1,0 +1,37 @@
+-- Offset binary and four sums at a time, for the contracts of inner functions; document 01 does not speak of them. Definitions only.
+use Prim.Native.Nat.{ℕ, _+_, _*_, _%_}
+use lib.IntN.{ℤ, pos, _+ℤ_, _-ℤ_, _*ℤ_}
+use Rattle.run_convolution.specs.Words.{wrapped}
+
+-- the coefficient that is stored with 2^31 added
+abbrev pub coefficientIn : ℕ → ℤ
+coefficientIn c = pos (c % 4294967296) -ℤ pos 2147483648
+
+-- the sample that is stored with 2^15 added
+abbrev pub sampleIn : ℕ → ℤ
+sampleIn y = pos y -ℤ pos 32768
+
+-- a register and a product, modulo 2^64
+abbrev pub plus : ℕ → ℤ → ℤ → ℕ
+plus n a x = wrapped (pos n +ℤ a *ℤ x)
+
+-- a register and four products, one after the other
+unfoldable pub fourSums : ℕ → ℤ → ℤ → ℤ → ℤ → ℤ → ℤ → ℤ → ℤ → ℕ
+fourSums n a b c d x0 x1 x2 x3 = plus (plus (plus (plus n a x0) b x1) c x2) d x3
+
+-- a register and four products of stored numbers, modulo 2^64
+unfoldable pub fourProducts : (n c0 c1 c2 c3 y0 y1 y2 y3 : ℕ) → ℕ
+fourProducts n c0 c1 c2 c3 y0 y1 y2 y3 =
+    (n + ((c0 % 4294967296) * y0 + (c1 % 4294967296) * y1 + (c2 % 4294967296) * y2 + (c3 % 4294967296) * y3)) % 18446744073709551616
+
+-- 2^15 times the coefficient stored in c above the level v: what the offset of a sample adds to its product
+abbrev pub levelBelow : ℕ → ℕ → ℕ
+levelBelow v c = (v + (18446673704965373952 + 32768 * (c % 4294967296))) % 18446744073709551616
+
+-- 2^31 times four stored samples above the gain g: what the offsets of coefficients add to their products
+abbrev pub gainAfter : ℕ → ℕ → ℕ → ℕ → ℕ → ℕ
+gainAfter g y0 y1 y2 y3 = (g + 2147483648 * (y0 + y1 + y2 + y3)) % 18446744073709551616
+
+-- a sum with a level and a gain added, modulo 2^64
+abbrev pub raisedBy : ℕ → ℕ → ℕ → ℕ
+raisedBy level gain n = (n + (level + gain)) % 18446744073709551616

@@ -1,0 +1,134 @@
+// Registers and products as 64-bit words: one product with its sign, and four at a time in offset
+// binary, where a number is stored with half its range added, so that a product of two is one
+// multiplication without a sign. What the offsets add is not taken off product by product: a sum
+// stays raised by a level and a gain for as long as samples pass. All functions here are internal:
+// they serve the crates `run_..` and `run_kernel`.
+ghost use mathlib.Core.Path.{_≡_};
+ghost use Prim.Native.Nat.{_≤_, _+_, _*_, _%_};
+ghost use lib.IntN.{pos, _+ℤ_, _*ℤ_};
+ghost use mir.Syntax.{w64};
+ghost use mir.Val.{ofZ, toZ};
+ghost use Rattle.run_convolution.specs.Words.{wrapped};
+ghost use Rattle.run_products.specs.Inner.{coefficientIn, sampleIn, fourProducts, levelBelow, gainAfter, raisedBy};
+
+// The 64-bit pattern of n in two's complement.
+fn pattern(n: i64) -> u64
+    ensures { λ r. ⌜ r ≡ ofZ w64 n ⌝ }
+{
+    if n < 0 {
+        18446744073709551615 - (!n) as u64
+    } else {
+        n as u64
+    }
+}
+
+// A word read as signed.
+pub fn signed(word: u64) -> i64
+    ensures { λ r. ⌜ r ≡ toZ w64 word ⌝ }
+{
+    if word < 9223372036854775808 {
+        word as i64
+    } else {
+        !((18446744073709551615 - word) as i64)
+    }
+}
+
+fn product(c: i32, x: i16) -> i64
+    ensures { λ r. ⌜ r ≡ c *ℤ x ⌝ }
+{
+    (c as i64) * (x as i64)
+}
+
+// A register and the product of a coefficient and a sample.
+pub fn sum(register: u64, c: i32, x: i16) -> u64
+    ensures { λ s. ⌜ s ≡ wrapped (pos register +ℤ c *ℤ x) ⌝ }
+{
+    std::num::wrapping_add_u64(register, pattern(product(c, x)))
+}
+
+// A coefficient with 2^31 added.
+pub fn offset_coefficient(n: i32) -> u64
+    ensures { λ r. ⌜ coefficientIn r ≡ n ⌝ }
+{
+    if n < 0 {
+        2147483647 - (!n) as u64
+    } else {
+        n as u64 + 2147483648
+    }
+}
+
+// A sample with 2^15 added.
+pub fn offset_sample(x: i16) -> u16
+    ensures { λ r. ⌜ sampleIn r ≡ x ⌝ }
+{
+    if x < 0 {
+        32767 - (!x) as u16
+    } else {
+        x as u16 + 32768
+    }
+}
+
+// One multiplication without a sign.
+fn part(c: u64, y: u16) -> u64
+    ensures { λ r. ⌜ (r ≡ (c % 4294967296) * y) × (r ≤ 281474976710656) ⌝ }
+{
+    (c % 4294967296) * (y as u64)
+}
+
+// A register and four products of stored numbers.
+pub fn four(
+    register: u64,
+    c0: u64,
+    c1: u64,
+    c2: u64,
+    c3: u64,
+    y0: u16,
+    y1: u16,
+    y2: u16,
+    y3: u16,
+) -> u64
+    ensures { λ r. ⌜ r ≡ fourProducts register c0 c1 c2 c3 y0 y1 y2 y3 ⌝ }
+{
+    let p0 = part(c0, y0);
+    let p1 = part(c1, y1);
+    let p2 = part(c2, y2);
+    let p3 = part(c3, y3);
+    std::num::wrapping_add_u64(register, p0 + p1 + p2 + p3)
+}
+
+// The level of a place, from that of the place after it and the coefficient between them.
+pub fn level_below(level: u64, c: u64) -> u64
+    ensures { λ r. ⌜ r ≡ levelBelow level c ⌝ }
+{
+    let by = std::num::wrapping_add_u64(18446673704965373952, 32768 * (c % 4294967296));
+    std::num::wrapping_add_u64(level, by)
+}
+
+fn word(y: u16) -> u64
+    ensures { λ r. ⌜ r ≡ y ⌝ }
+{
+    y as u64
+}
+
+// The gain four samples on.
+pub fn gain_after(gain: u64, y0: u16, y1: u16, y2: u16, y3: u16) -> u64
+    ensures { λ r. ⌜ r ≡ gainAfter gain y0 y1 y2 y3 ⌝ }
+{
+    std::num::wrapping_add_u64(
+        gain,
+        2147483648 * (word(y0) + word(y1) + word(y2) + word(y3)),
+    )
+}
+
+pub fn raised(n: u64, level: u64, gain: u64) -> u64
+    ensures { λ r. ⌜ r ≡ raisedBy level gain n ⌝ }
+{
+    std::num::wrapping_add_u64(n, std::num::wrapping_add_u64(level, gain))
+}
+
+// The word that was raised.
+pub fn lowered(n: u64, level: u64, gain: u64) -> u64
+    ensures { λ r. ⌜ raisedBy level gain r ≡ n ⌝ }
+{
+    std::num::wrapping_sub_u64(n, std::num::wrapping_add_u64(level, gain))
+}

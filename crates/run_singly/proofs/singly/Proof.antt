@@ -1,0 +1,140 @@
+-- `run_singly::singly` meets its contract. Assumes nothing.
+use Prim.Native.Nat.{_≤_, _-_, _<_}
+use mathlib.Core.Path.{_≡_, refl, sym, ap, subst, _∙_}
+use native.Mathlib.Omega.{arith}
+use lib.ListN.{length, length-set, drop, getD}
+use borrow.Author.Needs.{needs}
+use mathlib.Core.Path.{ap₂}
+use lib.IntN.{pos, _+ℤ_, _*ℤ_}
+use lib.Seq.{sets}
+use mir.Syntax.{w16, w32, w64}
+use mir.Val.{toZ, ofZ}
+use mir.ValLaws.{toZ-ofZ}
+use Rattle.run_convolution.specs.Words.{wrapped}
+use Rattle.run_convolution.specs.Running.{sumAt, next, registersOf, outputsOf}
+use Rattle.run_tables.specs.Inner.{Quiet}
+use Rattle.run_tables.proofs.Quiets.{quiet-next}
+use Rattle.run_singly.proofs.Single.{one-registers, one-outputs, end-registers, end-outputs}
+use Rattle.run_singly.proofs.singly.Statement.{statement}
+use Rattle.run_singly.proofs.singly.Tie as tie
+
+abbrev Inv-loop : tie.InvT-loop
+Inv-loop h w samples start registers₀ outputs₀ i₀ registers outputs i =
+    ((i ≤ length samples) × (Quiet w h registers)) × ((length registers ≡ length registers₀) × ((length outputs ≡ length outputs₀)
+    × ((registersOf h registers (drop i samples) ≡ registersOf h registers₀ (drop start samples))
+    × (sets outputs i (outputsOf h registers (drop i samples)) ≡ sets outputs₀ start (outputsOf h registers₀ (drop start samples))))))
+
+abbrev μ-loop : tie.MeasureT-loop
+μ-loop h w samples start registers₀ outputs₀ i₀ registers outputs i = length samples - i
+
+loop-holds : tie.Need-loop-holds Inv-loop μ-loop
+loop-holds c = ((search needs, c .before .pre .1), (refl, (refl, (refl, refl))))
+
+mul-x : tie.Need-mul-x Inv-loop μ-loop
+mul-x c = search needs
+
+shared-slice-copy-out-x : tie.Need-shared-slice-copy-out-x Inv-loop μ-loop
+shared-slice-copy-out-x c = search needs
+
+slice-read-sum : tie.Need-slice-read-sum Inv-loop μ-loop
+slice-read-sum c = search needs
+
+element-copy-out-sum : tie.Need-element-copy-out-sum Inv-loop μ-loop
+element-copy-out-sum c = search needs
+
+sum-requires : tie.Need-sum-requires Inv-loop μ-loop
+sum-requires c κs = search needs
+
+signed-requires : tie.Need-signed-requires Inv-loop μ-loop
+signed-requires c κs = search needs
+
+mul-t9 : tie.Need-mul-t9 Inv-loop μ-loop
+mul-t9 c = search needs
+
+slice-set-from-outputs : tie.Need-slice-set-from-outputs Inv-loop μ-loop
+slice-set-from-outputs c = search needs
+
+move-one-requires : tie.Need-move-one-requires Inv-loop μ-loop
+move-one-requires c κs =
+    let at = c .before .before .before .before .before .before .before in
+    let st = at .before .before in
+    (st .pre .0 .0, (omega (arith, at .loop .inv .1 .0, st .pre .0 .1 .1 .0), at .loop .inv .0 .1))
+
+add-i : tie.Need-add-i Inv-loop μ-loop
+add-i c = search needs
+
+loop-less : tie.Need-loop-less Inv-loop μ-loop
+loop-less c = search needs
+
+loop-again : tie.Need-loop-again Inv-loop μ-loop
+unfolding sumAt
+loop-again c =
+    let mo = c .before .before in
+    let sg = mo .before .before in
+    let sm = sg .before in
+    let at = sm .before .before .before .before .before in
+    let st = at .before .before in
+    let a = st .args in
+    let h = a .h .now in
+    let xs = a .samples .now in
+    let r = at .loop .registers in
+    let i = at .loop .i in
+    let x = getD xs i (pos 0) in
+    let u : toZ w16 (ofZ w16 x) ≡ x = toZ-ofZ w16 x (record { sfits = sm .before .before .before .x .given }) in
+    let v : toZ w32 (ofZ w32 (getD h 0 (pos 0))) ≡ getD h 0 (pos 0) = toZ-ofZ w32 (getD h 0 (pos 0)) (record { sfits = sm .before .sum-arg .given }) in
+    let s : sm .sum .result ≡ sumAt h x r 0 = sm .sum .ensures ∙ ap₂ (λ p q. wrapped (pos (getD r 0 0) +ℤ p *ℤ q)) v u in
+    let o : toZ w64 (ofZ w64 (sg .signed .result)) ≡ toZ w64 (sumAt h x r 0) =
+    toZ-ofZ w64 (sg .signed .result) (record { sfits = sg .signed .ok }) ∙ sg .signed .ensures ∙ ap (toZ w64) s in
+    let e = mo .move-one .ensures ∙ ap (λ y. next h y r) u in
+    let l : i < length xs = sm .before .before .before .before .loop-test .taken in
+    let q = quiet-next h (omega (arith, st .pre .0 .0)) (a .w) x r (at .loop .inv .0 .1) in (
+      (omega (arith, l), subst (Quiet (a .w) h) (sym e) q),
+      (
+        search needs,
+        (
+          simp length-set (at .loop .inv .1 .1 .0),
+          (
+            one-registers h xs r i l _ e ∙ at .loop .inv .1 .1 .1 .0,
+            one-outputs h xs r i l _ e (at .loop .outputs) (toZ w64 (ofZ w64 (sg .signed .result))) o ∙ at .loop .inv .1 .1 .1 .1,
+          ),
+        ),
+      ),
+    )
+
+same-length : tie.Need-same-length Inv-loop μ-loop
+same-length c = search needs
+
+same-length-2 : tie.Need-same-length-2 Inv-loop μ-loop
+same-length-2 c = search needs
+
+returns : tie.Need-returns Inv-loop μ-loop
+returns c =
+    let at = c .before .loop in
+    let a = c .before .before .before .args in
+    let l : length (a .samples .now) ≤ at .i = c .loop-test .left in (
+      sym (end-registers (a .h .now) (a .samples .now) (at .registers) (at .i) l) ∙ at .inv .1 .1 .1 .0,
+      sym (end-outputs (a .h .now) (a .samples .now) (at .registers) (at .i) (at .outputs) l) ∙ at .inv .1 .1 .1 .1,
+    )
+
+pub singly-spec : {M : Type 1} → statement M
+singly-spec =
+    tie.close
+    (tie.spec
+    Inv-loop
+    μ-loop
+    loop-holds
+    mul-x
+    shared-slice-copy-out-x
+    slice-read-sum
+    element-copy-out-sum
+    sum-requires
+    signed-requires
+    mul-t9
+    slice-set-from-outputs
+    move-one-requires
+    add-i
+    loop-less
+    loop-again
+    same-length
+    same-length-2
+    returns)

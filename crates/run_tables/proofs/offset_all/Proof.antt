@@ -1,0 +1,83 @@
+-- `run_tables::offset_all` meets its contract. Assumes nothing.
+use Prim.Native.Nat.{_≤_, _-_}
+use mathlib.Core.Path.{_≡_, subst, _∙_}
+use native.Mathlib.Omega.{arith}
+use lib.ListN.{getD}
+use borrow.Author.Needs.{needs}
+use lib.IntN.{pos}
+use mir.Syntax.{w32}
+use mir.ValLaws.{toZ-ofZ}
+use Rattle.run_tables.proofs.Filling.{Filled, filled-start, filled-next, filled-padded, filled-blank, filled-all}
+use Rattle.run_tables.proofs.offset_all.Statement.{statement}
+use Rattle.run_tables.proofs.offset_all.Tie as tie
+
+abbrev Inv-loop : tie.InvT-loop
+Inv-loop h w c₀ k₀ c k = (k ≤ w) × (Filled h c k)
+
+abbrev μ-loop : tie.MeasureT-loop
+μ-loop h w c₀ k₀ c k = w - k
+
+loop-holds : tie.Need-loop-holds Inv-loop μ-loop
+loop-holds c = (search needs, filled-start _ _ (c .pre .1 .0))
+
+mul-offset-coefficient : tie.Need-mul-offset-coefficient Inv-loop μ-loop
+mul-offset-coefficient c = search needs
+
+element-copy-out-offset-coefficient : tie.Need-element-copy-out-offset-coefficient Inv-loop μ-loop
+element-copy-out-offset-coefficient c = search needs
+
+offset-coefficient-requires : tie.Need-offset-coefficient-requires Inv-loop μ-loop
+offset-coefficient-requires c κs = search needs
+
+add-c : tie.Need-add-c Inv-loop μ-loop
+add-c c = search needs
+
+mul-c : tie.Need-mul-c Inv-loop μ-loop
+mul-c c = search needs
+
+element-write-c : tie.Need-element-write-c Inv-loop μ-loop
+element-write-c c = omega (arith, c .before .before .before .loop .inv .1 .size)
+
+add-k : tie.Need-add-k Inv-loop μ-loop
+add-k c = search needs
+
+loop-less : tie.Need-loop-less Inv-loop μ-loop
+loop-less c = search needs
+
+loop-again : tie.Need-loop-again Inv-loop μ-loop
+loop-again c =
+    let at = c .before .before .before in
+    let h = at .before .args .h .now in
+    let k = at .loop .k in
+    let u = toZ-ofZ w32 (getD h k (pos 0)) (record { sfits = c .before .offset-coefficient-arg .given }) in
+    (search needs, filled-next h (at .loop .c) k (c .offset-coefficient .result) (omega (arith, c .before .before .loop-test .taken)) (at .loop .inv .1) (c .offset-coefficient .ensures ∙ u))
+
+returns : tie.Need-returns Inv-loop μ-loop
+returns c =
+    let at = c .before in
+    let h = at .before .args .h .now in
+    let st = at .before in
+    let w = st .args .w in
+    let e : at .loop .k ≡ w = omega (arith, at .loop .inv .0, c .loop-test .left) in
+    let f : Filled h (at .loop .c) w = subst (Filled h (at .loop .c)) e (at .loop .inv .1) in (
+      filled-padded h _ w (st .pre .0 .1) (st .pre .0 .0) (st .pre .1 .1) f,
+      (filled-all h _ w (st .pre .0 .1) (st .pre .0 .0) (st .pre .1 .1) f, filled-blank h _ w (st .pre .0 .1) (st .pre .0 .0) (st .pre .1 .1) f),
+    )
+
+pub offset-all-spec : {M : Type 1} → statement M
+offset-all-spec =
+    tie.close
+    (tie.spec
+    Inv-loop
+    μ-loop
+    loop-holds
+    mul-offset-coefficient
+    element-copy-out-offset-coefficient
+    offset-coefficient-requires
+    add-c
+    mul-c
+    element-write-c
+    add-k
+    loop-less
+    loop-again
+    returns)

@@ -1,0 +1,73 @@
+-- `tap_normalise::divide` meets its contract. The invariant: the quotients of the taps passed stand at the front. Assumes nothing.
+use borrow.Author.Needs.{needs}
+use mathlib.Core.Path.{_≡_, refl, ap, _∙_}
+use Prim.Native.Nat.{_-_, _≤_}
+use native.Mathlib.Omega.{arith}
+use lib.ListN.{length, length-set, set, getD}
+use mathlib.Core.List.{List}
+use lib.Ieee.{Float, nan, binary64, div}
+use Rattle.refusal.proofs.Tables.{front, front-next, front-end}
+use Rattle.tap_normalise.proofs.divide.Statement.{statement}
+use Rattle.tap_normalise.proofs.divide.Tie as tie
+
+abbrev over : Float → Float → Float
+over sum x = div binary64 x sum
+
+abbrev Inv-loop : tie.InvT-loop
+Inv-loop taps sum table₀ i₀ table i = (i ≤ length taps) × (table ≡ front (over sum) taps table₀ i) × (length table ≡ length table₀)
+
+abbrev μ-loop : tie.MeasureT-loop
+μ-loop taps sum table₀ i₀ table i = length taps - i
+
+loop-holds : tie.Need-loop-holds Inv-loop μ-loop
+loop-holds c = (search needs, refl, refl)
+
+mul-table : tie.Need-mul-table Inv-loop μ-loop
+mul-table c = search needs
+
+shared-slice-read-table : tie.Need-shared-slice-read-table Inv-loop μ-loop
+shared-slice-read-table c = search needs
+
+mul-table-2 : tie.Need-mul-table-2 Inv-loop μ-loop
+mul-table-2 c = search needs
+
+slice-write-table : tie.Need-slice-write-table Inv-loop μ-loop
+slice-write-table c = search needs
+
+add-i : tie.Need-add-i Inv-loop μ-loop
+add-i c = search needs
+
+loop-less : tie.Need-loop-less Inv-loop μ-loop
+loop-less c = search needs
+
+loop-again : tie.Need-loop-again Inv-loop μ-loop
+loop-again c =
+    let l = c .before .before in
+    let a = l .before .args in
+    (search needs, ap (λ (t : List Float). set t (l .loop .i) (over (a .sum) (getD (a .taps .now) (l .loop .i) nan))) (l .loop .inv .1) ∙ front-next (over (a .sum)) nan (a .taps .now) (a .table .now) (l .loop .i) (c .before .loop-test .taken) (omega arith), length-set (l .loop .table) (l .loop .i) _ ∙ l .loop .inv .2)
+
+same-length : tie.Need-same-length Inv-loop μ-loop
+same-length c = search needs
+
+returns : tie.Need-returns Inv-loop μ-loop
+returns c =
+    let l = c .before in
+    let a = l .before .args in
+    l .loop .inv .1 ∙ front-end (over (a .sum)) (a .taps .now) (a .table .now) (l .loop .i) (l .loop .inv .0) (c .loop-test .left)
+
+pub divide-spec : {M : Type 1} → statement M
+divide-spec =
+    tie.close
+    (tie.spec
+    Inv-loop
+    μ-loop
+    loop-holds
+    mul-table
+    shared-slice-read-table
+    mul-table-2
+    slice-write-table
+    add-i
+    loop-less
+    loop-again
+    same-length
+    returns)

@@ -1,0 +1,25 @@
+-- `text::put_last` meets its contract. Assumes nothing.
+use borrow.Author.Needs.{needs}
+use Rattle.text.proofs.Puts.{then}
+use Rattle.text.proofs.put_last.Statement.{statement}
+use Rattle.text.proofs.put_last.Tie as tie
+
+put-number-requires : tie.Need-put-number-requires
+put-number-requires c κs = search needs
+
+slice-aggregate-put : tie.Need-slice-aggregate-put
+slice-aggregate-put c = search needs
+
+put-requires : tie.Need-put-requires
+put-requires c κs = search needs
+
+same-length : tie.Need-same-length
+same-length c = search needs
+
+returns : tie.Need-returns
+returns c =
+    then (c .before .before .before .before .before .before .before .put-number .ensures) (c .before .before .put .ensures)
+
+pub put-last-spec : {M : Type 1} → statement M
+put-last-spec =
+    tie.close (tie.spec put-number-requires slice-aggregate-put put-requires same-length returns)
