@@ -4,3 +4,4 @@ pub mod Masks
 pub mod Longer
 pub mod Turns
 pub mod Starts
+pub mod Listed

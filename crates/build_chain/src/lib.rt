@@ -1,5 +1,7 @@
 // Step 3 of building: a chosen form read from its highest nonzero digit down, with a row for each value
-// on the way. Internal: the crate above brings the rows with their index.
+// on the way, over rows with their index.
+mod chosen;
+
 ghost use mathlib.Core.Path.{_≡_};
 ghost use mathlib.Core.Bool.{cond};
 ghost use Prim.Native.Nat.{suc, _+_, _*_, _-_, _^_, _≤_, _<_};
@@ -11,6 +13,7 @@ ghost use Rattle.build_steps.specs.Chain.{addUnless, chained};
 ghost use Rattle.build_index.specs.Inner.{Indexed, Grown};
 ghost use Rattle.build_chain.specs.Inner.{HasRoom, Readable, Digits, Reading, toCome, IsNext, Reached, Turned};
 use build_index::Found;
+pub use chosen::chosen_form;
 use form_masks::Form;
 use network::Row;
 

@@ -1,4 +1,6 @@
 // A network built from coefficients and chosen forms.
+mod form_choices;
+
 ghost use Rattle.build_steps.specs.Built.{BuiltInto};
 ghost use Rattle.build_network.specs.Answer.{answerOf};
 use refusal::Refusal;
@@ -31,7 +33,7 @@ pub fn build(coefficients: &[i32], choices: &[u32], rows: &mut [u32], taps: &mut
     if taps.len() < 768 {
         return Built::Refused(Refusal::ShortTable);
     }
-    let tap = build_form_choices::first_without_form(coefficients, choices);
+    let tap = form_choices::first_without_form(coefficients, choices);
     if tap < n {
         return Built::Refused(Refusal::NoSuchForm(tap as u32));
     }

@@ -15,10 +15,10 @@ use Rattle.build_steps.specs.Search.{fit, none-fits, orElse, firstFit, fitAtShi
 use Rattle.build_index.specs.Inner.{valueAt}
 use Rattle.build_index.proofs.Compare.{le-or-lt}
 use Rattle.build_index.proofs.Values.{length-rows}
-use Rattle.build_pair_signs.specs.Inner.{Searchable}
-use Rattle.build_pair_signs.proofs.FirstOver.{over-none, over-first}
-use Rattle.build_pair_signs.proofs.Tries.{plus-none, minus-none, reversed-none}
-use Rattle.build_pair_signs.proofs.Signs.{three-signs, positive}
+use Rattle.build_pair.specs.Inner.{Searchable}
+use Rattle.build_pair.proofs.FirstOver.{over-none, over-first}
+use Rattle.build_pair.proofs.Tries.{plus-none, minus-none, reversed-none}
+use Rattle.build_pair.proofs.Signs.{three-signs, positive}
 
 -- ---- 2^s·left
 

@@ -1,11 +1,13 @@
-// Step 2 of building: the search for one new row from two that are there. Internal: the crate above
-// brings the rows with their index.
+// Step 2 of building: the search for one new row from two that are there, over rows with their index.
+mod left_rows;
+mod row_signs;
+
 ghost use mathlib.Core.Path.{_≡_};
 ghost use Rattle.network.specs.Rows.{rowsOf};
 ghost use Rattle.build_steps.specs.Search.{firstFit};
-ghost use Rattle.build_pair_signs.specs.Inner.{Searchable, fitOf};
-use build_pair_signs::NewRow;
-use build_pair_signs::narrow;
+ghost use Rattle.build_pair.specs.Inner.{Searchable, fitOf};
+pub use row_signs::NewRow;
+use row_signs::narrow;
 
 // The first fit for v: lowest left, then lowest shift, then sign. No row's value is above most, so
 // that no shift fits past v + most.
@@ -14,7 +16,7 @@ pub fn first_fit(table: &[u32], heads: &[u16], links: &[u16], n: usize, most: u3
     ensures { λ r. ⌜ fitOf r ≡ firstFit (rowsOf (now (table .entry)) n) v ⌝ }
 {
     let limit = v as u64 + most as u64;
-    let mut i = build_pair_lefts::lowest_left(table, heads, links, n, most, v);
+    let mut i = left_rows::lowest_left(table, heads, links, n, most, v);
     let found = 'search: loop {
         if i >= n {
             break 'search NewRow::NoneFits;
@@ -24,7 +26,7 @@ pub fn first_fit(table: &[u32], heads: &[u16], links: &[u16], n: usize, most: u3
         let mut a = 2 * (value as u64);
         let mut s: u32 = 1;
         while a <= limit {
-            match build_pair_signs::at_shift(table, heads, links, n, most, v, left, s, a) {
+            match row_signs::at_shift(table, heads, links, n, most, v, left, s, a) {
                 NewRow::Fits(row) => break 'search NewRow::Fits(row),
                 NewRow::NoneFits => {}
             }

@@ -21,7 +21,7 @@ use Rattle.build_steps.proofs.FirstFit.{fit-is-first}
 use Rattle.build_steps.proofs.Lawful.{lawful-value}
 use Rattle.build_index.specs.Inner.{valueAt}
 use Rattle.build_index.proofs.Values.{length-rows, value-in}
-use Rattle.build_pair_signs.specs.Inner.{Searchable}
+use Rattle.build_pair.specs.Inner.{Searchable}
 use Rattle.build_chain.specs.Inner.{Readable}
 use Rattle.build_rows.specs.Inner.{Ready}
 

@@ -13,7 +13,7 @@ ghost use Rattle.build_index.specs.Inner.{Indexed, Grown};
 ghost use Rattle.build_chain.specs.Inner.{HasRoom};
 ghost use Rattle.build_rows.specs.Inner.{partOf, Ready, CanStart};
 use build_index::Found;
-use build_pair_signs::NewRow;
+use build_pair::NewRow;
 use network::Row;
 
 fn larger(a: u32, b: u32) -> u32
@@ -43,7 +43,7 @@ fn add_new(
             n + 1
         }
         NewRow::NoneFits => {
-            let form = build_chosen_form::chosen_form(v, choice);
+            let form = build_chain::chosen_form(v, choice);
             build_chain::add_chain(table, heads, links, n, form)
         }
     }

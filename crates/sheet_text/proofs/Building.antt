@@ -26,7 +26,7 @@ use Rattle.build_steps.proofs.Answers.{exist-forms, not-short, network-given}
 use Rattle.build_steps.specs.CanBuild.{CanBuild}
 use Rattle.build_steps.proofs.Passes.{built-few, built-passed}
 use Rattle.build_steps.proofs.BuiltTables.{network-left, length-rows-left, length-taps-left, length-built-taps}
-use Rattle.build_form_choices.proofs.FormNumbers.{choice-zero}
+use Rattle.build_network.proofs.FormNumbers.{choice-zero}
 use Rattle.sheet_kinds.specs.Inner.{NetworkIn}
 use Rattle.sheet_text.specs.Sheet.{choices}
 use Rattle.sheet_text.specs.Inner.{Coefficients}

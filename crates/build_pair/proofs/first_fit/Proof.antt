@@ -8,7 +8,7 @@ use borrow.Author.Needs.{needs}
 use Rattle.network.specs.Rows.{rowsOf}
 use Rattle.build_steps.specs.Search.{none-fits, fitAtLeft}
 use Rattle.build_index.specs.Inner.{valueAt}
-use Rattle.build_pair_signs.specs.Inner.{fitOf}
+use Rattle.build_pair.specs.Inner.{fitOf}
 use Rattle.build_pair.proofs.Shifts.{Trying, try-first, few-shifts, try-next, left-none, left-first, fit-none, fit-first}
 use Rattle.build_pair.proofs.first_fit.Statement.{statement}
 use Rattle.build_pair.proofs.first_fit.Tie as tie

@@ -12,7 +12,7 @@ use Rattle.network.specs.Rows.{rowsOf}
 use Rattle.build_steps.specs.Search.{fit, none-fits, firstFit}
 use Rattle.build_steps.specs.Chain.{chained}
 use Rattle.build_index.specs.Inner.{Grown}
-use Rattle.build_pair_signs.specs.Inner.{fitOf}
+use Rattle.build_pair.specs.Inner.{fitOf}
 use Rattle.build_chain.specs.Inner.{HasRoom, Readable}
 use Rattle.build_rows.specs.Inner.{partOf}
 use Rattle.build_rows.proofs.Searches.{searchable, fit-added, fit-length, fit-new, readable, chain-added}

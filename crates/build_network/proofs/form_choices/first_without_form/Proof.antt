@@ -1,0 +1,119 @@
+-- `build_network::form_choices::first_without_form` meets its contract. The invariant: every tap passed has its form. Assumes nothing.
+use borrow.Author.Needs.{needs}
+use borrow.Author.Tests.{not-true, not-false}
+use mathlib.Core.Path.{_≡_, refl, sym, ap, _∙_}
+use mathlib.Core.Bool.{Bool, true, false, not, true≢false}
+use Prim.Native.Nat.{_-_, _≤_}
+use native.Mathlib.Omega.{arith}
+use lib.IntN.{ℤ, pos}
+use lib.ListN.{length, drop, getD}
+use mir.Syntax.{w32}
+use mir.ValLaws.{toZ-ofZ}
+use Rattle.refusal.specs.Answer.{lowestFrom, lowest, placeOr}
+use Rattle.refusal.proofs.Checks.{lowest-here, lowest-later, lowest-none}
+use Rattle.coefficient.specs.Parts.{partsOf}
+use Rattle.build_steps.specs.Answer.{Choice, choicesOf, noSuchForm}
+use Rattle.build_steps.proofs.Answers.{length-choices, choice-at}
+use Rattle.build_network.proofs.form_choices.first_without_form.Statement.{statement}
+use Rattle.build_network.proofs.form_choices.first_without_form.Tie as tie
+
+-- what stands past the last tap
+abbrev noChoice : Choice
+noChoice = record { tap = partsOf (pos 0); number = 0 }
+
+-- a tap whose choice is not below the number of forms
+abbrev breaks : Choice → Bool
+breaks c = noSuchForm (c .tap) (c .number)
+
+abbrev Inv-loop : tie.InvT-loop
+Inv-loop coefficients choices i₀ i = (i ≤ length coefficients) × (lowestFrom i breaks (drop i (choicesOf coefficients choices)) ≡ lowest breaks (choicesOf coefficients choices))
+
+abbrev μ-loop : tie.MeasureT-loop
+μ-loop coefficients choices i₀ i = length coefficients - i
+
+loop-holds : tie.Need-loop-holds Inv-loop μ-loop
+loop-holds c = (search needs, refl)
+
+mul-has-form : tie.Need-mul-has-form Inv-loop μ-loop
+mul-has-form c = search needs
+
+shared-slice-copy-out-has-form : tie.Need-shared-slice-copy-out-has-form Inv-loop μ-loop
+shared-slice-copy-out-has-form c = search needs
+
+mul-has-form-2 : tie.Need-mul-has-form-2 Inv-loop μ-loop
+mul-has-form-2 c = search needs
+
+shared-slice-read-has-form : tie.Need-shared-slice-read-has-form Inv-loop μ-loop
+shared-slice-read-has-form c = search needs
+
+has-form-requires : tie.Need-has-form-requires Inv-loop μ-loop
+has-form-requires c κs = search needs
+
+not-swap : (a b t : Bool) → a ≡ not b → a ≡ not t → b ≡ t
+not-swap a true true e f = refl
+not-swap a false false e f = refl
+not-swap a true false e f = absurd (true≢false (sym f ∙ e))
+not-swap a false true e f = absurd (true≢false (sym e ∙ f))
+
+-- what `has_form` said of tap i
+tested : (c : tie.After-has-form Inv-loop μ-loop) (t : Bool) → c .has-form .result ≡ not t
+    → breaks (getD (choicesOf (c .before .before .before .before .before .before .args .coefficients .now) (c .before .before .before .before .before .before .args .choices .now)) (c .before .before .before .before .loop .i) noChoice) ≡ t
+tested c t e =
+    let l = c .before .before .before .before in
+    let s = l .before .before in
+    let n = getD (s .args .coefficients .now) (l .loop .i) (pos 0) in
+    let f = c .has-form .ensures ∙ ap (λ (z : ℤ). not (noSuchForm (partsOf z) (getD (s .args .choices .now) (l .loop .i) 0))) (toZ-ofZ w32 n (record { sfits = c .before .before .has-form-arg .given })) in
+    ap breaks (choice-at noChoice (s .args .coefficients .now) (s .args .choices .now) (l .loop .i) (s .pre) (c .before .before .before .loop-test .taken)) ∙ not-swap (c .has-form .result) (noSuchForm (partsOf n) (getD (s .args .choices .now) (l .loop .i) 0)) t f e
+
+returns : tie.Need-returns Inv-loop μ-loop
+returns c =
+    let t = c .before .before .before .before in
+    let l = t .before in
+    let s = l .before .before in
+    let xs = choicesOf (s .args .coefficients .now) (s .args .choices .now) in
+    let m = length-choices (s .args .coefficients .now) (s .args .choices .now) (s .pre) in
+    let b = tested (c .before) true (not-true (c .before .has-form .result) (c .if1 .taken)) in
+    ap (placeOr (length (s .args .coefficients .now))) (sym (lowest-here noChoice breaks xs (l .loop .i) (omega (arith, m, t .loop-test .taken)) b) ∙ l .loop .inv .1)
+
+add-i : tie.Need-add-i Inv-loop μ-loop
+add-i c = search needs
+
+loop-less : tie.Need-loop-less Inv-loop μ-loop
+loop-less c = search needs
+
+loop-again : tie.Need-loop-again Inv-loop μ-loop
+loop-again c =
+    let t = c .before .before .before .before in
+    let l = t .before in
+    let s = l .before .before in
+    let xs = choicesOf (s .args .coefficients .now) (s .args .choices .now) in
+    let m = length-choices (s .args .coefficients .now) (s .args .choices .now) (s .pre) in
+    let b = tested (c .before) false (not-false (c .before .has-form .result) (c .if1 .left)) in
+    (search needs, sym (lowest-later noChoice breaks xs (l .loop .i) (omega (arith, m, t .loop-test .taken)) b) ∙ l .loop .inv .1)
+
+returns-2 : tie.Need-returns-2 Inv-loop μ-loop
+returns-2 c =
+    let l = c .before in
+    let s = l .before .before in
+    let xs = choicesOf (s .args .coefficients .now) (s .args .choices .now) in
+    let m = length-choices (s .args .coefficients .now) (s .args .choices .now) (s .pre) in
+    let e : l .loop .i ≡ length (s .args .coefficients .now) = omega (arith, l .loop .inv .0, c .loop-test .left) in
+    e ∙ ap (placeOr (length (s .args .coefficients .now))) (sym (lowest-none noChoice breaks xs (l .loop .i) (omega (arith, m, c .loop-test .left))) ∙ l .loop .inv .1)
+
+pub first-without-form-spec : {M : Type 1} → statement M
+first-without-form-spec =
+    tie.close
+    (tie.spec
+    Inv-loop
+    μ-loop
+    loop-holds
+    mul-has-form
+    shared-slice-copy-out-has-form
+    mul-has-form-2
+    shared-slice-read-has-form
+    has-form-requires
+    returns
+    add-i
+    loop-less
+    loop-again
+    returns-2)

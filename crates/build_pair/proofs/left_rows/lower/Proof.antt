@@ -1,0 +1,55 @@
+-- `build_pair::left_rows::lower` meets its contract. Assumes nothing.
+use mathlib.Core.Path.{_≡_, sym, ap, _∙_}
+use mathlib.Core.List.{List}
+use Prim.Native.Nat.{ℕ, _<_}
+use native.Mathlib.Omega.{arith}
+use borrow.Author.Needs.{needs}
+use Rattle.refusal.specs.Answer.{at-place}
+use Rattle.network.specs.Rows.{rowsOf}
+use Rattle.build_steps.specs.Search.{rowWith}
+use Rattle.build_index.specs.Inner.{valueAt, Indexed, foundAt}
+use Rattle.build_index.proofs.Values.{row-found, row-missing}
+use Rattle.build_pair.proofs.left_rows.lower.Statement.{statement}
+use Rattle.build_pair.proofs.left_rows.lower.Tie as tie
+
+-- no row before the one that has the value
+before-found : (t heads links : List ℕ) (n x k : ℕ) → Indexed t heads links n → rowWith (rowsOf t n) x ≡ at-place k → (i : ℕ) → i < k → valueAt t i ≡ x → ⊥
+before-found t heads links n x k ix e i l q = let f = row-found t n x k e in ix .distinct i k l (f .0) (q ∙ sym (f .1))
+
+find-requires : tie.Need-find-requires
+find-requires c κs = search needs
+
+enum-known-k : tie.Need-enum-known-k
+enum-known-k c = search needs
+
+returns : tie.Need-returns
+returns c =
+    let s = c .before .before .before .before .before .before .before .before in
+    let a = s .args in (
+      omega arith,
+      before-found (a .table .now) (a .heads .now) (a .links .now) (a .n) (a .x) (c .before .before .k .given .0 .0) (s .pre .0)
+          (sym (c .before .before .before .before .find .ensures) ∙ ap foundAt (c .before .before .k .given .1)),
+    )
+
+enum-told : tie.Need-enum-told
+enum-told c = search needs
+
+returns-2 : tie.Need-returns-2
+returns-2 c =
+    let s = c .before .before .before .before .before .before .before .before in
+    let a = s .args in (
+      omega arith,
+      λ i l. before-found (a .table .now) (a .heads .now) (a .links .now) (a .n) (a .x) (c .before .before .k .given .0 .0) (s .pre .0)
+          (sym (c .before .before .before .before .find .ensures) ∙ ap foundAt (c .before .before .k .given .1)) i (omega arith),
+    )
+
+returns-3 : tie.Need-returns-3
+returns-3 c =
+    let s = c .before .before .before .before .before .before in
+    let a = s .args in (
+      omega arith,
+      λ i l. row-missing (a .table .now) (a .n) (a .x) (sym (c .before .before .find .ensures) ∙ ap foundAt (c .enum-told .given .1)) i (omega (arith, s .pre .1)),
+    )
+
+pub lower-spec : {M : Type 1} → statement M
+lower-spec = tie.close (tie.spec find-requires enum-known-k returns enum-told returns-2 returns-3)

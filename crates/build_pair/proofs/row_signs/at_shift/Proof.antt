@@ -1,0 +1,72 @@
+-- `build_pair::row_signs::at_shift` meets its contract. Assumes nothing.
+use mathlib.Core.Path.{refl, sym, ap, _∙_}
+use borrow.Author.Needs.{needs}
+use Rattle.network.specs.Rows.{minus, reversed, rowsOf}
+use Rattle.build_steps.specs.Search.{fit, none-fits, orElse, tried}
+use Rattle.build_pair.specs.Inner.{fitOf}
+use Rattle.build_pair.proofs.Signs.{three-signs}
+use Rattle.build_pair.proofs.row_signs.at_shift.Statement.{statement}
+use Rattle.build_pair.proofs.row_signs.at_shift.Tie as tie
+
+with-sign-requires : tie.Need-with-sign-requires
+with-sign-requires c κs = search needs
+
+enum-known-row : tie.Need-enum-known-row
+enum-known-row c = search needs
+
+enum-told : tie.Need-enum-told
+enum-told c = search needs
+
+with-sign-requires-2 : tie.Need-with-sign-requires-2
+with-sign-requires-2 c κs = search needs
+
+enum-known-row-2 : tie.Need-enum-known-row-2
+enum-known-row-2 c = search needs
+
+enum-told-2 : tie.Need-enum-told-2
+enum-told-2 c = search needs
+
+with-sign-requires-3 : tie.Need-with-sign-requires-3
+with-sign-requires-3 c κs = search needs
+
+returns : tie.Need-returns
+unfolding orElse
+returns c =
+    let a = c .before .before .before .before .before .before .before .args in
+    let rows = rowsOf (a .table .now) (a .n) in
+    sym
+    (three-signs rows (a .v) (a .left) (a .shift) (fit (c .before .row .given .0 .0)) (tried rows (a .v) (a .left) (a .shift) minus) (tried rows (a .v) (a .left) (a .shift) reversed)
+    (sym (c .before .before .before .with-sign .ensures) ∙ ap fitOf (c .before .row .given .1)) refl refl)
+
+returns-2 : tie.Need-returns-2
+unfolding orElse
+returns-2 c =
+    let a = c .before .before .before .before .before .before .before .before .before .before .args in
+    let rows = rowsOf (a .table .now) (a .n) in
+    sym
+    (three-signs rows (a .v) (a .left) (a .shift) none-fits (fit (c .before .row2 .given .0 .0)) (tried rows (a .v) (a .left) (a .shift) reversed)
+    (sym (c .before .before .before .before .before .before .with-sign .ensures) ∙ ap fitOf (c .before .before .before .before .enum-told .given .1)) (sym (c .before .before .before .with-sign2 .ensures) ∙ ap fitOf (c .before .row2 .given .1)) refl)
+
+returns-3 : tie.Need-returns-3
+unfolding orElse
+returns-3 c =
+    let a = c .before .before .before .before .before .before .before .before .before .before .args in
+    let rows = rowsOf (a .table .now) (a .n) in
+    sym
+    (three-signs rows (a .v) (a .left) (a .shift) none-fits none-fits (fitOf (c .with-sign3 .result))
+    (sym (c .before .before .before .before .before .before .with-sign .ensures) ∙ ap fitOf (c .before .before .before .before .enum-told .given .1)) (sym (c .before .before .before .with-sign2 .ensures) ∙ ap fitOf (c .before .enum-told2 .given .1)) (sym (c .with-sign3 .ensures)))
+
+pub at-shift-spec : {M : Type 1} → statement M
+at-shift-spec =
+    tie.close
+    (tie.spec
+    with-sign-requires
+    enum-known-row
+    enum-told
+    with-sign-requires-2
+    enum-known-row-2
+    enum-told-2
+    with-sign-requires-3
+    returns
+    returns-2
+    returns-3)

@@ -1,2 +1,0 @@
-pub mod OddPart
-pub mod Lefts

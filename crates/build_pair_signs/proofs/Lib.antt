@@ -1,3 +1,0 @@
-pub mod FirstOver
-pub mod Tries
-pub mod Signs
