@@ -1,7 +1,15 @@
-// Signed numbers as machine words.
+// Numbers as machine words.
+mod casts;
+mod choice;
+
+pub use casts::index;
+pub use casts::narrow;
+pub use casts::wide;
+pub use choice::choose;
+pub use choice::choose_index;
 ghost use mathlib.Core.Path.{_≡_};
 ghost use lib.IntN.{natAbs};
-ghost use mir.Syntax.{w32};
+ghost use mir.Syntax.{w32, w64};
 ghost use mir.Val.{ofZ};
 
 // The 32-bit pattern of n in two's complement. Nothing is negated, so that -2^31 needs no case of
@@ -10,9 +18,20 @@ pub fn pattern(n: i32) -> u32
     ensures { λ r. ⌜ r ≡ ofZ w32 n ⌝ }
 {
     if n < 0 {
-        4294967295 - ((!n) as u32)
+        0xffff_ffff - ((!n) as u32)
     } else {
         n as u32
+    }
+}
+
+// The same with 64 bits.
+pub fn pattern_64(n: i64) -> u64
+    ensures { λ r. ⌜ r ≡ ofZ w64 n ⌝ }
+{
+    if n < 0 {
+        0xffff_ffff_ffff_ffff - (!n) as u64
+    } else {
+        n as u64
     }
 }
 
