@@ -4,7 +4,7 @@ use mathlib.Core.Path.{_≡_}
 use mathlib.Core.List.{List}
 use Prim.Native.Nat.{ℕ, _+_, _-_, _*_, _/_, _≤_, _<_}
 use lib.Bits.{bitAnd}
-use lib.ListN.{length, getD, set, drop}
+use lib.ListN.{length, getD, drop}
 use Rattle.refusal.specs.Answer.{Place, nowhere, at-place}
 use Rattle.network.specs.declared.Row.{Row}
 use Rattle.network.specs.Rows.{rowWords, rowAt, rowsOf}
@@ -39,12 +39,6 @@ pub record Indexed (table heads links : List ℕ) (n : ℕ) : Type 0 where
   pub heads-in : (h : ℕ) → h < length heads → Last table (length heads) h (getD heads h 0) n
   pub links-in : (i : ℕ) → i < n → Last table (length heads) (bucketOf (length heads) (valueAt table i)) (getD links i 0) i
   pub distinct : (i j : ℕ) → i < j → j < n → valueAt table i ≡ valueAt table j → ⊥
-
--- the table with row n written, word by word
-abbrev pub withRow : List ℕ → ℕ → Row → List ℕ
-withRow table n r =
-    set (set (set (set (set table (rowWords * n) (r .left)) (rowWords * n + 1) (r .right)) (rowWords * n + 2) (r .shift)) (rowWords * n + 3) (r .sign)) (rowWords * n + 4)
-    (r .value)
 
 -- a table has become table′: it holds n′ rows, which are these, with their index, and is untouched past them
 pub record Grown (table table′ heads′ links′ : List ℕ) (n′ : ℕ) (rows′ : List Row) : Type 0 where

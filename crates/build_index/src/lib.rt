@@ -1,5 +1,5 @@
-// Rows written to a lent table one after the other, and found again by their values. Internal: the
-// crates above bring the index, heads cleared, links for as many rows as are written.
+// Rows written to a table one after the other, and found again by their values: an index has the last
+// row of each bucket of values, and for each row the one before it in its bucket.
 ghost use mathlib.Core.Path.{_≡_};
 ghost use mathlib.Core.List.{[], _∷_, _++_};
 ghost use Prim.Native.Nat.{_+_, _*_, _≤_, _<_};
@@ -8,7 +8,7 @@ ghost use lib.ListN.{length, getD, set};
 ghost use Rattle.refusal.specs.Answer.{nowhere};
 ghost use Rattle.network.specs.Rows.{rowWords, rowsOf};
 ghost use Rattle.build_steps.specs.Search.{rowWith};
-ghost use Rattle.build_index.specs.Inner.{bucketOf, Indexed, withRow, Grown, foundAt};
+ghost use Rattle.build_index.specs.Inner.{bucketOf, Indexed, Grown, foundAt};
 use network::Row;
 
 // What a look-up finds: the number of a row, or none.
@@ -57,19 +57,6 @@ pub fn find(table: &[u32], heads: &[u16], links: &[u16], n: usize, x: u32) -> Fo
     Found::Missing
 }
 
-// Row n is written.
-fn write_row(table: &mut [u32], n: usize, row: Row)
-    requires { ⌜ rowWords * n + rowWords ≤ length (now table) ⌝ }
-    ensures { λ _. ⌜ now (table .exit) ≡ withRow (now (table .entry)) n row ⌝ }
-{
-    let at = 5 * n;
-    table[at] = row.left;
-    table[at + 1] = row.right;
-    table[at + 2] = row.shift;
-    table[at + 3] = row.sign;
-    table[at + 4] = row.value;
-}
-
 // Row n, of value x, becomes the last row of its bucket.
 fn enter(heads: &mut [u16], links: &mut [u16], n: usize, x: u32)
     requires { ⌜ (n < 4096) × (0 < length (now heads)) × (n < length (now links)) ⌝ }
@@ -89,7 +76,7 @@ pub fn put(table: &mut [u32], heads: &mut [u16], links: &mut [u16], n: usize, ro
     ensures { λ _. ⌜ Grown (now (table .entry)) (now (table .exit)) (now (heads .exit)) (now (links .exit)) (n + 1)
         (rowsOf (now (table .entry)) n ++ (row ∷ [])) ⌝ }
 {
-    write_row(table, n, row);
+    network::write_row(table, n, row);
     let x = row.value;
     enter(heads, links, n, x);
 }

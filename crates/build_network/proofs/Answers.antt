@@ -2,17 +2,16 @@
 use mathlib.Core.Path.{_≡_, refl, sym, ap, _∙_}
 use mathlib.Core.Bool.{Bool, true, false, _||_}
 use mathlib.Core.List.{List}
-use Prim.Native.Nat.{ℕ, _*_, _≤_, _<_}
+use Prim.Native.Nat.{ℕ, _≤_, _<_}
 use borrow.Author.Tests.{lt-ltb, le-ltb}
 use lib.Dec.{ltb}
 use lib.IntN.{ℤ}
 use lib.ListN.{length}
 use Rattle.refusal.specs.Answer.{Answer, given, refused, filled}
-use Rattle.network.specs.Rows.{Network, rowWords, tapWords}
+use Rattle.network.specs.Rows.{Network, rowTable, tapTable, wordsOfRows, wordsOfTapRows}
 use Rattle.network.specs.Check.{shortTables}
 use Rattle.build_steps.specs.TapRows.{built}
 use Rattle.build_steps.specs.Answer.{buildAnswer, rowCount}
-use Rattle.build_steps.specs.Tables.{wordsOfRows, wordsOfTapRows}
 use Rattle.build_steps.specs.Built.{BuiltInto}
 use Rattle.build_steps.proofs.Answers.{short}
 use Rattle.build_tables.specs.Inner.{Written}
@@ -44,15 +43,15 @@ module _ (cs : List ℤ) (ks rows taps : List ℕ) where
   pub short-choices : length ks < length cs → short cs ks rows taps ≡ true
   short-choices h = ap (λ (b : Bool). b || shortTables rows taps) (lt-ltb (length ks) (length cs) h)
 
-  pub short-rows : length rows < 4096 * rowWords → short cs ks rows taps ≡ true
+  pub short-rows : length rows < rowTable → short cs ks rows taps ≡ true
   short-rows h =
-      ap (λ (b : Bool). ltb (length ks) (length cs) || (b || ltb (length taps) (256 * tapWords))) (lt-ltb (length rows) (4096 * rowWords) h) ∙ or-true (ltb (length ks) (length cs))
+      ap (λ (b : Bool). ltb (length ks) (length cs) || (b || ltb (length taps) tapTable)) (lt-ltb (length rows) rowTable h) ∙ or-true (ltb (length ks) (length cs))
 
-  pub short-taps : length taps < 256 * tapWords → short cs ks rows taps ≡ true
+  pub short-taps : length taps < tapTable → short cs ks rows taps ≡ true
   short-taps h =
-      ap (λ (b : Bool). ltb (length ks) (length cs) || (ltb (length rows) (4096 * rowWords) || b)) (lt-ltb (length taps) (256 * tapWords) h)
-      ∙ ap (λ (b : Bool). ltb (length ks) (length cs) || b) (or-true (ltb (length rows) (4096 * rowWords)))
+      ap (λ (b : Bool). ltb (length ks) (length cs) || (ltb (length rows) rowTable || b)) (lt-ltb (length taps) tapTable h)
+      ∙ ap (λ (b : Bool). ltb (length ks) (length cs) || b) (or-true (ltb (length rows) rowTable))
       ∙ or-true (ltb (length ks) (length cs))
 
-  pub none-short : length cs ≤ length ks → 4096 * rowWords ≤ length rows → 256 * tapWords ≤ length taps → short cs ks rows taps ≡ false
-  none-short h r t = rw (le-ltb (length ks) (length cs) h, le-ltb (length rows) (4096 * rowWords) r, le-ltb (length taps) (256 * tapWords) t)
+  pub none-short : length cs ≤ length ks → rowTable ≤ length rows → tapTable ≤ length taps → short cs ks rows taps ≡ false
+  none-short h r t = rw (le-ltb (length ks) (length cs) h, le-ltb (length rows) rowTable r, le-ltb (length taps) tapTable t)

@@ -27,10 +27,10 @@ pub fn build(coefficients: &[i32], choices: &[u32], rows: &mut [u32], taps: &mut
     if choices.len() < n {
         return Built::Refused(Refusal::ShortTable);
     }
-    if rows.len() < 20480 {
+    if rows.len() < network::ROW_TABLE {
         return Built::Refused(Refusal::ShortTable);
     }
-    if taps.len() < 768 {
+    if taps.len() < network::TAP_TABLE {
         return Built::Refused(Refusal::ShortTable);
     }
     let tap = form_choices::first_without_form(coefficients, choices);

@@ -2,7 +2,7 @@
 use mathlib.Core.Path.{_≡_, refl, sym, ap, _∙_}
 use mathlib.Core.Bool.{Bool, true, false, _||_, true≢false}
 use mathlib.Core.List.{List, [], _∷_}
-use Prim.Native.Nat.{ℕ, zero, suc, _*_, _≤_, _<_}
+use Prim.Native.Nat.{ℕ, zero, suc, _≤_, _<_}
 use native.Mathlib.Nat.{not-suc-le-zero, le-of-suc-le-suc}
 use native.Mathlib.Omega.{arith}
 use borrow.Author.Tests.{eq-eqb, ne-eqb, lt-ltb, le-ltb, eqb-false, ltb-false}
@@ -14,7 +14,7 @@ use Rattle.refusal.specs.Answer.{given, refused, refuseIf, refuseAt, Place, now
 use Rattle.refusal.proofs.Checks.{check-applies, check-passes, given-if, given-at, lowest-none-at}
 use Rattle.refusal.proofs.Lowest.{is-nowhere}
 use Rattle.coefficient.specs.Parts.{partsOf}
-use Rattle.network.specs.Rows.{Network, rowWords, tapWords}
+use Rattle.network.specs.Rows.{Network, rowTable, tapTable}
 use Rattle.network.specs.Check.{shortTables}
 use Rattle.build_steps.specs.TapRows.{built}
 use Rattle.build_steps.specs.Answer.{Choice, choicesOf, noSuchForm, buildAnswer, missingForm}
@@ -91,8 +91,8 @@ module _ (cs : List ℤ) (ks rows taps : List ℕ) where
     pub taps-from : 1 ≤ length cs
     pub taps-to : length cs ≤ 256
     pub choices-long : length cs ≤ length ks
-    pub rows-long : 4096 * rowWords ≤ length rows
-    pub taps-long : 256 * tapWords ≤ length taps
+    pub rows-long : rowTable ≤ length rows
+    pub taps-long : tapTable ≤ length taps
     pub forms : missingForm cs ks ≡ nowhere
     pub network : net ≡ built cs ks
 
@@ -114,20 +114,20 @@ module _ (cs : List ℤ) (ks rows taps : List ℕ) where
       let c = given-if short 3 _ net (b .1) in
       let d = given-at (missingForm cs ks) 9 _ net (c .1) in
       let s = neither (ltb (length ks) (length cs)) (shortTables rows taps) (c .0) in
-      let t = neither (ltb (length rows) (4096 * rowWords)) (ltb (length taps) (256 * tapWords)) (s .1) in
+      let t = neither (ltb (length rows) rowTable) (ltb (length taps) tapTable) (s .1) in
       record {
         taps-from = some (length cs) (eqb-false (length cs) 0 (a .0));
         taps-to = ltb-false 256 (length cs) (b .0);
         choices-long = ltb-false (length ks) (length cs) (s .0);
-        rows-long = ltb-false (length rows) (4096 * rowWords) (t .0);
-        taps-long = ltb-false (length taps) (256 * tapWords) (t .1);
+        rows-long = ltb-false (length rows) rowTable (t .0);
+        taps-long = ltb-false (length taps) tapTable (t .1);
         forms = d .0;
         network = same-network net (built cs ks) (sym (d .1));
       }
 
   -- "a lent table is under its length": none is
-  pub not-short : length cs ≤ length ks → 4096 * rowWords ≤ length rows → 256 * tapWords ≤ length taps → short ≡ false
-  not-short a b c = rw (le-ltb (length ks) (length cs) a, le-ltb (length rows) (4096 * rowWords) b, le-ltb (length taps) (256 * tapWords) c)
+  pub not-short : length cs ≤ length ks → rowTable ≤ length rows → tapTable ≤ length taps → short ≡ false
+  not-short a b c = rw (le-ltb (length ks) (length cs) a, le-ltb (length rows) rowTable b, le-ltb (length taps) tapTable c)
 
   -- the coefficients and choices that a network is given for can be built
   pub given-can-build : (net : Network) → Given net → ((i : ℕ) → i < length cs → Coefficient (getD cs i (pos 0))) → CanBuild cs ks

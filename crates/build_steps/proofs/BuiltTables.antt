@@ -13,25 +13,25 @@ use Rattle.refusal.proofs.Tables.{length-map}
 use Rattle.coefficient.specs.Parts.{partsOf}
 use Rattle.network.specs.declared.Row.{Row}
 use Rattle.network.specs.declared.TapRow.{TapRow}
-use Rattle.network.specs.Rows.{Network, tapWords, networkOf}
+use Rattle.network.specs.Rows.{Network, tapWords, networkOf, wordsOfRows, wordsOfTapRows, noRow, noTap}
 use Rattle.network.specs.Check.{networkAnswer}
 use Rattle.network.specs.Accepted.{KeepsRules}
 use Rattle.network.proofs.Passed.{accepted-given}
+use Rattle.network.proofs.Items.{length-words, items-of-words}
+use Rattle.network.proofs.Tables.{row-layout, tap-layout}
 use Rattle.build_steps.specs.Steps.{builtRows}
 use Rattle.build_steps.specs.TapRows.{tapRowOf, built}
 use Rattle.build_steps.specs.Answer.{buildAnswer, rowCount}
-use Rattle.build_steps.specs.Tables.{wordsOfRows, wordsOfTapRows}
 use Rattle.build_steps.specs.CanBuild.{CanBuild, CanBuildInto}
 use Rattle.build_steps.specs.Built.{BuiltInto, HoldsNetwork}
 use Rattle.build_steps.specs.Claims.{Untouched}
-use Rattle.build_steps.proofs.Words.{length-row-words, length-tap-words, rows-of-words, taps-of-words}
 use Rattle.build_steps.proofs.Passes.{built-few, built-passed}
 use Rattle.build_steps.proofs.Answers.{Given, given-tells, given-can-build, network-given, not-short, exist-forms}
 
 -- tables that start with a network's words hold it, whatever follows
 pub network-of-words : (net : Network) (more others : List ℕ)
     → networkOf (wordsOfRows (net .rows) ++ more) (length (net .rows)) (wordsOfTapRows (net .taps) ++ others) (length (net .taps)) ≡ net
-network-of-words net more others = ap₂ together (rows-of-words more (net .rows)) (taps-of-words others (net .taps))
+network-of-words net more others = ap₂ together (items-of-words row-layout noRow more (net .rows)) (items-of-words tap-layout noTap others (net .taps))
   where
     together : List Row → List TapRow → Network
     together rows taps = record { rows = rows; taps = taps }
@@ -78,10 +78,10 @@ module _ (cs : List ℤ) (ks rows taps : List ℕ) (net : Network) (e : buildAns
       ∙ network-of-words net (drop (length (wordsOfRows (net .rows))) rows) (drop (length (wordsOfTapRows (net .taps))) taps)
 
   pub length-rows-left : length rowsLeft ≡ length rows
-  length-rows-left = ap length rows-left ∙ filled-length (wordsOfRows (net .rows)) rows (omega (arith, length-row-words (net .rows), rows-few, told .rows-long))
+  length-rows-left = ap length rows-left ∙ filled-length (wordsOfRows (net .rows)) rows (omega (arith, length-words row-layout (net .rows), rows-few, told .rows-long))
 
   pub length-taps-left : length tapsLeft ≡ length taps
-  length-taps-left = ap length taps-left ∙ filled-length (wordsOfTapRows (net .taps)) taps (omega (arith, length-tap-words (net .taps), taps-are, told .taps-long, told .taps-to))
+  length-taps-left = ap length taps-left ∙ filled-length (wordsOfTapRows (net .taps)) taps (omega (arith, length-words tap-layout (net .taps), taps-are, told .taps-long, told .taps-to))
 
   -- an entry whose own tables are long enough accepts it
   pub built-accepted : networkAnswer false rowsLeft (length (net .rows)) tapsLeft (length cs) ≡ given cs
@@ -125,10 +125,10 @@ module _ (cs : List ℤ) (ks rows taps : List ℕ) where
             ap₂ (λ (u v : List ℕ). networkAnswer false u (length (built cs ks .rows)) v (length cs)) (left .rows-left) (left .taps-left)
             ∙ built-accepted cs ks rows taps (built cs ks) e (c .can-build .bounds);
         rows-past =
-            past (wordsOfRows (built cs ks .rows)) rows rows′ _ (length-row-words (built cs ks .rows))
+            past (wordsOfRows (built cs ks .rows)) rows rows′ _ (length-words row-layout (built cs ks .rows))
             (left .rows-left ∙ ap (λ (x : Answer Network). filled x (wordsOfRows (built cs ks .rows)) rows) e);
         taps-past =
-            past (wordsOfTapRows (built cs ks .taps)) taps taps′ _ (length-tap-words (built cs ks .taps) ∙ ap (λ (n : ℕ). tapWords * n) (length-built-taps cs ks))
+            past (wordsOfTapRows (built cs ks .taps)) taps taps′ _ (length-words tap-layout (built cs ks .taps) ∙ ap (λ (n : ℕ). tapWords * n) (length-built-taps cs ks))
             (left .taps-left ∙ ap (λ (x : Answer Network). filled x (wordsOfTapRows (built cs ks .taps)) taps) e);
       }
 

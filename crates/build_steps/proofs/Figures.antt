@@ -1,8 +1,8 @@
 -- The figures of specs/Figures.antt: `building-figures`. Networks are built by computation. Assumes nothing.
 use mathlib.Core.Path.{_≡_, refl, sym, ap, ap₂, _∙_, subst}
 use mathlib.Core.Bool.{false, not, cond}
-use mathlib.Core.List.{List, [], _∷_}
-use Prim.Native.Nat.{ℕ, zero, suc, _*_, _≤_, _<_}
+use mathlib.Core.List.{List, [], _∷_, flatMap}
+use Prim.Native.Nat.{ℕ, zero, suc, _≤_, _<_}
 use native.Mathlib.Omega.{arith}
 use borrow.Author.Tests.{lt-ltb}
 use lib.Count.{trailingZeros}
@@ -17,14 +17,13 @@ use Rattle.signed_digit.specs.CanonicalForm.{canonicalNat}
 use Rattle.signed_digit.specs.Forms.{listing}
 use Rattle.signed_digit.proofs.Figures.{figures}
 use Rattle.coefficient.specs.Parts.{partsOf, oddPartOf, shiftOf}
-use Rattle.network.specs.Rows.{Network, plus, minus, rowWords, tapWords}
+use Rattle.network.specs.Rows.{Network, plus, minus, rowTable, tapTable, wordsOfRows, wordsOfTapRows}
 use Rattle.network.specs.Figures.{sheetRows, sheetTapRows, sheetCoefficients}
 use Rattle.build_steps.specs.Parts.{leastWeight, comesBefore, insert, insertTap, takenFrom, partsToBuild}
 use Rattle.build_steps.specs.Search.{rowWith, fit, orElse, firstOver, rowOver, tried, fitAtShift, fitAtLeft, firstFit}
 use Rattle.build_steps.specs.Steps.{firstRow, searched, lookedUp, step, steps, builtRows}
 use Rattle.build_steps.specs.TapRows.{tapRowOf, built}
 use Rattle.build_steps.specs.Answer.{choicesOf, noSuchForm, missingForm, buildAnswer, rowCount}
-use Rattle.build_steps.specs.Tables.{wordsOfRows, wordsOfTapRows}
 use Rattle.build_steps.specs.PartOrder.{PartsInOrder}
 use Rattle.build_steps.specs.RowSteps.{FirstFit, Lawful}
 use Rattle.build_steps.specs.CanBuild.{CanBuild}
@@ -99,9 +98,9 @@ first-fit : FirstFit (firstRow ∷ []) 3 (record { left = 0; right = 0; shift = 
 unfolding lowestFrom firstFit fitAtLeft fitAtShift firstOver orElse tried rowOver upTo
 first-fit = fit-is-first (firstRow ∷ []) 3 refl (omega arith) (record { left = 0; right = 0; shift = 1; sign = plus; value = 3 }) refl
 
-into : (rows taps : List ℕ) → 4096 * rowWords ≤ length rows → 256 * tapWords ≤ length taps
+into : (rows taps : List ℕ) → rowTable ≤ length rows → tapTable ≤ length taps
     → BuiltInto sheetCoefficients sheetChoices rows taps (given 3) (sheetRows (drop 15 rows)) (sheetTapRows (drop 12 taps))
-unfolding wordsOfRows wordsOfTapRows
+unfolding flatMap
 into rows taps r t =
     let e = can-give sheetCoefficients sheetChoices rows taps (record { some = omega arith; can-build = can-build; rows-long = r; taps-long = t }) in
     record {
@@ -114,7 +113,7 @@ missing : missingForm (pos 3 ∷ pos 3 ∷ pos 0 ∷ []) (0 ∷ 2 ∷ 1 ∷ []) 
 unfolding lowestFrom choicesOf noSuchForm partsOf oddPartOf shiftOf trailingZeros
 missing = ap (λ (forms : List DigitString). cond (not (ltb 0 (length forms))) (at-place 0) (cond (not (ltb 2 (length forms))) (at-place 1) (at-place 2))) (figures .of-3)
 
-no-third-form : (rows taps : List ℕ) → 4096 * rowWords ≤ length rows → 256 * tapWords ≤ length taps
+no-third-form : (rows taps : List ℕ) → rowTable ≤ length rows → tapTable ≤ length taps
     → BuiltInto (pos 3 ∷ pos 3 ∷ pos 0 ∷ []) (0 ∷ 2 ∷ 1 ∷ []) rows taps (refused 9 1) rows taps
 no-third-form rows taps r t =
     let cs = pos 3 ∷ pos 3 ∷ pos 0 ∷ [] in

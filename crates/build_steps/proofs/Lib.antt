@@ -23,6 +23,5 @@ pub mod Chain
 pub mod Steps
 pub mod Reduced
 pub mod TapRow
-pub mod Words
 pub mod MasksDown
 pub mod Answers

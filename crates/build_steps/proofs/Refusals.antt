@@ -2,7 +2,7 @@
 use mathlib.Core.Path.{_≡_, sym, ap, _∙_}
 use mathlib.Core.Bool.{Bool, true, false, not, _||_}
 use mathlib.Core.List.{List}
-use Prim.Native.Nat.{ℕ, _*_, _≤_, _<_}
+use Prim.Native.Nat.{ℕ, _≤_, _<_}
 use native.Mathlib.Omega.{arith}
 use borrow.Author.Tests.{eqb-true, eqb-false, ltb-true, ltb-false, eq-eqb, lt-ltb, not-false}
 use lib.Dec.{eqb, ltb}
@@ -13,7 +13,7 @@ use Rattle.refusal.proofs.Checks.{neither, either, refused-if, refused-at}
 use Rattle.refusal.proofs.Lowest.{lowest-is}
 use Rattle.signed_digit.specs.Forms.{listing}
 use Rattle.coefficient.specs.Parts.{Parts, no-odd-part, parts, partsOf}
-use Rattle.network.specs.Rows.{Network, rowWords, tapWords}
+use Rattle.network.specs.Rows.{Network, rowTable, tapTable}
 use Rattle.network.specs.Check.{shortTables}
 use Rattle.network.specs.Claims.{UnderLength, rows-short, taps-short, another-short, TablesFit}
 use Rattle.network.proofs.Refusals.{some, not-both}
@@ -49,12 +49,12 @@ module _ (cs : List ℤ) (ks rows taps : List ℕ) where
   under-length : (fewChoices cs ks || shortTables rows taps) ≡ true → UnderLength (fewChoices cs ks) rows taps
   under-length e =
       either (fewChoices cs ks) (shortTables rows taps) e another-short
-      (λ f. either (ltb (length rows) (4096 * rowWords)) (ltb (length taps) (256 * tapWords)) f (λ r. rows-short (ltb-true _ _ r)) (λ t. taps-short (ltb-true _ _ t)))
+      (λ f. either (ltb (length rows) rowTable) (ltb (length taps) tapTable) f (λ r. rows-short (ltb-true _ _ r)) (λ t. taps-short (ltb-true _ _ t)))
 
   tables-fit : 1 ≤ length cs → length cs ≤ 256 → (fewChoices cs ks || shortTables rows taps) ≡ false → TablesFit (fewChoices cs ks) rows taps (length cs)
   tables-fit from to e =
       let s = neither (fewChoices cs ks) (shortTables rows taps) e in
-      let t = neither (ltb (length rows) (4096 * rowWords)) (ltb (length taps) (256 * tapWords)) (s .1) in
+      let t = neither (ltb (length rows) rowTable) (ltb (length taps) tapTable) (s .1) in
       record { taps-from = from; taps-to = to; rows-long = ltb-false _ _ (t .0); taps-long = ltb-false _ _ (t .1); others-long = s .0 }
 
   module _ (number place : ℕ) where

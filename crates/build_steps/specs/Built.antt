@@ -6,11 +6,10 @@ use Prim.Native.Nat.{ℕ, _*_}
 use lib.IntN.{ℤ}
 use lib.ListN.{length, drop}
 use Rattle.refusal.specs.Answer.{Answer, given, filled}
-use Rattle.network.specs.Rows.{rowWords, tapWords, networkOf}
+use Rattle.network.specs.Rows.{rowWords, tapWords, networkOf, wordsOfRows, wordsOfTapRows}
 use Rattle.network.specs.Check.{networkAnswer}
 use Rattle.build_steps.specs.TapRows.{built}
 use Rattle.build_steps.specs.Answer.{buildAnswer, rowCount}
-use Rattle.build_steps.specs.Tables.{wordsOfRows, wordsOfTapRows}
 
 -- building answers a and leaves rows′ and taps′ in the tables rows and taps: the contract of `build`, and what every claim about building speaks of
 pub record BuiltInto (coefficients : List ℤ) (choices rows taps : List ℕ) (a : Answer ℕ) (rows′ taps′ : List ℕ) : Type 0 where

@@ -2,7 +2,7 @@
 use mathlib.Core.Path.{_≡_}
 use mathlib.Core.Bool.{false}
 use mathlib.Core.List.{List, _∷_, _++_, reverse, List·Memᴰ}
-use Prim.Native.Nat.{ℕ, _*_, _%_, _^_, _≤_, _<_}
+use Prim.Native.Nat.{ℕ, _%_, _^_, _≤_, _<_}
 use lib.IntN.{ℤ, pos}
 use lib.ListN.{length, getD, replicate}
 use Rattle.word.specs.Bounds.{Coefficient}
@@ -12,7 +12,7 @@ use Rattle.signed_digit.specs.Weight.{weight}
 use Rattle.signed_digit.specs.Minimal.{Minimal}
 use Rattle.signed_digit.specs.Forms.{listing}
 use Rattle.coefficient.specs.Parts.{Parts, no-odd-part, parts, partsOf}
-use Rattle.network.specs.Rows.{rowWords, tapWords}
+use Rattle.network.specs.Rows.{rowTable, tapTable}
 use Rattle.build_steps.specs.Parts.{Part}
 use Rattle.build_steps.specs.Chain.{chainValue, chainEnd}
 use Rattle.build_steps.specs.Answer.{noSuchForm}
@@ -33,8 +33,8 @@ pub record CanBuild (coefficients : List ℤ) (choices : List ℕ) : Type 0 wher
 pub record CanBuildInto (coefficients : List ℤ) (choices rows taps : List ℕ) : Type 0 where
   pub some : 1 ≤ length coefficients
   pub can-build : CanBuild coefficients choices
-  pub rows-long : 4096 * rowWords ≤ length rows
-  pub taps-long : 256 * tapWords ≤ length taps
+  pub rows-long : rowTable ≤ length rows
+  pub taps-long : tapTable ≤ length taps
 
 -- an odd part that can be built: odd, below 2^31, its choice below the number of forms
 pub record Buildable (p : Part) : Type 0 where

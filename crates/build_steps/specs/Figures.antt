@@ -2,12 +2,12 @@
 -- proves them. Definitions only.
 use mathlib.Core.Path.{_≡_}
 use mathlib.Core.List.{List, [], _∷_}
-use Prim.Native.Nat.{ℕ, _*_, _≤_}
+use Prim.Native.Nat.{ℕ, _≤_}
 use lib.IntN.{pos}
 use lib.ListN.{length, drop}
 use Rattle.refusal.specs.Answer.{given, refused}
 use Rattle.network.specs.declared.Row.{Row}
-use Rattle.network.specs.Rows.{Network, rowWords, tapWords, plus, minus, noTap}
+use Rattle.network.specs.Rows.{Network, plus, minus, noTap, rowTable, tapTable}
 use Rattle.network.specs.Figures.{sheetRows, sheetTapRows, sheetCoefficients}
 use Rattle.build_steps.specs.Parts.{Part}
 use Rattle.build_steps.specs.Search.{fit, firstFit}
@@ -53,9 +53,9 @@ pub record BuildingFigures : Type 0 where
   pub sheet-lawful : Lawful (sheetNetwork .rows)
   pub sheet-first-fit : FirstFit (firstRow ∷ []) 3 (record { left = 0; right = 0; shift = 1; sign = plus; value = 3 })
   -- tables that `build` leaves, and those that it leaves alone
-  pub sheet-into : (rows taps : List ℕ) → 4096 * rowWords ≤ length rows → 256 * tapWords ≤ length taps
+  pub sheet-into : (rows taps : List ℕ) → rowTable ≤ length rows → tapTable ≤ length taps
       → BuiltInto sheetCoefficients sheetChoices rows taps (given 3) (sheetRows (drop 15 rows)) (sheetTapRows (drop 12 taps))
   -- 3 has two forms and 0 has one: the second and the third choice are not listed, and the lower one is returned
-  pub no-third-form : (rows taps : List ℕ) → 4096 * rowWords ≤ length rows → 256 * tapWords ≤ length taps
+  pub no-third-form : (rows taps : List ℕ) → rowTable ≤ length rows → tapTable ≤ length taps
       → BuiltInto (pos 3 ∷ pos 3 ∷ pos 0 ∷ []) (0 ∷ 2 ∷ 1 ∷ []) rows taps (refused 9 1) rows taps
   pub no-taps : (rows taps : List ℕ) → BuiltInto [] [] rows taps (refused 1 0) rows taps

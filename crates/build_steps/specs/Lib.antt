@@ -6,7 +6,6 @@ pub mod Steps
 pub mod RowSteps
 pub mod TapRows
 pub mod Answer
-pub mod Tables
 pub mod CanBuild
 pub mod Built
 pub mod Claims

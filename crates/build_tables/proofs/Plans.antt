@@ -8,18 +8,18 @@ use lib.ListN.{length, getD, take, length-map, List·getD-map}
 use lib.Seq.{getD-take, length-take-le}
 use Rattle.word.proofs.Bounds.{i32-coefficient}
 use Rattle.network.specs.declared.Row.{Row}
-use Rattle.network.specs.Rows.{rowsOf}
+use Rattle.network.specs.Rows.{rowsOf, wordsOfTapRows}
 use Rattle.build_steps.specs.Parts.{Part, partsToBuild}
 use Rattle.build_steps.specs.Steps.{firstRow, steps, builtRows}
 use Rattle.build_steps.specs.TapRows.{built}
-use Rattle.build_steps.specs.Tables.{wordsOfTapRows}
 use Rattle.build_steps.specs.RowSteps.{row-0}
 use Rattle.build_steps.specs.CanBuild.{Buildable}
 use Rattle.build_steps.proofs.Answers.{forms-exist}
 use Rattle.build_steps.proofs.ChosenForm.{member}
 use Rattle.build_steps.proofs.Passes.{part-buildable, rows-built}
 use Rattle.build_steps.proofs.Steps.{steps-grow}
-use Rattle.build_steps.proofs.Words.{table-with-rows}
+use Rattle.network.proofs.Items.{table-with}
+use Rattle.network.proofs.Tables.{row-layout}
 use Rattle.build_odd_parts.specs.Inner.{partIn, Ordered}
 use Rattle.build_index.specs.Inner.{Grown}
 use Rattle.build_index.proofs.Values.{length-rows}
@@ -97,6 +97,6 @@ module _ (cs : List ℤ) (ks keys : List ℕ) (m : ℕ) (rows taps : List ℕ) (
         record {
           count = sym (length-rows rows′ n) ∙ ap length r;
           fits = g .index .few;
-          rows-are = table-with-rows rows′ rows n (builtRows cs ks) (g .index .room) r (g .rest);
+          rows-are = table-with row-layout rows′ rows n (builtRows cs ks) (g .index .room) r (g .rest);
           taps-are = e ∙ ap (λ (y : List Row). over (wordsOfTapRows (tapRowsFor y cs)) taps) r;
         }

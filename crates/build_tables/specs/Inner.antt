@@ -1,14 +1,13 @@
 -- What is known before the network is written, and what is left in the tables. For the contracts of internal functions. Definitions only.
 use mathlib.Core.Path.{_≡_}
 use mathlib.Core.List.{List}
-use Prim.Native.Nat.{ℕ, _*_, _≤_}
+use Prim.Native.Nat.{ℕ, _≤_}
 use lib.IntN.{ℤ}
 use lib.ListN.{length}
 use Rattle.refusal.specs.Answer.{nowhere}
-use Rattle.network.specs.Rows.{rowWords, tapWords}
+use Rattle.network.specs.Rows.{rowTable, tapTable, wordsOfRows, wordsOfTapRows}
 use Rattle.build_steps.specs.Steps.{builtRows}
 use Rattle.build_steps.specs.TapRows.{built}
-use Rattle.build_steps.specs.Tables.{wordsOfRows, wordsOfTapRows}
 use Rattle.build_steps.specs.Answer.{missingForm}
 use Rattle.build_steps.specs.CanBuild.{CanBuild}
 use Rattle.build_odd_parts.specs.Inner.{Ordered}
@@ -21,16 +20,16 @@ pub record Accepted (coefficients : List ℤ) (choices rows taps : List ℕ) : T
   pub few : length coefficients ≤ 256
   pub enough : length coefficients ≤ length choices
   pub forms : missingForm coefficients choices ≡ nowhere
-  pub rows-long : 4096 * rowWords ≤ length rows
-  pub taps-long : 256 * tapWords ≤ length taps
+  pub rows-long : rowTable ≤ length rows
+  pub taps-long : tapTable ≤ length taps
 
 -- and the odd parts are in order
 pub record Planned (coefficients : List ℤ) (choices keys : List ℕ) (m : ℕ) (rows taps : List ℕ) : Type 0 where
   pub can-build : CanBuild coefficients choices
   pub ordered : Ordered coefficients keys m
   pub keyed : m ≤ length keys
-  pub rows-long : 4096 * rowWords ≤ length rows
-  pub taps-long : 256 * tapWords ≤ length taps
+  pub rows-long : rowTable ≤ length rows
+  pub taps-long : tapTable ≤ length taps
 
 -- an empty index with room for all rows
 pub record WithIndex (coefficients : List ℤ) (choices rows heads links : List ℕ) : Type 0 where

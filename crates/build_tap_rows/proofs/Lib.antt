@@ -1,2 +1,1 @@
-pub mod TapWritten
 pub mod Filling

@@ -1,12 +1,11 @@
 -- Tap rows in a table of words. For the contracts of internal functions. Definitions only.
 use mathlib.Core.List.{List, _++_, map}
-use Prim.Native.Nat.{ℕ, _+_, _*_}
+use Prim.Native.Nat.{ℕ}
 use lib.IntN.{ℤ}
-use lib.ListN.{length, drop, set}
+use lib.ListN.{length, drop}
 use Rattle.coefficient.specs.Parts.{partsOf}
 use Rattle.network.specs.declared.Row.{Row}
 use Rattle.network.specs.declared.TapRow.{TapRow}
-use Rattle.network.specs.Rows.{tapWords}
 use Rattle.build_steps.specs.TapRows.{tapRowOf}
 
 -- a table whose first words are these
@@ -16,7 +15,3 @@ over words table = words ++ drop (length words) table
 -- the tap rows of some coefficients, over some rows
 abbrev pub tapRowsFor : List Row → List ℤ → List TapRow
 tapRowsFor rows coefficients = map (λ (z : ℤ). tapRowOf rows (partsOf z)) coefficients
-
--- the table with tap row m written, word by word
-abbrev pub withTapRow : List ℕ → ℕ → TapRow → List ℕ
-withTapRow table m t = set (set (set table (tapWords * m) (t .sign)) (tapWords * m + 1) (t .row)) (tapWords * m + 2) (t .shift)

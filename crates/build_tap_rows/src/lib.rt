@@ -1,15 +1,14 @@
-// The tap rows of a built network. Internal: the crate above brings the rows with their index.
+// The tap rows of a built network, over rows with their index.
 ghost use mathlib.Core.Path.{_≡_};
-ghost use Prim.Native.Nat.{_+_, _*_, _≤_};
+ghost use Prim.Native.Nat.{_*_, _≤_};
 ghost use lib.ListN.{length};
 ghost use Rattle.refusal.specs.Answer.{placeOr};
 ghost use Rattle.coefficient.specs.Parts.{partsOf, signIf};
-ghost use Rattle.network.specs.Rows.{rowsOf, tapWords};
+ghost use Rattle.network.specs.Rows.{rowsOf, tapWords, wordsOfTapRows};
 ghost use Rattle.build_steps.specs.Search.{rowWith};
 ghost use Rattle.build_steps.specs.TapRows.{signCode, tapRowOf};
-ghost use Rattle.build_steps.specs.Tables.{wordsOfTapRows};
 ghost use Rattle.build_index.specs.Inner.{Indexed};
-ghost use Rattle.build_tap_rows.specs.Inner.{withTapRow, over, tapRowsFor};
+ghost use Rattle.build_tap_rows.specs.Inner.{over, tapRowsFor};
 use build_index::Found;
 use coefficient::Reduced;
 use network::TapRow;
@@ -41,27 +40,13 @@ fn tap_row(table: &[u32], heads: &[u16], links: &[u16], n: usize, coefficient: i
     ensures { λ r. ⌜ r ≡ tapRowOf (rowsOf (now (table .entry)) n) (partsOf coefficient) ⌝ }
 {
     match coefficient::reduce(coefficient) {
-        Reduced::Zero => TapRow {
-            sign: 0,
-            row: 0,
-            shift: 0,
-        },
+        Reduced::Zero => network::EMPTY,
         Reduced::Split(reduction) => TapRow {
             sign: sign_code(reduction.negative),
             row: row_of(table, heads, links, n, reduction.odd_part),
             shift: reduction.shift,
         },
     }
-}
-
-fn write_tap_row(taps: &mut [u32], j: usize, row: TapRow)
-    requires { ⌜ tapWords * j + tapWords ≤ length (now taps) ⌝ }
-    ensures { λ r. ⌜ now (taps .exit) ≡ withTapRow (now (taps .entry)) j row ⌝ }
-{
-    let at = 3 * j;
-    taps[at] = row.sign;
-    taps[at + 1] = row.row;
-    taps[at + 2] = row.shift;
 }
 
 // The tap rows of the coefficients, over the rows that are built.
@@ -79,7 +64,7 @@ pub fn write_tap_rows(
     let mut j: usize = 0;
     while j < coefficients.len() {
         let row = tap_row(table, heads, links, n, coefficients[j]);
-        write_tap_row(taps, j, row);
+        network::write_tap_row(taps, j, row);
         j += 1;
     }
 }

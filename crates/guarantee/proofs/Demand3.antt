@@ -1,13 +1,13 @@
 -- Demand 3 whole, proved.
 use mathlib.Core.Path.{_≡_, sym, subst}
 use mathlib.Core.List.{List}
-use Prim.Native.Nat.{ℕ, _*_, _≤_}
+use Prim.Native.Nat.{ℕ, _≤_}
 use lib.IntN.{ℤ, pos}
 use lib.ListN.{length, getD}
 use Rattle.refusal.specs.Answer.{Answer, given}
 use Rattle.coefficient.specs.Parts.{partsOf}
 use Rattle.signed_digit.proofs.Claims.{digit-claims}
-use Rattle.network.specs.Rows.{Network, rowWords, tapWords}
+use Rattle.network.specs.Rows.{Network, rowTable, tapTable}
 use Rattle.build_steps.specs.TapRows.{built}
 use Rattle.build_steps.specs.Answer.{buildAnswer}
 use Rattle.build_steps.specs.CanBuild.{CanBuildInto}
@@ -21,7 +21,7 @@ use Rattle.run_calls.proofs.Theorem.{running-sums}
 use Rattle.guarantee.specs.Demand3.{Taken, Guaranteed, Demand3}
 
 -- demand 3 takes what can be built
-builds : (cs : List ℤ) (ks rows taps : List ℕ) → Taken cs ks → 4096 * rowWords ≤ length rows → 256 * tapWords ≤ length taps → CanBuildInto cs ks rows taps
+builds : (cs : List ℤ) (ks rows taps : List ℕ) → Taken cs ks → rowTable ≤ length rows → tapTable ≤ length taps → CanBuildInto cs ks rows taps
 builds cs ks rows taps t rows-long taps-long = record {
   some = t .from-1;
   can-build = record {
@@ -34,11 +34,11 @@ builds cs ks rows taps t rows-long taps-long = record {
   taps-long = taps-long;
 }
 
-pub can-build : (cs : List ℤ) (ks rows taps : List ℕ) → Taken cs ks → 4096 * rowWords ≤ length rows → 256 * tapWords ≤ length taps → buildAnswer cs ks rows taps ≡ given (built cs ks)
+pub can-build : (cs : List ℤ) (ks rows taps : List ℕ) → Taken cs ks → rowTable ≤ length rows → tapTable ≤ length taps → buildAnswer cs ks rows taps ≡ given (built cs ks)
 can-build cs ks rows taps t rows-long taps-long = can-give cs ks rows taps (builds cs ks rows taps t rows-long taps-long)
 
-module _ (cs : List ℤ) (ks rows taps : List ℕ) (answer : Answer ℕ) (rows′ taps′ : List ℕ) (t : Taken cs ks) (rows-long : 4096 * rowWords ≤ length rows)
-    (taps-long : 256 * tapWords ≤ length taps) (left : BuiltInto cs ks rows taps answer rows′ taps′) where
+module _ (cs : List ℤ) (ks rows taps : List ℕ) (answer : Answer ℕ) (rows′ taps′ : List ℕ) (t : Taken cs ks) (rows-long : rowTable ≤ length rows)
+    (taps-long : tapTable ≤ length taps) (left : BuiltInto cs ks rows taps answer rows′ taps′) where
   hold : HoldsNetwork cs ks rows taps answer rows′ taps′
   hold = building-claims .built-accepted cs ks rows taps answer rows′ taps′ (builds cs ks rows taps t rows-long taps-long) left
 

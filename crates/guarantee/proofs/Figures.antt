@@ -1,7 +1,7 @@
 -- The proved figures, one list.
 use mathlib.Core.Path.{_≡_, refl, sym, ap, ap₂, _∙_, subst}
 use mathlib.Core.List.{List, _∷_, _++_}
-use Prim.Native.Nat.{ℕ, zero, suc, _+_, _*_, _<_, _≤_}
+use Prim.Native.Nat.{ℕ, zero, suc, _+_, _<_, _≤_}
 use native.Mathlib.Omega.{arith}
 use lib.Count.{trailingZeros}
 use lib.IntN.{ℤ, pos}
@@ -11,11 +11,10 @@ use Rattle.word.specs.Bounds.{Coefficient}
 use Rattle.signed_digit.proofs.Figures.{figures}
 use Rattle.coefficient.specs.Parts.{partsOf, oddPartOf, shiftOf}
 use Rattle.tap.proofs.Figures.{tap-figures}
-use Rattle.network.specs.Rows.{Network, rowWords, tapWords}
+use Rattle.network.specs.Rows.{Network, rowTable, tapTable, wordsOfRows, wordsOfTapRows}
 use Rattle.build_steps.specs.TapRows.{built}
 use Rattle.build_steps.specs.Answer.{buildAnswer, rowCount}
 use Rattle.build_steps.specs.CanBuild.{Listed}
-use Rattle.build_steps.specs.Tables.{wordsOfRows, wordsOfTapRows}
 use Rattle.build_steps.proofs.Figures.{example}
 use Rattle.build_steps.specs.Built.{BuiltInto}
 use Rattle.network.specs.Check.{outcome}
@@ -62,7 +61,7 @@ pub building : (cs : List ℤ) (ks rows taps : List ℕ) → BuiltInto cs ks row
     (filled (buildAnswer cs ks rows taps) (wordsOfRows (built cs ks .rows)) rows) (filled (buildAnswer cs ks rows taps) (wordsOfTapRows (built cs ks .taps)) taps)
 building cs ks rows taps = record { answer = refl; rows-left = refl; taps-left = refl }
 
-module _ (rows taps : List ℕ) (lr : 4096 * rowWords ≤ length rows) (lt : 256 * tapWords ≤ length taps) where
+module _ (rows taps : List ℕ) (lr : rowTable ≤ length rows) (lt : tapTable ≤ length taps) where
   accepted : buildAnswer sheetCoefficients sheetChoices rows taps ≡ given (built sheetCoefficients sheetChoices)
   accepted = can-build sheetCoefficients sheetChoices rows taps taken lr lt
 
@@ -100,10 +99,10 @@ module _ (rows taps : List ℕ) (lr : 4096 * rowWords ≤ length rows) (lt : 256
           ∙ Running.sheet-filter (drop 15 rows) (drop 12 taps) beyond a b c rest (omega (arith, length-drop 15 rows)) (omega (arith, length-drop 12 taps)) .outputs;
     }
 
-long-rows : 4096 * rowWords ≤ length (replicate {A = ℕ} 20480 0)
+long-rows : rowTable ≤ length (replicate {A = ℕ} 20480 0)
 long-rows = omega (arith, length-replicate {A = ℕ} 20480 0)
 
-long-taps : 256 * tapWords ≤ length (replicate {A = ℕ} 768 0)
+long-taps : tapTable ≤ length (replicate {A = ℕ} 768 0)
 long-taps = omega (arith, length-replicate {A = ℕ} 768 0)
 
 sheet-built : SheetBuilt
@@ -119,10 +118,10 @@ same-network : (r t : List ℕ) → storedNetwork r t ≡ built sheetCoefficient
 unfolding upTo
 same-network r t = sym example
 
-rest-of-rows : 4096 * rowWords ≤ 15 + length (replicate {A = ℕ} 20465 0)
+rest-of-rows : rowTable ≤ 15 + length (replicate {A = ℕ} 20465 0)
 rest-of-rows = omega (arith, length-replicate {A = ℕ} 20465 0)
 
-rest-of-taps : 256 * tapWords ≤ 12 + length (replicate {A = ℕ} 756 0)
+rest-of-taps : tapTable ≤ 12 + length (replicate {A = ℕ} 756 0)
 rest-of-taps = omega (arith, length-replicate {A = ℕ} 756 0)
 
 sheet-calls : SheetCalls

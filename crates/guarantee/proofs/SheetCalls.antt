@@ -2,7 +2,7 @@
 use mathlib.Core.Path.{_≡_, refl, ap, _∙_}
 use mathlib.Core.Bool.{Bool, true, false, _||_}
 use mathlib.Core.List.{List, [], _∷_, _++_, map}
-use Prim.Native.Nat.{ℕ, zero, suc, _*_, _≤_}
+use Prim.Native.Nat.{ℕ, zero, suc, _≤_}
 use native.Mathlib.Omega.{arith}
 use borrow.Author.Tests.{le-ltb}
 use lib.Dec.{lit≤}
@@ -14,7 +14,7 @@ use Rattle.refusal.proofs.Checks.{check-applies, check-passes}
 use Rattle.sequence.specs.UpTo.{upTo}
 use Rattle.run_convolution.specs.Bounds.{Within}
 use Rattle.run_convolution.specs.Sums.{outputSum, outputSums}
-use Rattle.network.specs.Rows.{rowWords, tapWords, networkOf}
+use Rattle.network.specs.Rows.{networkOf, rowTable, tapTable}
 use Rattle.network.specs.RowRule.{keepsRowRule}
 use Rattle.network.specs.Check.{outcome, checked, shortTables, networkAnswer}
 use Rattle.network.proofs.Figures.{sheet-network}
@@ -77,7 +77,7 @@ one-fits : Within w16 (pos 5 ∷ [])
 one-fits zero = record { sfits = lit≤ tt }
 one-fits (suc k) = record { sfits = lit≤ tt }
 
-module _ (r t : List ℕ) (lr : 4096 * rowWords ≤ length (sheetRows r)) (lt : 256 * tapWords ≤ length (sheetTapRows t)) where
+module _ (r t : List ℕ) (lr : rowTable ≤ length (sheetRows r)) (lt : tapTable ≤ length (sheetTapRows t)) where
   accepted-given : tableAnswer (acceptedCall r t .call) ≡ given sheetCoefficients
   accepted-given = sheet-network r t lr lt
 
@@ -92,7 +92,7 @@ module _ (r t : List ℕ) (lr : 4096 * rowWords ≤ length (sheetRows r)) (lt : 
   unfolding networkAnswer
   broken-refused =
       check-passes (shortTables (brokenRows r) (sheetTapRows t) || false) 3 (checked (networkOf (brokenRows r) 3 (sheetTapRows t) 4))
-      (rw (le-ltb (length (brokenRows r)) (4096 * rowWords) lr, le-ltb (length (sheetTapRows t)) (256 * tapWords) lt))
+      (rw (le-ltb (length (brokenRows r)) rowTable lr, le-ltb (length (sheetTapRows t)) tapTable lt))
       ∙ row-rule r t
 
   fair-accepted : Fair (storedNetwork r t) (acceptedCall r t)

@@ -2,7 +2,7 @@
 use mathlib.Core.Path.{_≡_, refl, ap, _∙_}
 use mathlib.Core.Bool.{Bool, true, false, _||_}
 use mathlib.Core.List.{List, [], _∷_, _++_}
-use Prim.Native.Nat.{ℕ, zero, suc, _*_, _<_, _≤_}
+use Prim.Native.Nat.{ℕ, zero, suc, _<_, _≤_}
 use native.Mathlib.Omega.{arith}
 use borrow.Author.Tests.{ltb-true, ltb-false, le-ltb}
 use lib.Dec.{ltb, lit≤}
@@ -14,7 +14,7 @@ use Rattle.run_convolution.specs.Bounds.{Within}
 use Rattle.run_convolution.specs.Sums.{held, outputSum, outputSums}
 use Rattle.run_convolution.proofs.Steps.{held-low, held-high}
 use Rattle.run_convolution.proofs.Theorems.{Cleared, holds-start, outputs-exact}
-use Rattle.network.specs.Rows.{rowWords, tapWords}
+use Rattle.network.specs.Rows.{rowTable, tapTable}
 use Rattle.network.specs.Check.{networkAnswer}
 use Rattle.network.proofs.Figures.{sheet-network}
 use Rattle.run_calls.specs.Run.{runAnswer, runOutputs}
@@ -55,7 +55,7 @@ pub record Filtered (r t beyond : List ℕ) (a b c : ℤ) (rest : List ℤ) : Ty
   pub answer : runAnswer (sheetRows r) 3 (sheetTapRows t) 4 sheetSamples (length (cleared beyond)) (length (a ∷ b ∷ c ∷ rest)) ≡ given sheetCoefficients
   pub outputs : runOutputs (given sheetCoefficients) sheetSamples (cleared beyond) (a ∷ b ∷ c ∷ rest) ≡ sheetOutputs ++ rest
 
-pub sheet-filter : (r t beyond : List ℕ) (a b c : ℤ) (rest : List ℤ) → 4096 * rowWords ≤ length (sheetRows r) → 256 * tapWords ≤ length (sheetTapRows t) → Filtered r t beyond a b c rest
+pub sheet-filter : (r t beyond : List ℕ) (a b c : ℤ) (rest : List ℤ) → rowTable ≤ length (sheetRows r) → tapTable ≤ length (sheetTapRows t) → Filtered r t beyond a b c rest
 sheet-filter r t beyond a b c rest lr lt =
     record {
       answer =

@@ -2,7 +2,7 @@
 -- leave is said by the relations that are the contracts of `minimal_forms`, `build` and `run`. Definitions only; the theorem is in proofs/Demand3.antt.
 use mathlib.Core.Path.{_≡_}
 use mathlib.Core.List.{List}
-use Prim.Native.Nat.{ℕ, _*_, _<_, _≤_}
+use Prim.Native.Nat.{ℕ, _<_, _≤_}
 use lib.IntN.{ℤ, pos}
 use lib.ListN.{length, getD}
 use Rattle.refusal.specs.Answer.{Answer, given}
@@ -10,7 +10,7 @@ use Rattle.word.specs.Bounds.{Coefficient}
 use Rattle.signed_digit.specs.Listed.{FormsListed}
 use Rattle.signed_digit.specs.Claims.{Written}
 use Rattle.coefficient.specs.Parts.{partsOf}
-use Rattle.network.specs.Rows.{networkOf, rowWords, tapWords}
+use Rattle.network.specs.Rows.{networkOf, rowTable, tapTable}
 use Rattle.build_steps.specs.TapRows.{built}
 use Rattle.build_steps.specs.CanBuild.{Listed}
 use Rattle.build_steps.specs.Built.{BuiltInto}
@@ -42,5 +42,5 @@ pub record Demand3 : Type 0 where
   pub listings : (n : ℤ) → Coefficient n → (plus minus : List ℕ) (answer : Answer ℕ) (plus′ minus′ : List ℕ) → 1597 ≤ length plus → 1597 ≤ length minus
       → FormsListed n plus minus answer plus′ minus′ → Written n plus minus answer plus′ minus′
   pub networks : (coefficients : List ℤ) (choices rows taps : List ℕ) (answer : Answer ℕ) (rows′ taps′ : List ℕ) → Taken coefficients choices
-      → 4096 * rowWords ≤ length rows → 256 * tapWords ≤ length taps
+      → rowTable ≤ length rows → tapTable ≤ length taps
       → BuiltInto coefficients choices rows taps answer rows′ taps′ → Guaranteed coefficients choices answer rows′ taps′

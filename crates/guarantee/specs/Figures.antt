@@ -1,13 +1,13 @@
 -- All figures that document 01, "Bench figures", marks [P], in one list. Definitions only; the theorem is in proofs/Figures.antt.
 use mathlib.Core.Path.{_≡_}
 use mathlib.Core.List.{List, [], _∷_, _++_, map}
-use Prim.Native.Nat.{ℕ, _*_, _≤_}
+use Prim.Native.Nat.{ℕ, _≤_}
 use lib.IntN.{ℤ, pos, negℤ}
 use lib.ListN.{length, replicate}
 use Rattle.refusal.specs.Answer.{Answer, given, refused}
 use Rattle.signed_digit.specs.Figures.{Figures}
 use Rattle.tap.specs.Figures.{TapFigures}
-use Rattle.network.specs.Rows.{rowWords, tapWords}
+use Rattle.network.specs.Rows.{rowTable, tapTable}
 use Rattle.build_steps.specs.TapRows.{built}
 use Rattle.network.specs.Figures.{sheetCoefficients}
 use Rattle.build_steps.specs.Figures.{sheetChoices, sheetNetwork}
@@ -48,7 +48,7 @@ pub record ProvedFigures : Type 0 where
   pub taps : TapFigures
   -- "The sheet's filter": its rows, and "cleared, samples 1, 2, -32768: 3, 0, -98271"
   pub rows-of-the-sheet : built sheetCoefficients sheetChoices ≡ sheetNetwork
-  pub sheet-filter : (rows taps beyond : List ℕ) (a b c : ℤ) (rest : List ℤ) → 4096 * rowWords ≤ length rows → 256 * tapWords ≤ length taps
+  pub sheet-filter : (rows taps beyond : List ℕ) (a b c : ℤ) (rest : List ℤ) → rowTable ≤ length rows → tapTable ≤ length taps
       → (n : ℕ) (rows′ taps′ : List ℕ) → BuiltInto sheetCoefficients sheetChoices rows taps (given n) rows′ taps′
       → (answer : Answer (Unit {0})) (r′ : List ℕ) (o′ : List ℤ) → Ran rows′ n taps′ 4 sheetSamples (replicate 256 0 ++ beyond) (a ∷ b ∷ c ∷ rest) answer r′ o′
       → SheetFilter rest answer o′

@@ -2,7 +2,7 @@
 use mathlib.Core.Path.{_≡_, refl, sym, ap, _∙_}
 use mathlib.Core.Bool.{Bool, false, _||_}
 use mathlib.Core.List.{List, [], _∷_, _++_}
-use Prim.Native.Nat.{ℕ, _*_, _≤_}
+use Prim.Native.Nat.{ℕ, _≤_}
 use native.Mathlib.Omega.{arith}
 use borrow.Author.Tests.{le-ltb}
 use lib.Dec.{ltb}
@@ -11,7 +11,7 @@ use lib.ListN.{length}
 use Rattle.refusal.specs.Answer.{Answer, given, filled, lowestFrom}
 use Rattle.refusal.proofs.Checks.{check-passes}
 use Rattle.sequence.specs.UpTo.{upTo}
-use Rattle.network.specs.Rows.{rowWords, tapWords, networkOf}
+use Rattle.network.specs.Rows.{networkOf, rowTable, tapTable}
 use Rattle.network.specs.RowRule.{keepsRowRule}
 use Rattle.network.specs.Coefficients.{coefficientOf, coefficients}
 use Rattle.network.specs.TapRowRule.{keepsTapRowRule}
@@ -28,11 +28,11 @@ passes : (r t : List ℕ) → checked (networkOf (sheetRows r) 3 (sheetTapRows t
 unfolding checked upTo lowestFrom keepsRowRule keepsTapRowRule coefficientOf
 passes r t = refl
 
-pub sheet-network : (r t : List ℕ) → 4096 * rowWords ≤ length (sheetRows r) → 256 * tapWords ≤ length (sheetTapRows t) → networkAnswer false (sheetRows r) 3 (sheetTapRows t) 4 ≡ given sheetCoefficients
+pub sheet-network : (r t : List ℕ) → rowTable ≤ length (sheetRows r) → tapTable ≤ length (sheetTapRows t) → networkAnswer false (sheetRows r) 3 (sheetTapRows t) 4 ≡ given sheetCoefficients
 unfolding networkAnswer
 sheet-network r t l m =
     check-passes (shortTables (sheetRows r) (sheetTapRows t) || false) 3 (checked (networkOf (sheetRows r) 3 (sheetTapRows t) 4))
-    (rw (le-ltb (length (sheetRows r)) (4096 * rowWords) l, le-ltb (length (sheetTapRows t)) (256 * tapWords) m))
+    (rw (le-ltb (length (sheetRows r)) rowTable l, le-ltb (length (sheetTapRows t)) tapTable m))
     ∙ passes r t
 
 -- what its rows give for a sample of 7 by shifts and sums, and its taps
@@ -45,7 +45,7 @@ module _ (r t : List ℕ) where
   sheet-rules : KeepsRules (networkOf (sheetRows r) 3 (sheetTapRows t) 4) sheetCoefficients
   sheet-rules = checked-passed (networkOf (sheetRows r) 3 (sheetTapRows t) 4) sheetCoefficients (passes r t)
 
-  module _ (l : 4096 * rowWords ≤ length (sheetRows r)) (m : 256 * tapWords ≤ length (sheetTapRows t)) where
+  module _ (l : rowTable ≤ length (sheetRows r)) (m : tapTable ≤ length (sheetTapRows t)) where
     sheet-accepted : Accepted false (sheetRows r) 3 (sheetTapRows t) 4 sheetCoefficients
     sheet-accepted = given-accepted false (sheetRows r) 3 (sheetTapRows t) 4 sheetCoefficients (sheet-network r t l m)
 

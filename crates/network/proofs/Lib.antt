@@ -11,3 +11,5 @@ pub mod Evaluation
 pub mod Booleans
 pub mod RowTests
 pub mod Multiples
+pub mod Items
+pub mod Tables

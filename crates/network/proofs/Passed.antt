@@ -3,7 +3,7 @@
 use mathlib.Core.Path.{_≡_, refl, sym, ap, _∙_}
 use mathlib.Core.Bool.{Bool, true, false, not, cond, _||_, true≢false}
 use mathlib.Core.List.{List, [], _∷_}
-use Prim.Native.Nat.{ℕ, zero, suc, _*_, _≤_, _<_, zero-le, suc-le-suc}
+use Prim.Native.Nat.{ℕ, zero, suc, _≤_, _<_, zero-le, suc-le-suc}
 use native.Mathlib.Omega.{arith}
 use borrow.Author.Tests.{ltb-false, eqb-false, le-ltb, ne-eqb, not-false}
 use lib.Dec.{eqb, ltb}
@@ -12,7 +12,7 @@ use lib.ListN.{length, getD}
 use Rattle.refusal.specs.Answer.{given, refuseIf, refuseAt, Place, nowhere, at-place, lowestFrom, lowest}
 use Rattle.refusal.proofs.Checks.{check-passes, given-if, given-at, lowest-none-at}
 use Rattle.sequence.proofs.UpTo.{length-upTo, getD-upTo}
-use Rattle.network.specs.Rows.{Network, rowWords, tapWords, networkOf, tapRowIn, noTap}
+use Rattle.network.specs.Rows.{Network, networkOf, tapRowIn, noTap, rowTable, tapTable}
 use Rattle.network.specs.RowRule.{keepsRowRule}
 use Rattle.network.specs.Coefficients.{coefficients}
 use Rattle.network.specs.Check.{breaksRowRule, breaksTapRowRule, numbers, checked, shortTables, networkAnswer}
@@ -98,12 +98,12 @@ module _ (short : Bool) (rows : List ℕ) (rowCount : ℕ) (taps : List ℕ) (ta
       let b = given-if (ltb 256 tapCount) 2 _ h (a .1) in
       let c = given-if (shortTables rows taps || short) 3 _ h (b .1) in
       let s = neither (shortTables rows taps) short (c .0) in
-      let t = neither (ltb (length rows) (4096 * rowWords)) (ltb (length taps) (256 * tapWords)) (s .0) in
+      let t = neither (ltb (length rows) rowTable) (ltb (length taps) tapTable) (s .0) in
       record {
         taps-from = some tapCount (eqb-false tapCount 0 (a .0));
         taps-to = ltb-false 256 tapCount (b .0);
-        rows-long = ltb-false (length rows) (4096 * rowWords) (t .0);
-        taps-long = ltb-false (length taps) (256 * tapWords) (t .1);
+        rows-long = ltb-false (length rows) rowTable (t .0);
+        taps-long = ltb-false (length taps) tapTable (t .1);
         others-long = s .1;
         passed = checked-passed (networkOf rows rowCount taps tapCount) h (c .1);
       }
@@ -114,5 +114,5 @@ module _ (short : Bool) (rows : List ℕ) (rowCount : ℕ) (taps : List ℕ) (ta
       ∙ check-passes (eqb tapCount 0) 1 _ (ne-eqb tapCount 0 (above tapCount (w .taps-from)))
       ∙ check-passes (ltb 256 tapCount) 2 _ (le-ltb 256 tapCount (w .taps-to))
       ∙ check-passes (shortTables rows taps || short) 3 _
-      (rw (le-ltb (length rows) (4096 * rowWords) (w .rows-long), le-ltb (length taps) (256 * tapWords) (w .taps-long), w .others-long))
+      (rw (le-ltb (length rows) rowTable (w .rows-long), le-ltb (length taps) tapTable (w .taps-long), w .others-long))
       ∙ passed-checked (networkOf rows rowCount taps tapCount) h (w .passed)

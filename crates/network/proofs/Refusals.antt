@@ -2,7 +2,7 @@
 use mathlib.Core.Path.{_≡_, refl, sym, ap, _∙_}
 use mathlib.Core.Bool.{Bool, true, false, _||_, true≢false}
 use mathlib.Core.List.{List}
-use Prim.Native.Nat.{ℕ, zero, suc, _*_, _≤_, _<_, zero-le, suc-le-suc}
+use Prim.Native.Nat.{ℕ, zero, suc, _≤_, _<_, zero-le, suc-le-suc}
 use native.Mathlib.Omega.{arith}
 use borrow.Author.Tests.{ltb-true, ltb-false, eqb-true, eqb-false, not-true, not-false}
 use lib.Dec.{eqb, ltb}
@@ -12,7 +12,7 @@ use Rattle.refusal.specs.Answer.{Answer, given, refused, nowhere, at-place, low
 use Rattle.refusal.proofs.Checks.{neither, either, refused-if, refused-at, lowest-none-at}
 use Rattle.refusal.proofs.Lowest.{lowest-is}
 use Rattle.sequence.proofs.UpTo.{length-upTo, getD-upTo}
-use Rattle.network.specs.Rows.{Network, rowWords, tapWords, networkOf, rowAt, tapRowIn, noTap}
+use Rattle.network.specs.Rows.{Network, networkOf, rowAt, tapRowIn, noTap, rowTable, tapTable}
 use Rattle.network.specs.RowRule.{RowRule}
 use Rattle.network.specs.Check.{breaksRowRule, breaksTapRowRule, numbers, checked, shortTables, networkAnswer, outcome}
 use Rattle.network.specs.Claims.{UnderLength, rows-short, taps-short, another-short, TablesFit, LowestRow, LowestTapRow, NetworkRefusals, no-taps, too-many-taps, short-table, no-rows, too-many-rows, row-broken, tap-row-broken}
@@ -28,13 +28,13 @@ not-both b p q = true≢false (sym p ∙ q)
 under-length : (short : Bool) (rows taps : List ℕ) → (shortTables rows taps || short) ≡ true → UnderLength short rows taps
 under-length short rows taps e =
     either (shortTables rows taps) short e
-    (λ f. either (ltb (length rows) (4096 * rowWords)) (ltb (length taps) (256 * tapWords)) f (λ r. rows-short (ltb-true _ _ r)) (λ t. taps-short (ltb-true _ _ t)))
+    (λ f. either (ltb (length rows) rowTable) (ltb (length taps) tapTable) f (λ r. rows-short (ltb-true _ _ r)) (λ t. taps-short (ltb-true _ _ t)))
     another-short
 
 tables-fit : (short : Bool) (rows taps : List ℕ) (m : ℕ) → 1 ≤ m → m ≤ 256 → (shortTables rows taps || short) ≡ false → TablesFit short rows taps m
 tables-fit short rows taps m from to e =
     let s = neither (shortTables rows taps) short e in
-    let t = neither (ltb (length rows) (4096 * rowWords)) (ltb (length taps) (256 * tapWords)) (s .0) in
+    let t = neither (ltb (length rows) rowTable) (ltb (length taps) tapTable) (s .0) in
     record { taps-from = from; taps-to = to; rows-long = ltb-false _ _ (t .0); taps-long = ltb-false _ _ (t .1); others-long = s .1 }
 
 module _ (net : Network) (from : 1 ≤ length (net .rows)) (to : length (net .rows) ≤ 4096) where

@@ -1,11 +1,11 @@
 -- What it means that nothing of a network is turned down. Document 01, "The network", "Bounds" and "Turned down". Definitions only.
-use Prim.Native.Nat.{ℕ, _*_, _≤_, _<_}
+use Prim.Native.Nat.{ℕ, _≤_, _<_}
 use mathlib.Core.Path.{_≡_}
 use mathlib.Core.Bool.{Bool, false}
 use mathlib.Core.List.{List}
 use lib.IntN.{ℤ}
 use lib.ListN.{length}
-use Rattle.network.specs.Rows.{Network, rowWords, tapWords, networkOf, tapRowIn}
+use Rattle.network.specs.Rows.{Network, networkOf, tapRowIn, rowTable, tapTable}
 use Rattle.network.specs.RowRule.{RowRule}
 use Rattle.network.specs.Coefficients.{coefficients}
 use Rattle.network.specs.TapRowRule.{TapRowRule}
@@ -25,7 +25,7 @@ pub record Accepted (short : Bool) (rows : List ℕ) (rowCount : ℕ) (taps : Li
   pub taps-from : 1 ≤ tapCount
   pub taps-to : tapCount ≤ 256
   -- "rows 4,096, tap rows .. 256", and the entry's own tables
-  pub rows-long : 4096 * rowWords ≤ length rows
-  pub taps-long : 256 * tapWords ≤ length taps
+  pub rows-long : rowTable ≤ length rows
+  pub taps-long : tapTable ≤ length taps
   pub others-long : short ≡ false
   pub passed : KeepsRules (networkOf rows rowCount taps tapCount) h

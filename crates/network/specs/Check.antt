@@ -1,5 +1,5 @@
 -- What checking a network answers. Document 01, "Turned down". Definitions only.
-use Prim.Native.Nat.{ℕ, _*_}
+use Prim.Native.Nat.{ℕ}
 use mathlib.Core.Bool.{Bool, not, _||_}
 use mathlib.Core.List.{List}
 use lib.Dec.{eqb, ltb}
@@ -9,7 +9,7 @@ use Rattle.refusal.specs.Answer.{Answer, given, refused, refuseIf, refuseAt, lo
 use Rattle.sequence.specs.UpTo.{upTo}
 use Rattle.network.specs.declared.Row.{Row}
 use Rattle.network.specs.declared.TapRow.{TapRow}
-use Rattle.network.specs.Rows.{Network, networkOf, rowWords, tapWords}
+use Rattle.network.specs.Rows.{Network, networkOf, rowTable, tapTable}
 use Rattle.network.specs.RowRule.{keepsRowRule}
 use Rattle.network.specs.Coefficients.{coefficients}
 use Rattle.network.specs.TapRowRule.{keepsTapRowRule}
@@ -36,7 +36,7 @@ checked net =
 
 -- "a lent table is under its length: .. rows 4,096, tap rows .. 256", whatever the counts
 abbrev pub shortTables : List ℕ → List ℕ → Bool
-shortTables rows taps = ltb (length rows) (4096 * rowWords) || ltb (length taps) (256 * tapWords)
+shortTables rows taps = ltb (length rows) rowTable || ltb (length taps) tapTable
 
 -- an entry that is handed a network: "Checks run down the table", and `short` says that another lent table is under its length
 unfoldable pub networkAnswer : Bool → List ℕ → ℕ → List ℕ → ℕ → Answer (List ℤ)

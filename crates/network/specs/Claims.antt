@@ -1,5 +1,5 @@
 -- What is claimed of networks, of checking them and of reading their coefficients. proofs/Claims.antt proves it. Definitions only.
-use Prim.Native.Nat.{ℕ, _*_, _≤_, _<_}
+use Prim.Native.Nat.{ℕ, _≤_, _<_}
 use mathlib.Core.Path.{_≡_}
 use mathlib.Core.Bool.{Bool, true, false}
 use mathlib.Core.List.{List, _++_, map}
@@ -10,7 +10,7 @@ use Rattle.word.specs.Bounds.{Coefficient}
 use Rattle.refusal.specs.Answer.{Answer, given, refused}
 use Rattle.network.specs.declared.Row.{Row}
 use Rattle.network.specs.declared.TapRow.{TapRow}
-use Rattle.network.specs.Rows.{Network, rowWords, tapWords, networkOf, rowIn, tapRowIn}
+use Rattle.network.specs.Rows.{Network, networkOf, rowIn, tapRowIn, rowTable, tapTable}
 use Rattle.network.specs.RowRule.{RowRule, keepsRowRule}
 use Rattle.network.specs.Coefficients.{coefficientOf, coefficients}
 use Rattle.network.specs.TapRowRule.{TapRowRule, keepsTapRowRule}
@@ -21,16 +21,16 @@ use Rattle.network.specs.Evaluation.{rowResults, tapResults}
 
 -- "a lent table is under its length: .. rows 4,096, tap rows .. 256", or another of the entry's is
 pub data UnderLength (short : Bool) (rows taps : List ℕ) : Type 0 where
-  rows-short : length rows < 4096 * rowWords → UnderLength short rows taps
-  taps-short : length taps < 256 * tapWords → UnderLength short rows taps
+  rows-short : length rows < rowTable → UnderLength short rows taps
+  taps-short : length taps < tapTable → UnderLength short rows taps
   another-short : short ≡ true → UnderLength short rows taps
 
 -- the checks before those of the network pass: 1 to 256 taps, and no table under its length
 pub record TablesFit (short : Bool) (rows taps : List ℕ) (tapCount : ℕ) : Type 0 where
   pub taps-from : 1 ≤ tapCount
   pub taps-to : tapCount ≤ 256
-  pub rows-long : 4096 * rowWords ≤ length rows
-  pub taps-long : 256 * tapWords ≤ length taps
+  pub rows-long : rowTable ≤ length rows
+  pub taps-long : tapTable ≤ length taps
   pub others-long : short ≡ false
 
 -- "row rule broken": by row k, and by no lower one

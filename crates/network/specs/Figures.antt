@@ -1,13 +1,13 @@
 -- Document 01, "The sheet": the network of the taps 3, -6, 45, 0, and some that break a rule or stand at a bound. proofs/Figures.antt proves them.
 -- Definitions only.
-use Prim.Native.Nat.{ℕ, _*_, _≤_}
+use Prim.Native.Nat.{ℕ, _≤_}
 use mathlib.Core.Path.{_≡_}
 use mathlib.Core.Bool.{false}
 use mathlib.Core.List.{List, [], _∷_, _++_}
 use lib.IntN.{ℤ, pos, negℤ}
 use lib.ListN.{length}
 use Rattle.refusal.specs.Answer.{given, refused}
-use Rattle.network.specs.Rows.{plus, minus, none, rowWords, tapWords, networkOf}
+use Rattle.network.specs.Rows.{plus, minus, none, wordsOfRow, rowTable, wordsOfTapRow, tapTable, networkOf}
 use Rattle.network.specs.Check.{checked, networkAnswer}
 use Rattle.network.specs.Accepted.{KeepsRules, Accepted}
 use Rattle.network.specs.Checked.{NetworkChecked, CoefficientsRead}
@@ -15,10 +15,10 @@ use Rattle.network.specs.Evaluation.{tapResults}
 
 -- the words of a row, and of a tap row
 abbrev pub row : ℕ → ℕ → ℕ → ℕ → ℕ → List ℕ → List ℕ
-row left right shift sign value more = left ∷ right ∷ shift ∷ sign ∷ value ∷ more
+row left right shift sign value more = wordsOfRow (record { left = left; right = right; shift = shift; sign = sign; value = value }) ++ more
 
 abbrev pub tap : ℕ → ℕ → ℕ → List ℕ → List ℕ
-tap sign number shift more = sign ∷ number ∷ shift ∷ more
+tap sign number shift more = wordsOfTapRow (record { sign = sign; row = number; shift = shift }) ++ more
 
 -- the sheet's tables, and what stands past it in them
 abbrev pub sheetRows : List ℕ → List ℕ
@@ -32,15 +32,15 @@ sheetCoefficients = pos 3 ∷ negℤ (pos 6) ∷ pos 45 ∷ pos 0 ∷ []
 
 pub record NetworkFigures : Type 0 where
   -- the sheet's network passes, whatever stands past it in tables that are long enough
-  pub sheet-network : (r t : List ℕ) → 4096 * rowWords ≤ length (sheetRows r) → 256 * tapWords ≤ length (sheetTapRows t)
+  pub sheet-network : (r t : List ℕ) → rowTable ≤ length (sheetRows r) → tapTable ≤ length (sheetTapRows t)
       → networkAnswer false (sheetRows r) 3 (sheetTapRows t) 4 ≡ given sheetCoefficients
   pub sheet-rules : (r t : List ℕ) → KeepsRules (networkOf (sheetRows r) 3 (sheetTapRows t) 4) sheetCoefficients
-  pub sheet-accepted : (r t : List ℕ) → 4096 * rowWords ≤ length (sheetRows r) → 256 * tapWords ≤ length (sheetTapRows t)
+  pub sheet-accepted : (r t : List ℕ) → rowTable ≤ length (sheetRows r) → tapTable ≤ length (sheetTapRows t)
       → Accepted false (sheetRows r) 3 (sheetTapRows t) 4 sheetCoefficients
-  pub sheet-checked : (r t : List ℕ) → 4096 * rowWords ≤ length (sheetRows r) → 256 * tapWords ≤ length (sheetTapRows t)
+  pub sheet-checked : (r t : List ℕ) → rowTable ≤ length (sheetRows r) → tapTable ≤ length (sheetTapRows t)
       → NetworkChecked (sheetRows r) 3 (sheetTapRows t) 4 (given tt)
   -- its coefficients are read into a table of four or more
-  pub sheet-read : (r t : List ℕ) → 4096 * rowWords ≤ length (sheetRows r) → 256 * tapWords ≤ length (sheetTapRows t) → (a b c d : ℤ) (more : List ℤ)
+  pub sheet-read : (r t : List ℕ) → rowTable ≤ length (sheetRows r) → tapTable ≤ length (sheetTapRows t) → (a b c d : ℤ) (more : List ℤ)
       → CoefficientsRead (sheetRows r) 3 (sheetTapRows t) 4 (a ∷ b ∷ c ∷ d ∷ more) (given tt) (sheetCoefficients ++ more)
   -- what its taps give for a sample of 7 by shifts and sums
   pub sheet-sample : (r t : List ℕ) → tapResults (networkOf (sheetRows r) 3 (sheetTapRows t) 4) (pos 7) ≡ pos 21 ∷ negℤ (pos 42) ∷ pos 315 ∷ pos 0 ∷ []

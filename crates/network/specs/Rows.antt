@@ -1,6 +1,7 @@
--- A network, and how lent tables of 32-bit words hold it. Document 01, "The network". Definitions only.
+-- A network, and how lent tables of 32-bit words hold it: the one place that says which words a row and a tap row have. Document 01, "The network".
+-- Definitions only.
 use Prim.Native.Nat.{ℕ, _+_, _*_}
-use mathlib.Core.List.{List}
+use mathlib.Core.List.{List, [], _∷_, flatMap}
 use lib.ListN.{getD}
 use Rattle.sequence.specs.UpTo.{upTo}
 use Rattle.network.specs.declared.Row.{Row}
@@ -19,9 +20,14 @@ reversed = 114
 abbrev pub none : ℕ
 none = 0
 
--- "A row is stored as left, right, shift, sign and value": five words
+-- ---- rows
+
+-- "A row is stored as left, right, shift, sign and value": five words, in this order
 abbrev pub rowWords : ℕ
 rowWords = 5
+
+abbrev pub wordsOfRow : Row → List ℕ
+wordsOfRow r = r .left ∷ r .right ∷ r .shift ∷ r .sign ∷ r .value ∷ []
 
 -- row i of a table
 abbrev pub rowAt : List ℕ → ℕ → Row
@@ -34,13 +40,36 @@ rowAt table i =
       value = getD table (rowWords * i + 4) 0;
     }
 
--- "A tap row is .. a sign .., the number of a row of the network and a shift": three words
+-- "rows 4,096": the length of a lent table of rows, in words
+abbrev pub rowTable : ℕ
+rowTable = 4096 * rowWords
+
+-- ---- tap rows
+
+-- "A tap row is .. a sign .., the number of a row of the network and a shift": three words, in this order
 abbrev pub tapWords : ℕ
 tapWords = 3
+
+abbrev pub wordsOfTapRow : TapRow → List ℕ
+wordsOfTapRow t = t .sign ∷ t .row ∷ t .shift ∷ []
 
 -- tap row j of a table
 abbrev pub tapRowAt : List ℕ → ℕ → TapRow
 tapRowAt table j = record { sign = getD table (tapWords * j) 0; row = getD table (tapWords * j + 1) 0; shift = getD table (tapWords * j + 2) 0 }
+
+-- "tap rows .. 256": the length of a lent table of tap rows, in words
+abbrev pub tapTable : ℕ
+tapTable = 256 * tapWords
+
+-- ---- rows and tap rows one after the other
+
+abbrev pub wordsOfRows : List Row → List ℕ
+wordsOfRows rows = flatMap wordsOfRow rows
+
+abbrev pub wordsOfTapRows : List TapRow → List ℕ
+wordsOfTapRows taps = flatMap wordsOfTapRow taps
+
+-- ---- a network
 
 pub record Network : Type 0 where
   pub rows : List Row

@@ -2,7 +2,7 @@
 use mathlib.Core.Path.{_≡_, refl, sym, ap, _∙_, subst}
 use mathlib.Core.Bool.{Bool, true, false, _||_, or-true, true≢false, false≢true}
 use mathlib.Core.List.{List, _++_}
-use Prim.Native.Nat.{ℕ, _*_, _≤_, _<_}
+use Prim.Native.Nat.{ℕ, _≤_, _<_}
 use borrow.Author.Tests.{lt-ltb, le-ltb, eq-eqb, ne-eqb}
 use lib.Dec.{eqb, ltb}
 use lib.IntN.{ℤ}
@@ -10,7 +10,7 @@ use lib.ListN.{length, take, drop}
 use Rattle.refusal.specs.Answer.{Answer, given, refused, refuseIf, refuseAt, Place, nowhere, at-place, lowest, filled}
 use Rattle.refusal.proofs.Checks.{check-applies, check-passes}
 use Rattle.sequence.proofs.UpTo.{length-upTo}
-use Rattle.network.specs.Rows.{rowWords, tapWords, rowAt, rowsOf, tapRowsOf, networkOf}
+use Rattle.network.specs.Rows.{rowAt, rowsOf, tapRowsOf, networkOf, rowTable, tapTable}
 use Rattle.network.specs.Coefficients.{coefficients}
 use Rattle.network.specs.Check.{breaksRowRule, breaksTapRowRule, numbers, checked, shortTables, networkAnswer, outcome}
 use Rattle.network_check.proofs.Padded.{take-padded}
@@ -85,21 +85,21 @@ module _ (short : Bool) (rows : List ℕ) (n : ℕ) (taps : List ℕ) (m : ℕ) 
       few-taps : networkAnswer short rows n taps m ≡ refuseIf (shortTables rows taps || short) 3 (checked (networkOf rows n taps m))
       few-taps = some-taps ∙ check-passes (ltb 256 m) 2 _ (le-ltb 256 m few)
 
-      pub short-rows : length rows < 4096 * rowWords → refused 3 0 ≡ networkAnswer short rows n taps m
-      short-rows l = sym (few-taps ∙ check-applies (shortTables rows taps || short) 3 _ (rw (lt-ltb (length rows) (4096 * rowWords) l)))
+      pub short-rows : length rows < rowTable → refused 3 0 ≡ networkAnswer short rows n taps m
+      short-rows l = sym (few-taps ∙ check-applies (shortTables rows taps || short) 3 _ (rw (lt-ltb (length rows) rowTable l)))
 
-      pub short-taps : length taps < 256 * tapWords → refused 3 0 ≡ networkAnswer short rows n taps m
+      pub short-taps : length taps < tapTable → refused 3 0 ≡ networkAnswer short rows n taps m
       short-taps l =
-          sym (few-taps ∙ check-applies (shortTables rows taps || short) 3 _ (rw (lt-ltb (length taps) (256 * tapWords) l, or-true (ltb (length rows) (4096 * rowWords)))))
+          sym (few-taps ∙ check-applies (shortTables rows taps || short) 3 _ (rw (lt-ltb (length taps) tapTable l, or-true (ltb (length rows) rowTable))))
 
       pub short-other : short ≡ true → refused 3 0 ≡ networkAnswer short rows n taps m
       short-other e = sym (few-taps ∙ check-applies (shortTables rows taps || short) 3 _ (rw (e, or-true (shortTables rows taps))))
 
-      pub long-tables : 4096 * rowWords ≤ length rows → 256 * tapWords ≤ length taps → short ≡ false → checked (networkOf rows n taps m) ≡ networkAnswer short rows n taps m
+      pub long-tables : rowTable ≤ length rows → tapTable ≤ length taps → short ≡ false → checked (networkOf rows n taps m) ≡ networkAnswer short rows n taps m
       long-tables r t e =
           sym
           (few-taps
-          ∙ check-passes (shortTables rows taps || short) 3 _ (rw (le-ltb (length rows) (4096 * rowWords) r, le-ltb (length taps) (256 * tapWords) t, e)))
+          ∙ check-passes (shortTables rows taps || short) 3 _ (rw (le-ltb (length rows) rowTable r, le-ltb (length taps) tapTable t, e)))
 
 -- ---- the table of coefficients, by what `passes` said
 

@@ -5,7 +5,7 @@ ghost use Prim.Native.Nat.{_*_, _≤_};
 ghost use lib.IntN.{pos};
 ghost use lib.ListN.{length, drop, replicate};
 ghost use Rattle.refusal.specs.Answer.{lowest, placeOr};
-ghost use Rattle.network.specs.Rows.{rowWords, tapWords, rowsOf, tapRowsOf, networkOf};
+ghost use Rattle.network.specs.Rows.{rowWords, tapWords, rowsOf, tapRowsOf, networkOf, rowTable, tapTable};
 ghost use Rattle.network.specs.Coefficients as Coefficients;
 ghost use Rattle.network.specs.Check.{breaksRowRule, breaksTapRowRule, numbers, checked, networkAnswer, outcome};
 ghost use Rattle.network.specs.Checked.{NetworkChecked, CoefficientsRead};
@@ -19,7 +19,7 @@ pub enum Checked {
     Refused(Refusal),
 }
 
-// Whether nothing was turned down. Internal: for the crates above.
+// Whether nothing was turned down.
 pub fn passes(answer: Checked) -> bool
     ensures { λ r. ⌜ r ≡ isGiven (answerOf answer) ⌝ }
 {
@@ -66,7 +66,7 @@ fn fill(rows: &[u32], n: usize, taps: &[u32], m: usize, buffer: &mut [i32; 256])
 // The checks 10 and 11 of a network in tables that are long enough. Where it passes, its
 // coefficients are in the buffer, and zeros past them.
 fn rules(rows: &[u32], n: usize, taps: &[u32], m: usize, buffer: &mut [i32; 256]) -> Checked
-    requires { ⌜ (4096 * rowWords ≤ length (now rows)) × (256 * tapWords ≤ length (now taps)) × (m ≤ 256) × (now buffer ≡ replicate 256 (pos 0)) ⌝ }
+    requires { ⌜ (rowTable ≤ length (now rows)) × (tapTable ≤ length (now taps)) × (m ≤ 256) × (now buffer ≡ replicate 256 (pos 0)) ⌝ }
     ensures { λ r. ⌜ answerOf r ≡ outcome (checked (networkOf (now (rows .entry)) n (now (taps .entry)) m)) ⌝ }
     ensures { λ r. ⌜ Holds (checked (networkOf (now (rows .entry)) n (now (taps .entry)) m)) (now (buffer .exit)) ⌝ }
 {
@@ -89,7 +89,7 @@ fn rules(rows: &[u32], n: usize, taps: &[u32], m: usize, buffer: &mut [i32; 256]
 
 // All checks of an entry that is handed a network; short says that another table lent to it is
 // under its length. Where nothing is turned down, the coefficients are in the buffer, and zeros
-// past them. Internal: for the crates above, which bring a cleared buffer.
+// past them.
 pub fn examine(
     rows: &[u32],
     row_count: usize,
@@ -108,10 +108,10 @@ pub fn examine(
     if tap_count > 256 {
         return Checked::Refused(Refusal::TooManyTaps);
     }
-    if rows.len() < 20480 {
+    if rows.len() < network::ROW_TABLE {
         return Checked::Refused(Refusal::ShortTable);
     }
-    if taps.len() < 768 {
+    if taps.len() < network::TAP_TABLE {
         return Checked::Refused(Refusal::ShortTable);
     }
     if short {

@@ -34,13 +34,12 @@ fn is_sum(row: Row, left: u32, right: u32) -> bool
     }
     let a = crate::lift(row.shift, left);
     (1 <= row.shift)
-        & is_worked(row.sign, a, crate::wide(right), crate::wide(row.value))
+        & is_worked(row.sign, a, word::wide(right), word::wide(row.value))
         & ((row.value % 2 == 1) & (1 <= row.value) & (row.value <= 2147483647))
         & (a <= 4294967296)
 }
 
-// Row i keeps the row rule, in every network of these rows that has it. Internal: the crate above
-// has tested the table's length.
+// Row i keeps the row rule, in every network of these rows that has it.
 pub fn keeps_row_rule(rows: &[u32], i: usize) -> bool
     requires { ⌜ rowWords * i + rowWords ≤ length (now rows) ⌝ }
     ensures { λ r. ⌜ ((n : ℕ) → i < n → r ≡ keepsRowRule (rowsOf (now (rows .entry)) n) i) ⌝ }
@@ -49,8 +48,8 @@ pub fn keeps_row_rule(rows: &[u32], i: usize) -> bool
     if i == 0 {
         return is_first(row);
     }
-    let left = crate::number(row.left);
-    let right = crate::number(row.right);
+    let left = word::index(row.left);
+    let right = word::index(row.right);
     if left >= i {
         return false;
     }

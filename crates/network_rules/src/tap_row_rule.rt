@@ -48,13 +48,13 @@ fn signed_product(sign: u32, p: u64) -> TapProduct
     TapProduct::Broken
 }
 
-// Tap row j over the first n rows. Internal: the crate above has tested the tables' lengths.
+// The product of tap row j over the first n rows.
 pub fn tap_product(rows: &[u32], n: usize, taps: &[u32], j: usize) -> TapProduct
     requires { ⌜ (rowWords * n ≤ length (now rows)) × (tapWords * j + tapWords ≤ length (now taps)) ⌝ }
     ensures { λ r. ⌜ r ≡ productOf (rowsOf (now (rows .entry)) n) (tapRowAt (now (taps .entry)) j) ⌝ }
 {
     let tap = network::read_tap_row(taps, j);
-    let row = crate::number(tap.row);
+    let row = word::index(tap.row);
     if tap.sign == NONE {
         if (row == 0) & (tap.shift == 0) {
             return TapProduct::Coefficient(0);

@@ -2,13 +2,13 @@
 -- proofs/Theorem.antt.
 use mathlib.Core.Path.{_≡_}
 use mathlib.Core.List.{List, [], _∷_, map}
-use Prim.Native.Nat.{_+_, _*_, _≤_}
+use Prim.Native.Nat.{_+_, _≤_}
 use lib.IntN.{ℤ}
 use lib.ListN.{length}
 use mir.Syntax.{w16}
 use Rattle.refusal.specs.Answer.{given}
 use Rattle.run_convolution.specs.Bounds.{Within}
-use Rattle.network.specs.Rows.{Network, rowWords, tapWords}
+use Rattle.network.specs.Rows.{Network, rowTable, tapTable}
 use Rattle.run_calls.specs.Call.{Call, networkIn, tableAnswer, said}
 use Rattle.run_calls.specs.Memory.{Lending, Step, Trace, dueAll, foundFrom, cleared}
 
@@ -30,8 +30,8 @@ EachFair net (s ∷ ss) = Fair net (s .lending) × EachFair net ss
 
 -- no table that a call lends is under its length
 pub record FullLength (c : Call) : Type 0 where
-  pub rows : 4096 * rowWords ≤ length (c .rows)
-  pub taps : 256 * tapWords ≤ length (c .taps)
+  pub rows : rowTable ≤ length (c .rows)
+  pub taps : tapTable ≤ length (c .taps)
   pub registers : 256 ≤ c .registers
   pub outputs : length (c .samples) ≤ c .outputs
 

@@ -15,13 +15,12 @@ use Rattle.word.proofs.Bounds.{coefficient-i32}
 use Rattle.coefficient.specs.Parts.{partsOf}
 use Rattle.network.specs.declared.Row.{Row}
 use Rattle.network.specs.declared.TapRow.{TapRow}
-use Rattle.network.specs.Rows.{Network, rowAt, tapRowAt, networkOf, rowIn, tapRowIn, noRow, noTap, plus, minus, reversed}
+use Rattle.network.specs.Rows.{Network, rowAt, tapRowAt, networkOf, rowIn, tapRowIn, noRow, noTap, plus, minus, reversed, wordsOfRows, wordsOfTapRows}
 use Rattle.network.specs.RowRule.{RowRule, isRowSign}
 use Rattle.network.specs.TapRowRule.{TapRowRule, is-empty, is-product, isTapSign}
 use Rattle.network.specs.Coefficients.{coefficients}
 use Rattle.build_steps.specs.TapRows.{built}
 use Rattle.build_steps.specs.Answer.{noSuchForm, buildAnswer, rowCount}
-use Rattle.build_steps.specs.Tables.{wordsOfRows, wordsOfTapRows}
 use Rattle.build_steps.proofs.Answers.{exist-forms, not-short, network-given}
 use Rattle.build_steps.specs.CanBuild.{CanBuild}
 use Rattle.build_steps.proofs.Passes.{built-few, built-passed}

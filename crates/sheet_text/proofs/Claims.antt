@@ -3,7 +3,7 @@ use mathlib.Core.Path.{_≡_, sym, ap, _∙_}
 use mathlib.Core.Bool.{false}
 use mathlib.Core.List.{List, _++_}
 use mathlib.Core.Logic.{⊎-elim}
-use Prim.Native.Nat.{ℕ, _*_, _≤_}
+use Prim.Native.Nat.{ℕ, _≤_}
 use native.Mathlib.Omega.{arith}
 use lib.ListN.{length, take, drop, length-append, length-drop}
 use lib.Ieee.{Float}
@@ -12,7 +12,7 @@ use lib.Seq.{take-all, take-at, drop-at, length-take-le}
 use Rattle.refusal.specs.Answer.{Answer, given}
 use Rattle.tap_set.specs.declared.Report.{Report}
 use Rattle.tap_set.specs.Set.{coefficientsOf, TapsRounded}
-use Rattle.network.specs.Rows.{rowWords, tapWords}
+use Rattle.network.specs.Rows.{rowTable, tapTable}
 use Rattle.build_steps.specs.TapRows.{built}
 use Rattle.build_steps.specs.Answer.{rowCount}
 use Rattle.build_steps.specs.Built.{BuiltInto}
@@ -65,7 +65,7 @@ nothing-cut input argument area n area′ w =
     omega (arith, w .size, w .room, ap length (w .text), length-append (sheetOf input argument) (drop n area), length-drop n area)
 
 never-turned-down : (F : ℕ) (taps : List Float) (table : List ℤ) (report : Report) (table′ : List ℤ) → TapsRounded F false taps table (given report) table′
-    → (rows tapRows : List ℕ) → 4096 * rowWords ≤ length rows → 256 * tapWords ≤ length tapRows
+    → (rows tapRows : List ℕ) → rowTable ≤ length rows → tapTable ≤ length tapRows
     → (a : Answer ℕ) (rows′ tapRows′ : List ℕ) → BuiltInto (coefficientsOf F taps) choices rows tapRows a rows′ tapRows′
     → a ≡ given (length (built (coefficientsOf F taps) choices .rows))
 never-turned-down F taps table report table′ t rows tapRows lr lt a rows′ tapRows′ b =

@@ -2,14 +2,14 @@
 use mathlib.Core.Path.{_≡_}
 use mathlib.Core.Bool.{false}
 use mathlib.Core.List.{List, [], _∷_, _++_}
-use Prim.Native.Nat.{ℕ, _*_, _≤_}
+use Prim.Native.Nat.{ℕ, _≤_}
 use lib.Ieee.{Float}
 use lib.IntN.{ℤ}
 use lib.ListN.{length, take, drop}
 use Rattle.refusal.specs.Answer.{Answer, given}
 use Rattle.tap_set.specs.declared.Report.{Report}
 use Rattle.tap_set.specs.Set.{coefficientsOf, TapsRounded}
-use Rattle.network.specs.Rows.{rowWords, tapWords}
+use Rattle.network.specs.Rows.{rowTable, tapTable}
 use Rattle.build_steps.specs.TapRows.{built}
 use Rattle.build_steps.specs.Built.{BuiltInto}
 use Rattle.text.specs.Ascii.{ascii}
@@ -47,7 +47,7 @@ pub record SheetClaims : Type 0 where
   pub nothing-cut : (input : List ℕ) (argument : Argument) (area : List ℕ) (n : ℕ) (area′ : List ℕ) → SheetWritten input argument area n area′ → n ≤ length area
   -- taps that are rounded can be built, "all choices 0"
   pub never-turned-down : (F : ℕ) (taps : List Float) (table : List ℤ) (report : Report) (table′ : List ℤ) → TapsRounded F false taps table (given report) table′
-      → (rows tapRows : List ℕ) → 4096 * rowWords ≤ length rows → 256 * tapWords ≤ length tapRows
+      → (rows tapRows : List ℕ) → rowTable ≤ length rows → tapTable ≤ length tapRows
       → (a : Answer ℕ) (rows′ tapRows′ : List ℕ) → BuiltInto (coefficientsOf F taps) choices rows tapRows a rows′ tapRows′
       → a ≡ given (length (built (coefficientsOf F taps) choices .rows))
   -- document 01's example

@@ -27,8 +27,8 @@ fn coefficient_sheet(out: &mut [u8], coefficients: &[i32]) -> usize
     ensures { λ r. ⌜ Put (now (out .entry)) 0 (networkText (built (now (coefficients .entry)) choices)) 262144 (now (out .exit)) r ⌝ }
 {
     let choices = [0u32; 256];
-    let mut rows = [0u32; 20480];
-    let mut taps = [0u32; 768];
+    let mut rows = [0u32; network::ROW_TABLE];
+    let mut taps = [0u32; network::TAP_TABLE];
     let answer = build_network::build(coefficients, &choices, &mut rows, &mut taps);
     match answer {
         Built::Rows(n) => sheet_kinds::network_sheet(out, &rows, n as usize, &taps, coefficients),

@@ -1,4 +1,7 @@
--- `build_index::find` meets its contract: down the rows of one bucket. Assumes nothing.
+-- `build_index::find` meets its contract. The loop goes down the rows of one bucket, from the last. The invariant: p stands for the last row of the
+-- bucket that is still to be looked at, and no row passed has the value; rows of other buckets cannot have it. The measure is p, which falls from row to
+-- row, since a link leads to an earlier one.
+-- Assumes nothing.
 use mathlib.Core.Path.{_≡_, sym, ap, subst, _∙_}
 use Prim.Native.Nat.{_<_, _-_}
 use native.Mathlib.Omega.{arith}

@@ -3,11 +3,12 @@ use mathlib.Core.Path.{ap}
 use Prim.Native.Nat.{_+_, _*_, _≤_}
 use native.Mathlib.Omega.{arith}
 use lib.ListN.{length}
+use lib.Seq.{sets}
 use borrow.Author.Needs.{needs}
 use Rattle.network.specs.declared.Row.{Row}
-use Rattle.network.specs.Rows.{rowWords}
-use Rattle.build_index.specs.Inner.{withRow}
-use Rattle.build_index.proofs.Written.{new-row, old-row, rest-kept, rows-written, length-written}
+use Rattle.network.specs.Rows.{rowWords, wordsOfRow}
+use Rattle.network.proofs.Items.{new-item, old-item, items-written, rest-kept, length-written}
+use Rattle.network.proofs.Tables.{row-layout}
 use Rattle.build_index.proofs.Chains.{indexed-next}
 use Rattle.build_index.proofs.put.Statement.{statement}
 use Rattle.build_index.proofs.put.Tie as tie
@@ -35,13 +36,15 @@ returns c =
     let r = s .args .row in
     let e = c .before .before .before .before .before .before .before .before .before .write-row .ensures in
     let f = c .before .before .before .before .enter .ensures in
-    let room : rowWords * n + rowWords ≤ length (withRow t n r) = omega (arith, length-written t n r (s .pre .1 .0 .1), s .pre .1 .0 .1) in
+    let room = s .pre .1 .0 .1 in
+    let written = sets t (rowWords * n) (wordsOfRow r) in
+    let still-room : rowWords * n + rowWords ≤ length written = omega (arith, length-written row-layout t n r, room) in
     rw (e, f .0, f .1)
     (record {
-      rows-are = rows-written t n r (s .pre .1 .0 .1);
-      rest = rest-kept t n r;
-      index = indexed-next t (withRow t n r) (s .args .heads .now) (s .args .links .now) n (r .value) (s .pre .0) (ap (λ (x : Row). x .value) (new-row t n r (s .pre .1 .0 .1)))
-          (λ i l. ap (λ (x : Row). x .value) (old-row t n r i l)) (s .pre .1 .0 .0) room (s .pre .1 .0 .2) (s .pre .1 .1);
+      rows-are = items-written row-layout t n r room;
+      rest = rest-kept row-layout t n r room;
+      index = indexed-next t written (s .args .heads .now) (s .args .links .now) n (r .value) (s .pre .0) (ap (λ (x : Row). x .value) (new-item row-layout t n r room))
+          (λ i l. ap (λ (x : Row). x .value) (old-item row-layout t n r room i l)) (s .pre .1 .0 .0) still-room (s .pre .1 .0 .2) (s .pre .1 .1);
     })
 
 pub put-spec : {M : Type 1} → statement M

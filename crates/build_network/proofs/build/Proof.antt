@@ -2,12 +2,12 @@
 use borrow.Author.Needs.{needs}
 use mathlib.Core.Path.{_≡_, sym, ap, _∙_}
 use mathlib.Core.Bool.{Bool, false}
-use Prim.Native.Nat.{ℕ, _*_, _≤_}
+use Prim.Native.Nat.{ℕ, _≤_}
 use native.Mathlib.Omega.{arith}
 use lib.ListN.{length}
 use Rattle.refusal.specs.Answer.{nowhere, placeOr, refused}
 use Rattle.refusal.proofs.Checks.{found, found-none}
-use Rattle.network.specs.Rows.{rowWords, tapWords}
+use Rattle.network.specs.Rows.{rowTable, tapTable}
 use Rattle.build_steps.specs.Answer.{Choice, choicesOf, noSuchForm, buildAnswer, missingForm}
 use Rattle.build_steps.specs.Built.{BuiltInto}
 use Rattle.build_steps.proofs.Answers.{short, length-choices, no-taps, too-many, too-short, no-form, network-given}
@@ -32,8 +32,8 @@ few c = omega (arith, c .if2 .left)
 -- every table is long enough
 record Long (c : tie.After-first-without-form) : Type 0 where
   choices : length (start (within c) .args .coefficients .now) ≤ length (start (within c) .args .choices .now)
-  rows : 4096 * rowWords ≤ length (start (within c) .args .rows .now)
-  taps : 256 * tapWords ≤ length (start (within c) .args .taps .now)
+  rows : rowTable ≤ length (start (within c) .args .rows .now)
+  taps : tapTable ≤ length (start (within c) .args .taps .now)
 
 lengths : (c : tie.After-first-without-form) → Long c
 lengths c = record { choices = omega (arith, c .before .before .before .if3 .left); rows = omega (arith, c .before .before .if4 .left); taps = omega (arith, c .before .if5 .left) }

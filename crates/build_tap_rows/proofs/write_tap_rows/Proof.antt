@@ -1,4 +1,6 @@
--- `build_tap_rows::write_tap_rows` meets its contract. Assumes nothing.
+-- `build_tap_rows::write_tap_rows` meets its contract. The invariant of its loop: the table holds the tap rows of the coefficients passed and is
+-- untouched past them; writing one more keeps it, by the laws of the layout. The measure is the number of coefficients still to come.
+-- Assumes nothing.
 use borrow.Author.Needs.{needs}
 use mathlib.Core.Path.{sym, ap, subst, _∙_}
 use mathlib.Core.List.{List}

@@ -1,4 +1,6 @@
--- `network_check::fill` meets its contract. The invariant: none of the taps passed breaks the rule, and the buffer's front holds their coefficients. Assumes nothing.
+-- `network_check::fill` meets its contract. The invariant of its loop: none of the taps passed breaks the rule, and the buffer starts with their
+-- coefficients, as far as the loop has come, and is untouched past them. The measure is the number of taps still to come.
+-- Assumes nothing.
 use mathlib.Core.Bool.{not}
 use mathlib.Core.List.{List, _++_, map}
 use lib.IntN.{ℤ}

@@ -1,4 +1,6 @@
--- `network_check::first_broken_row` meets its contract. The invariant: none of the rows passed breaks the rule. Assumes nothing.
+-- `network_check::first_broken_row` meets its contract. The invariant of its loop: none of the rows passed breaks the rule, so that the first that does
+-- is the lowest. The measure is the number of rows still to come.
+-- Assumes nothing.
 use mathlib.Core.Bool.{not}
 use Rattle.network.specs.Rows.{rowsOf}
 use Rattle.network.specs.Check.{breaksRowRule}

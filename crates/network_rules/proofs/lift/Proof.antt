@@ -18,8 +18,8 @@ returns : tie.Need-returns
 returns c =
     let s = c .before .args .s in
     let v = c .before .args .value in
-    let e : (c .wide .result * 2 ^ s) % 18446744073709551616 ≡ v * 2 ^ s =
-    ap (λ (n : ℕ). (n * 2 ^ s) % 18446744073709551616) (c .wide .ensures) ∙ shl-exact 32 s 64 (c .before .fits .value .fits) (omega arith) in
+    let e : (c .wide .result * 2 ^ s) % 2 ^ 64 ≡ v * 2 ^ s =
+    ap (λ (n : ℕ). (n * 2 ^ s) % 2 ^ 64) (c .wide .ensures) ∙ shl-exact 32 s 64 (c .before .fits .value .fits) (omega arith) in
     let l : v * 2 ^ s < 9223372036854775808 = lt-of-lt-of-le (shl-lt 32 s (c .before .fits .value .fits)) (pow-mono {j = 63} (omega arith)) in
     (e ∙ mul-comm v (2 ^ s), omega (arith, e, l))
 

@@ -21,11 +21,11 @@ returns c =
     let a = r .before .before .args in
     c .is-first .ensures ∙ row-first (a .rows .now) n (a .i) l (r .read-row .result) (r .read-row .ensures) (c .before .if1 .taken)
 
-number-requires : tie.Need-number-requires
-number-requires c κs = search needs
+index-requires : tie.Need-index-requires
+index-requires c κs = search needs
 
-number-requires-2 : tie.Need-number-requires-2
-number-requires-2 c κs = search needs
+index-requires-2 : tie.Need-index-requires-2
+index-requires-2 c κs = search needs
 
 returns-2 : tie.Need-returns-2
 returns-2 c =
@@ -34,7 +34,7 @@ returns-2 c =
     let z = m .before in
     let r = z .before in
     let a = r .before .before .args in
-    row-left (a .rows .now) n (a .i) l (r .read-row .result) (r .read-row .ensures) (z .if1 .left) (omega (arith, c .if2 .taken, m .number .ensures))
+    row-left (a .rows .now) n (a .i) l (r .read-row .result) (r .read-row .ensures) (z .if1 .left) (omega (arith, c .if2 .taken, m .index .ensures))
 
 returns-3 : tie.Need-returns-3
 returns-3 c =
@@ -43,7 +43,7 @@ returns-3 c =
     let z = k .before .before in
     let r = z .before in
     let a = r .before .before .args in
-    row-right (a .rows .now) n (a .i) l (r .read-row .result) (r .read-row .ensures) (z .if1 .left) (omega (arith, c .if3 .taken, k .number2 .ensures))
+    row-right (a .rows .now) n (a .i) l (r .read-row .result) (r .read-row .ensures) (z .if1 .left) (omega (arith, c .if3 .taken, k .index2 .ensures))
 
 read-value-requires : tie.Need-read-value-requires
 read-value-requires c κs = search needs
@@ -68,8 +68,8 @@ returns-4 c =
     let a = r .before .before .args in
     let t = a .rows .now in
     c .is-sum .ensures
-    ∙ row-sum t n (a .i) l (r .read-row .result) (r .read-row .ensures) (z .if1 .left) (omega (arith, f .if2 .left, m .number .ensures)) (omega (arith, g .if3 .left, k .number2 .ensures))
-    (x .read-value .result) (y .read-value2 .result) (x .read-value .ensures ∙ ap (λ (j : ℕ). rowAt t j .value) (m .number .ensures)) (y .read-value2 .ensures ∙ ap (λ (j : ℕ). rowAt t j .value) (k .number2 .ensures))
+    ∙ row-sum t n (a .i) l (r .read-row .result) (r .read-row .ensures) (z .if1 .left) (omega (arith, f .if2 .left, m .index .ensures)) (omega (arith, g .if3 .left, k .index2 .ensures))
+    (x .read-value .result) (y .read-value2 .result) (x .read-value .ensures ∙ ap (λ (j : ℕ). rowAt t j .value) (m .index .ensures)) (y .read-value2 .ensures ∙ ap (λ (j : ℕ). rowAt t j .value) (k .index2 .ensures))
 
 pub keeps-row-rule-spec : {M : Type 1} → statement M
 keeps-row-rule-spec =
@@ -78,8 +78,8 @@ keeps-row-rule-spec =
     read-row-requires
     is-first-requires
     returns
-    number-requires
-    number-requires-2
+    index-requires
+    index-requires-2
     returns-2
     returns-3
     read-value-requires

@@ -20,8 +20,8 @@ use Rattle.network_rules.proofs.tap_row_rule.tap_product.Tie as tie
 read-tap-row-requires : tie.Need-read-tap-row-requires
 read-tap-row-requires c κs = search needs
 
-number-requires : tie.Need-number-requires
-number-requires c κs = search needs
+index-requires : tie.Need-index-requires
+index-requires c κs = search needs
 
 returns : tie.Need-returns
 returns c =
@@ -30,7 +30,7 @@ returns c =
     let t = m .before in
     let a = t .before .before .before .args in
     let rows = rowsOf (a .rows .now) (a .n) in
-    tap-empty rows (t .read-tap-row .result) (f .if1 .taken) (m .number .result) (m .number .ensures) true (c .if2 .taken) ∙ ap (productOf rows) (t .read-tap-row .ensures)
+    tap-empty rows (t .read-tap-row .result) (f .if1 .taken) (m .index .result) (m .index .ensures) true (c .if2 .taken) ∙ ap (productOf rows) (t .read-tap-row .ensures)
 
 returns-2 : tie.Need-returns-2
 returns-2 c =
@@ -39,7 +39,7 @@ returns-2 c =
     let t = m .before in
     let a = t .before .before .before .args in
     let rows = rowsOf (a .rows .now) (a .n) in
-    tap-empty rows (t .read-tap-row .result) (f .if1 .taken) (m .number .result) (m .number .ensures) false (c .if2 .left) ∙ ap (productOf rows) (t .read-tap-row .ensures)
+    tap-empty rows (t .read-tap-row .result) (f .if1 .taken) (m .index .result) (m .index .ensures) false (c .if2 .left) ∙ ap (productOf rows) (t .read-tap-row .ensures)
 
 returns-3 : tie.Need-returns-3
 returns-3 c =
@@ -48,7 +48,7 @@ returns-3 c =
     let t = m .before in
     let a = t .before .before .before .args in
     let rows = rowsOf (a .rows .now) (a .n) in
-    tap-row rows (t .read-tap-row .result) (f .if1 .left) (omega (arith, c .if3 .taken, m .number .ensures, length-upTo (a .n) (rowAt (a .rows .now)))) ∙ ap (productOf rows) (t .read-tap-row .ensures)
+    tap-row rows (t .read-tap-row .result) (f .if1 .left) (omega (arith, c .if3 .taken, m .index .ensures, length-upTo (a .n) (rowAt (a .rows .now)))) ∙ ap (productOf rows) (t .read-tap-row .ensures)
 
 returns-4 : tie.Need-returns-4
 returns-4 c =
@@ -82,9 +82,9 @@ returns-5 c =
     let table = a .rows .now in
     let rows = rowsOf table (a .n) in
     let p = t .read-tap-row .result in
-    let h : p .row < a .n = omega (arith, g .if3 .left, m .number .ensures) in
+    let h : p .row < a .n = omega (arith, g .if3 .left, m .index .ensures) in
     let e : l .lift .result ≡ lifted (p .shift) (rowIn rows (p .row) .value) = l .lift .ensures .0
-    ∙ ap (lifted (p .shift)) (v .read-value .ensures ∙ ap (λ (k : ℕ). rowAt table k .value) (m .number .ensures) ∙ ap (λ (r : Row). r .value) (sym (getD-upTo (a .n) (rowAt table) noRow (p .row) h))) in
+    ∙ ap (lifted (p .shift)) (v .read-value .ensures ∙ ap (λ (k : ℕ). rowAt table k .value) (m .index .ensures) ∙ ap (λ (r : Row). r .value) (sym (getD-upTo (a .n) (rowAt table) noRow (p .row) h))) in
     c .signed-product .ensures
     ∙ ap (λ (z : ℤ). productIf (isTapSign (p .sign) && withinBounds z) z) (ap (λ (k : ℕ). withSign (p .sign) (pos k)) e)
     ∙ tap-signed rows p (f .if1 .left) (omega (arith, h, length-upTo (a .n) (rowAt table))) (s .if4 .left)
@@ -95,7 +95,7 @@ tap-product-spec =
     tie.close
     (tie.spec
     read-tap-row-requires
-    number-requires
+    index-requires
     returns
     returns-2
     returns-3

@@ -1,9 +1,12 @@
--- `build_tap_rows::write_tap_row` meets its contract. Assumes nothing.
+-- `network::tap_rows::write_tap_row` meets its contract. Assumes nothing.
 use borrow.Author.Needs.{needs}
+use mathlib.Core.Path.{_≡_}
+use Prim.Native.Nat.{suc, _+_, _*_}
 use native.Mathlib.Omega.{arith}
 use lib.ListN.{length-set}
-use Rattle.build_tap_rows.proofs.write_tap_row.Statement.{statement}
-use Rattle.build_tap_rows.proofs.write_tap_row.Tie as tie
+use Rattle.network.specs.Rows.{tapWords}
+use Rattle.network.proofs.tap_rows.write_tap_row.Statement.{statement}
+use Rattle.network.proofs.tap_rows.write_tap_row.Tie as tie
 
 mul-at : tie.Need-mul-at
 mul-at c = search needs
@@ -36,7 +39,11 @@ same-length : tie.Need-same-length
 same-length c = search needs
 
 returns : tie.Need-returns
-returns c = search needs
+returns c =
+    let at = tapWords * c .args .j in
+    let one : at + 1 ≡ suc at = omega arith in
+    let two : at + 2 ≡ suc (suc at) = omega arith in
+    cc (one, two)
 
 pub write-tap-row-spec : {M : Type 1} → statement M
 write-tap-row-spec =
