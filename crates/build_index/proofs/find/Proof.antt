@@ -19,6 +19,10 @@ Inv-loop table heads links n x h p₀ p = Passed table (length heads) n x p
 abbrev μ-loop : tie.MeasureT-loop
 μ-loop table heads links n x h p₀ p = p
 
+-- where the function starts, seen from its loop
+abbrev start : tie.At-loop Inv-loop μ-loop → tie.Start Inv-loop μ-loop
+start c = c .before .before .before .before .before .before .before
+
 bucket-requires : tie.Need-bucket-requires Inv-loop μ-loop
 bucket-requires c κs = search needs
 
@@ -33,58 +37,75 @@ number-requires c κs = search needs
 
 loop-holds : tie.Need-loop-holds Inv-loop μ-loop
 loop-holds c =
-    let s = c .before .before .before .before .before .before in
-    let a = s .args in
-    let b = c .before .before .bucket in
-    let l : Last (a .table .now) (length (a .heads .now)) (bucketOf (length (a .heads .now)) (a .x)) (getD (a .heads .now) (bucketOf (length (a .heads .now)) (a .x)) 0) (a .n)
-    = s .pre .heads-in (bucketOf (length (a .heads .now)) (a .x)) (omega (arith, b .ensures .0, b .ensures .1)) in
+    let after-bucket = c .before .before in
+    let at-start = after-bucket .before .before .before .before in
+    let args = at-start .args in
+    let bucket = after-bucket .bucket in
+    let l : Last (args .table .now) (length (args .heads .now)) (bucketOf (length (args .heads .now)) (args .x)) (getD (args .heads .now) (bucketOf (length (args .heads .now)) (args .x)) 0) (args .n)
+    = at-start .pre .heads-in (bucketOf (length (args .heads .now)) (args .x)) (omega (arith, bucket .ensures .0, bucket .ensures .1)) in
     passed-start
-    (subst (λ p. Last (a .table .now) (length (a .heads .now)) (bucketOf (length (a .heads .now)) (a .x)) p (a .n))
-    (ap (λ k. getD (a .heads .now) k 0) (sym (b .ensures .0)) ∙ sym (c .number .ensures)) l)
+    (subst (λ p. Last (args .table .now) (length (args .heads .now)) (bucketOf (length (args .heads .now)) (args .x)) p (args .n))
+    (ap (λ k. getD (args .heads .now) k 0) (sym (bucket .ensures .0)) ∙ sym (c .number .ensures)) l)
 
 sub-k : tie.Need-sub-k Inv-loop μ-loop
 sub-k c = search needs
 
 read-value-requires : tie.Need-read-value-requires Inv-loop μ-loop
-read-value-requires c κs = omega (arith, c .before .before .before .before .before .before .before .before .pre .room, c .before .loop .inv .low)
+read-value-requires c κs =
+    let at-loop = c .before in
+    let at-start = start at-loop in
+    omega (arith, at-start .pre .room, at-loop .loop .inv .low)
 
 returns : tie.Need-returns Inv-loop μ-loop
 returns c =
-    let s = c .before .before .before .before .before .before .before .before .before .before in
-    let lp = c .before .before .before .loop in
-    let e : valueAt (s .args .table .now) (lp .p - 1) ≡ s .args .x = sym (c .before .read-value .ensures) ∙ c .if1 .taken in
-    let h : lp .p - 1 < s .args .n = omega (arith, lp .inv .low) in
-    sym (found-row (s .args .table .now) (s .args .n) (s .args .x) (lp .p - 1) h e (λ i l q. s .pre .distinct i (lp .p - 1) l h (q ∙ sym e)))
+    let after-read-value = c .before in
+    let at-loop = after-read-value .before .before in
+    let at-start = start at-loop in
+    let loop = at-loop .loop in
+    let e : valueAt (at-start .args .table .now) (loop .p - 1) ≡ at-start .args .x = sym (after-read-value .read-value .ensures) ∙ c .if1 .taken in
+    let h : loop .p - 1 < at-start .args .n = omega (arith, loop .inv .low) in
+    sym (found-row (at-start .args .table .now) (at-start .args .n) (at-start .args .x) (loop .p - 1) h e (λ i l q. at-start .pre .distinct i (loop .p - 1) l h (q ∙ sym e)))
 
 mul-number-2 : tie.Need-mul-number-2 Inv-loop μ-loop
-mul-number-2 c = omega (arith, c .before .before .before .before .before .before .before .before .before .before .pre .few, c .before .before .before .loop .inv .low)
+mul-number-2 c =
+    let at-loop = c .before .before .before in
+    let at-start = start at-loop in
+    omega (arith, at-start .pre .few, at-loop .loop .inv .low)
 
 shared-slice-read-number-2 : tie.Need-shared-slice-read-number-2 Inv-loop μ-loop
-shared-slice-read-number-2 c = omega (arith, c .before .before .before .before .before .before .before .before .before .before .before .pre .linked, c .before .before .before .before .loop .inv .low)
+shared-slice-read-number-2 c =
+    let at-loop = c .before .before .before .before in
+    let at-start = start at-loop in
+    omega (arith, at-start .pre .linked, at-loop .loop .inv .low)
 
 number-requires-2 : tie.Need-number-requires-2 Inv-loop μ-loop
 number-requires-2 c κs = search needs
 
 loop-less : tie.Need-loop-less Inv-loop μ-loop
 loop-less c =
-    let s = c .before .before .before .before .before .before .before .before .before .before .before .before in
-    let lp = c .before .before .before .before .before .loop in
-    let l = s .pre .links-in (lp .p - 1) (omega (arith, lp .inv .low)) in
+    let at-loop = c .before .before .before .before .before in
+    let at-start = start at-loop in
+    let loop = at-loop .loop in
+    let l = at-start .pre .links-in (loop .p - 1) (omega (arith, loop .inv .low)) in
     omega (arith, l .low, c .number2 .ensures)
 
 loop-again : tie.Need-loop-again Inv-loop μ-loop
 loop-again c =
-    let s = c .before .before .before .before .before .before .before .before .before .before .before .before in
-    let a = s .args in
-    let lp = c .before .before .before .before .before .loop in
-    let l = s .pre .links-in (lp .p - 1) (omega (arith, lp .inv .low)) in
-    passed-next (lp .inv) (let pos : 0 < lp .p = omega arith in pos) (λ e. c .before .before .if1 .left (c .before .before .before .read-value .ensures ∙ e))
-    (subst (λ q. Last (a .table .now) (length (a .heads .now)) (bucketOf (length (a .heads .now)) (valueAt (a .table .now) (lp .p - 1))) q (lp .p - 1)) (sym (c .number2 .ensures)) l)
+    let in-else-1 = c .before .before in
+    let after-read-value = in-else-1 .before in
+    let at-loop = after-read-value .before .before in
+    let at-start = start at-loop in
+    let args = at-start .args in
+    let loop = at-loop .loop in
+    let l = at-start .pre .links-in (loop .p - 1) (omega (arith, loop .inv .low)) in
+    passed-next (loop .inv) (let pos : 0 < loop .p = omega arith in pos) (λ e. in-else-1 .if1 .left (after-read-value .read-value .ensures ∙ e))
+    (subst (λ q. Last (args .table .now) (length (args .heads .now)) (bucketOf (length (args .heads .now)) (valueAt (args .table .now) (loop .p - 1))) q (loop .p - 1)) (sym (c .number2 .ensures)) l)
 
 returns-2 : tie.Need-returns-2 Inv-loop μ-loop
 returns-2 c =
-    let s = c .before .before .before .before .before .before .before .before in
-    sym (missing-row (s .args .table .now) (s .args .n) (s .args .x) (λ i k e. c .before .loop .inv .none i (omega arith) k e))
+    let at-loop = c .before in
+    let at-start = start at-loop in
+    sym (missing-row (at-start .args .table .now) (at-start .args .n) (at-start .args .x) (λ i k e. at-loop .loop .inv .none i (omega arith) k e))
 
 pub find-spec : {M : Type 1} → statement M
 find-spec =

@@ -16,7 +16,10 @@ shared-slice-read-result : tie.Need-shared-slice-read-result
 shared-slice-read-result c = search needs
 
 returns : tie.Need-returns
-returns c = ap (λ k. eqb (getD (c .before .before .before .args .heads .now) k 0) 0) (c .before .bucket .ensures .0)
+returns c =
+    let after-bucket = c .before in
+    let at-start = after-bucket .before .before in
+    ap (λ k. eqb (getD (at-start .args .heads .now) k 0) 0) (after-bucket .bucket .ensures .0)
 
 pub is-empty-spec : {M : Type 1} → statement M
 is-empty-spec = tie.close (tie.spec bucket-requires mul-result shared-slice-read-result returns)

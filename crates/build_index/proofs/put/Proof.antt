@@ -30,21 +30,23 @@ same-length-3 c = search needs
 
 returns : tie.Need-returns
 returns c =
-    let s = c .before .before .before .before .before .before .before .before .before .before .before .before .before .before in
-    let t = s .args .table .now in
-    let n = s .args .n in
-    let r = s .args .row in
-    let e = c .before .before .before .before .before .before .before .before .before .write-row .ensures in
-    let f = c .before .before .before .before .enter .ensures in
-    let room = s .pre .1 .0 .1 in
-    let written = sets t (rowWords * n) (wordsOfRow r) in
-    let still-room : rowWords * n + rowWords ≤ length written = omega (arith, length-written row-layout t n r, room) in
-    rw (e, f .0, f .1)
+    let after-enter = c .before .before .before .before in
+    let after-write-row = after-enter .before .before .before .before .before in
+    let at-start = after-write-row .before .before .before .before .before in
+    let table = at-start .args .table .now in
+    let n = at-start .args .n in
+    let row = at-start .args .row in
+    let write-row-ensures = after-write-row .write-row .ensures in
+    let enter-ensures = after-enter .enter .ensures in
+    let room = at-start .pre .1 .0 .1 in
+    let written = sets table (rowWords * n) (wordsOfRow row) in
+    let still-room : rowWords * n + rowWords ≤ length written = omega (arith, length-written row-layout table n row, room) in
+    rw (write-row-ensures, enter-ensures .0, enter-ensures .1)
     (record {
-      rows-are = items-written row-layout t n r room;
-      rest = rest-kept row-layout t n r room;
-      index = indexed-next t written (s .args .heads .now) (s .args .links .now) n (r .value) (s .pre .0) (ap (λ (x : Row). x .value) (new-item row-layout t n r room))
-          (λ i l. ap (λ (x : Row). x .value) (old-item row-layout t n r room i l)) (s .pre .1 .0 .0) still-room (s .pre .1 .0 .2) (s .pre .1 .1);
+      rows-are = items-written row-layout table n row room;
+      rest = rest-kept row-layout table n row room;
+      index = indexed-next table written (at-start .args .heads .now) (at-start .args .links .now) n (row .value) (at-start .pre .0) (ap (λ (x : Row). x .value) (new-item row-layout table n row room))
+          (λ i l. ap (λ (x : Row). x .value) (old-item row-layout table n row room i l)) (at-start .pre .1 .0 .0) still-room (at-start .pre .1 .0 .2) (at-start .pre .1 .1);
     })
 
 pub put-spec : {M : Type 1} → statement M

@@ -15,7 +15,9 @@ start c = c .before .before .before .before
 
 -- what `find` gave
 at-row : (c : tie.After-i) → rowWith (rowsOf (start (c .before .before) .args .table .now) (start (c .before .before) .args .n)) (start (c .before .before) .args .x) ≡ at-place (c .i .given .0 .0)
-at-row c = sym (c .before .before .find .ensures) ∙ ap foundAt (c .i .given .1)
+at-row c =
+    let after-find = c .before .before in
+    sym (after-find .find .ensures) ∙ ap foundAt (c .i .given .1)
 
 find-requires : tie.Need-find-requires
 find-requires c κs = search needs
@@ -25,9 +27,10 @@ enum-known-i c = search needs
 
 cast-result : tie.Need-cast-result
 cast-result c =
-    let w = c .before in
-    let s = start (w .before .before) in
-    record { fits = omega (arith, row-found (s .args .table .now) (s .args .n) (s .args .x) (w .i .given .0 .0) (at-row w) .0, s .pre .few) }
+    let after-i = c .before in
+    let after-find = after-i .before .before in
+    let s = start (after-find) in
+    record { fits = omega (arith, row-found (s .args .table .now) (s .args .n) (s .args .x) (after-i .i .given .0 .0) (at-row after-i) .0, s .pre .few) }
 
 enum-told : tie.Need-enum-told
 enum-told c = search needs
@@ -36,7 +39,9 @@ returns : tie.Need-returns
 returns c = ap (placeOr 0) (sym (at-row (c .before)))
 
 returns-2 : tie.Need-returns-2
-returns-2 c = ap (placeOr 0) (sym (ap foundAt (c .enum-told .given .1)) ∙ c .before .before .find .ensures)
+returns-2 c =
+    let after-find = c .before .before in
+    ap (placeOr 0) (sym (ap foundAt (c .enum-told .given .1)) ∙ after-find .find .ensures)
 
 pub row-of-spec : {M : Type 1} → statement M
 row-of-spec =

@@ -15,7 +15,9 @@ start c = c .before .before .before .before
 
 -- what `reduce` gave
 reduced : (c : tie.After-reduce) → partsIn (c .reduce .result) ≡ partsOf (start c .args .coefficient)
-reduced c = let s = start c in c .reduce .ensures .split ∙ ap partsOf (toZ-ofZ w32 (s .args .coefficient) (s .fits .coefficient))
+reduced c =
+    let at-start = c .before .before .before .before in
+    c .reduce .ensures .split ∙ ap partsOf (toZ-ofZ w32 (at-start .args .coefficient) (at-start .fits .coefficient))
 
 reduce-requires : tie.Need-reduce-requires
 reduce-requires c κs = search needs
@@ -35,16 +37,21 @@ row-of-requires c κs = search needs
 returns : tie.Need-returns
 unfolding tapRowOf
 returns c =
-    let a = start (c .before .before) .args in
-    ap (tapRowOf (rowsOf (a .table .now) (a .n))) (ap partsIn (sym (c .enum-told .given .1)) ∙ reduced (c .before .before))
+    let after-reduce = c .before .before in
+    let at-start = after-reduce .before .before .before .before in
+    let a = at-start .args in
+    ap (tapRowOf (rowsOf (a .table .now) (a .n))) (ap partsIn (sym (c .enum-told .given .1)) ∙ reduced (after-reduce))
 
 returns-2 : tie.Need-returns-2
 unfolding tapRowOf
 returns-2 c =
-    let w = c .before .before .before in
-    let a = start (w .before .before) .args in
-    ap₂ (λ (x y : ℕ). record { sign = x; row = y; shift = w .reduction .given .0 .0 .shift }) (c .before .sign-code .ensures) (c .row-of .ensures)
-    ∙ ap (tapRowOf (rowsOf (a .table .now) (a .n))) (ap partsIn (sym (w .reduction .given .1)) ∙ reduced (w .before .before))
+    let after-sign-code = c .before in
+    let after-reduction = after-sign-code .before .before in
+    let after-reduce = after-reduction .before .before in
+    let at-start = after-reduce .before .before .before .before in
+    let a = at-start .args in
+    ap₂ (λ (x y : ℕ). record { sign = x; row = y; shift = after-reduction .reduction .given .0 .0 .shift }) (after-sign-code .sign-code .ensures) (c .row-of .ensures)
+    ∙ ap (tapRowOf (rowsOf (a .table .now) (a .n))) (ap partsIn (sym (after-reduction .reduction .given .1)) ∙ reduced (after-reduce))
 
 pub tap-row-spec : {M : Type 1} → statement M
 tap-row-spec =

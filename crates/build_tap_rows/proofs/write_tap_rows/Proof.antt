@@ -27,7 +27,9 @@ abbrev start : tie.At-loop Inv-loop μ-loop → tie.Start Inv-loop μ-loop
 start c = c .before .before .before .before .before
 
 loop-holds : tie.Need-loop-holds Inv-loop μ-loop
-loop-holds c = let a = c .before .before .before .before .args in (search needs, filling-none (λ (z : ℤ). tapRowOf (rowsOf (a .table .now) (a .n)) (partsOf z)) (a .coefficients .now) (a .taps .now))
+loop-holds c =
+    let at-start = c .before .before .before .before in
+    let args = at-start .args in (search needs, filling-none (λ (z : ℤ). tapRowOf (rowsOf (args .table .now) (args .n)) (partsOf z)) (args .coefficients .now) (args .taps .now))
 
 mul-tap-row : tie.Need-mul-tap-row Inv-loop μ-loop
 mul-tap-row c = search needs
@@ -36,10 +38,17 @@ shared-slice-copy-out-tap-row : tie.Need-shared-slice-copy-out-tap-row Inv-loop 
 shared-slice-copy-out-tap-row c = search needs
 
 tap-row-requires : tie.Need-tap-row-requires Inv-loop μ-loop
-tap-row-requires c κs = start (c .before .before) .pre .0
+tap-row-requires c κs =
+    let at-loop = c .before .before in
+    let at-start = start at-loop in
+    at-start .pre .0
 
 write-tap-row-requires : tie.Need-write-tap-row-requires Inv-loop μ-loop
-write-tap-row-requires c κs = let l = c .before .before .before .before in omega (arith, start l .pre .1, l .loop .inv .1 .long, c .before .before .before .loop-test .taken)
+write-tap-row-requires c κs =
+    let in-loop = c .before .before .before in
+    let at-loop = in-loop .before in
+    let at-start = start at-loop in
+    omega (arith, at-start .pre .1, at-loop .loop .inv .1 .long, in-loop .loop-test .taken)
 
 add-j : tie.Need-add-j Inv-loop μ-loop
 add-j c = search needs
@@ -49,17 +58,18 @@ loop-less c = search needs
 
 loop-again : tie.Need-loop-again Inv-loop μ-loop
 loop-again c =
-    let w = c .before .before in
-    let r = w .before .before in
-    let t = r .before .before in
-    let l = t .before in
-    let s = start l in
-    let a = s .args in
-    let z = getD (a .coefficients .now) (l .loop .j) (pos 0) in
-    let e = r .tap-row .ensures ∙ ap (λ (x : ℤ). tapRowOf (rowsOf (a .table .now) (a .n)) (partsOf x)) (toZ-ofZ w32 z (record { sfits = r .before .tap-row-arg .given })) in (
-      omega (arith, t .loop-test .taken),
-      subst (λ (x : List ℕ). Filling (λ (y : ℤ). tapRowOf (rowsOf (a .table .now) (a .n)) (partsOf y)) (a .coefficients .now) (a .taps .now) x (l .loop .j + 1)) (sym (w .write-tap-row .ensures))
-          (filling-next (λ (y : ℤ). tapRowOf (rowsOf (a .table .now) (a .n)) (partsOf y)) (a .coefficients .now) (a .taps .now) (s .pre .1) (l .loop .taps) (l .loop .j) (r .tap-row .result) (t .loop-test .taken) e (l .loop .inv .1)),
+    let after-write-tap-row = c .before .before in
+    let after-tap-row = after-write-tap-row .before .before in
+    let after-tap-row-arg = after-tap-row .before in
+    let in-loop = after-tap-row-arg .before in
+    let at-loop = in-loop .before in
+    let at-start = start at-loop in
+    let args = at-start .args in
+    let z = getD (args .coefficients .now) (at-loop .loop .j) (pos 0) in
+    let e = after-tap-row .tap-row .ensures ∙ ap (λ (x : ℤ). tapRowOf (rowsOf (args .table .now) (args .n)) (partsOf x)) (toZ-ofZ w32 z (record { sfits = after-tap-row-arg .tap-row-arg .given })) in (
+      omega (arith, in-loop .loop-test .taken),
+      subst (λ (x : List ℕ). Filling (λ (y : ℤ). tapRowOf (rowsOf (args .table .now) (args .n)) (partsOf y)) (args .coefficients .now) (args .taps .now) x (at-loop .loop .j + 1)) (sym (after-write-tap-row .write-tap-row .ensures))
+          (filling-next (λ (y : ℤ). tapRowOf (rowsOf (args .table .now) (args .n)) (partsOf y)) (args .coefficients .now) (args .taps .now) (at-start .pre .1) (at-loop .loop .taps) (at-loop .loop .j) (after-tap-row .tap-row .result) (in-loop .loop-test .taken) e (at-loop .loop .inv .1)),
     )
 
 same-length : tie.Need-same-length Inv-loop μ-loop
@@ -67,10 +77,10 @@ same-length c = c .before .loop .inv .1 .long
 
 returns : tie.Need-returns Inv-loop μ-loop
 returns c =
-    let l = c .before in
-    let s = start l in
-    let a = s .args in
-    filling-all (λ (y : ℤ). tapRowOf (rowsOf (a .table .now) (a .n)) (partsOf y)) (a .coefficients .now) (a .taps .now) (s .pre .1) (l .loop .taps) (l .loop .j) (l .loop .inv .0) (c .loop-test .left) (l .loop .inv .1)
+    let at-loop = c .before in
+    let at-start = start at-loop in
+    let args = at-start .args in
+    filling-all (λ (y : ℤ). tapRowOf (rowsOf (args .table .now) (args .n)) (partsOf y)) (args .coefficients .now) (args .taps .now) (at-start .pre .1) (at-loop .loop .taps) (at-loop .loop .j) (at-loop .loop .inv .0) (c .loop-test .left) (at-loop .loop .inv .1)
 
 pub write-tap-rows-spec : {M : Type 1} → statement M
 write-tap-rows-spec =

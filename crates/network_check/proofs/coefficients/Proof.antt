@@ -30,19 +30,24 @@ buffer x = x .examine .last .1 .1 .1 .1 .1 .0
 -- the network has passed
 held : (c : tie.Then1) → let x = c .before .before in Result (answer (x .before .before .before .before)) (buffer x)
 held c =
-    let x = c .before .before in
-    let s = x .before .before .before .before in
-    result (answer s) (buffer x) (ap isGiven (sym (x .examine .ensures .0)) ∙ sym (c .before .passes .ensures) ∙ c .if1 .taken) (x .examine .ensures .1)
+    let after-passes = c .before in
+    let after-examine = after-passes .before in
+    let at-start = after-examine .before .before .before .before in
+    result (answer at-start) (buffer after-examine) (ap isGiven (sym (after-examine .examine .ensures .0)) ∙ sym (after-passes .passes .ensures) ∙ c .if1 .taken) (after-examine .examine .ensures .1)
 
 accepted : (c : tie.Then1) → let a = c .before .before .before .before .before .before .args in Accepted (ltb (length (a .table .now)) (a .tap-count)) (a .rows .now) (a .row-count) (a .taps .now) (a .tap-count) (held c .h)
 accepted c =
-    let a = c .before .before .before .before .before .before .args in
-    given-accepted (ltb (length (a .table .now)) (a .tap-count)) (a .rows .now) (a .row-count) (a .taps .now) (a .tap-count) (held c .h) (held c .given-h)
+    let after-buffer = c .before .before .before in
+    let at-start = after-buffer .before .before .before in
+    let args = at-start .args in
+    given-accepted (ltb (length (args .table .now)) (args .tap-count)) (args .rows .now) (args .row-count) (args .taps .now) (args .tap-count) (held c .h) (held c .given-h)
 
 length-h : (c : tie.Then1) → length (held c .h) ≡ c .before .before .before .before .before .before .args .tap-count
 length-h c =
-    let a = c .before .before .before .before .before .before .args in
-    ap length (accepted c .passed .result) ∙ length-coefficients (a .rows .now) (a .row-count) (a .taps .now) (a .tap-count)
+    let after-buffer = c .before .before .before in
+    let at-start = after-buffer .before .before .before in
+    let args = at-start .args in
+    ap length (accepted c .passed .result) ∙ length-coefficients (args .rows .now) (args .row-count) (args .taps .now) (args .tap-count)
 
 length-buffer : (c : tie.Then1) → length (buffer (c .before .before)) ≡ 256
 length-buffer c = ap length (held c .held) ∙ length-padded (held c .h) (le-trans (le-of-eq (length-h c)) (accepted c .taps-to))
@@ -58,37 +63,40 @@ slice-aggregate-copy c = sym (length-buffer (c .before))
 
 copy-requires : tie.Need-copy-requires
 copy-requires c κs =
-    let t = c .before .before in
-    let a = t .before .before .before .before .before .before .args in
-    let l = ltb-false (length (a .table .now)) (a .tap-count) (accepted t .others-long) in
-    (omega (arith, accepted t .taps-to, length-buffer t), omega (arith, l))
+    let in-then-1 = c .before .before in
+    let after-buffer = in-then-1 .before .before .before in
+    let at-start = after-buffer .before .before .before in
+    let args = at-start .args in
+    let l = ltb-false (length (args .table .now)) (args .tap-count) (accepted in-then-1 .others-long) in
+    (omega (arith, accepted in-then-1 .taps-to, length-buffer in-then-1), omega (arith, l))
 
 same-length : tie.Need-same-length
 same-length c = search needs
 
 returns : tie.Need-returns
 returns c =
-    let k = c .before in
-    let t = k .before .before .before in
-    let x = t .before .before in
-    let s = x .before .before .before .before in
-    let a = s .args in
-    let cs = Coefficients.coefficients (networkOf (a .rows .now) (a .row-count) (a .taps .now) (a .tap-count)) in
+    let after-copy = c .before in
+    let in-then-1 = after-copy .before .before .before in
+    let after-examine = in-then-1 .before .before in
+    let at-start = after-examine .before .before .before .before in
+    let args = at-start .args in
+    let cs = Coefficients.coefficients (networkOf (args .rows .now) (args .row-count) (args .taps .now) (args .tap-count)) in
     record {
-      answer = x .examine .ensures .0;
+      answer = after-examine .examine .ensures .0;
       written =
-          k .copy .ensures
-          ∙ copied (answer s) (held t .h) cs (buffer x) (a .table .now) (a .tap-count) (held t .given-h) (held t .held) (accepted t .passed .result) (length-coefficients (a .rows .now) (a .row-count) (a .taps .now) (a .tap-count));
+          after-copy .copy .ensures
+          ∙ copied (answer at-start) (held in-then-1 .h) cs (buffer after-examine) (args .table .now) (args .tap-count) (held in-then-1 .given-h) (held in-then-1 .held) (accepted in-then-1 .passed .result) (length-coefficients (args .rows .now) (args .row-count) (args .taps .now) (args .tap-count));
     }
 
 returns-2 : tie.Need-returns-2
 returns-2 c =
-    let x = c .before .before in
-    let s = x .before .before .before .before in
-    let a = s .args in
+    let after-passes = c .before in
+    let after-examine = after-passes .before in
+    let at-start = after-examine .before .before .before .before in
+    let args = at-start .args in
     record {
-      answer = x .examine .ensures .0;
-      written = unchanged (answer s) (Coefficients.coefficients (networkOf (a .rows .now) (a .row-count) (a .taps .now) (a .tap-count))) (a .table .now) (ap isGiven (sym (x .examine .ensures .0)) ∙ sym (c .before .passes .ensures) ∙ c .if1 .left);
+      answer = after-examine .examine .ensures .0;
+      written = unchanged (answer at-start) (Coefficients.coefficients (networkOf (args .rows .now) (args .row-count) (args .taps .now) (args .tap-count))) (args .table .now) (ap isGiven (sym (after-examine .examine .ensures .0)) ∙ sym (after-passes .passes .ensures) ∙ c .if1 .left);
     }
 
 pub coefficients-spec : {M : Type 1} → statement M

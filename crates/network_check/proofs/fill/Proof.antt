@@ -43,13 +43,14 @@ enum-told c = search needs
 
 returns : tie.Need-returns Inv-loop μ-loop
 returns c =
-    let p = c .before .before in
-    let t = p .before in
-    let l = t .before in
-    let a = l .before .before .before .args in
-    let rows = rowsOf (a .rows .now) (a .n) in
-    let b = product-broken rows (tapRowAt (a .taps .now) (l .loop .j)) (sym (p .tap-product .ensures) ∙ c .enum-told .given .1) in
-    (scan-stop (tapRowAt (a .taps .now)) noTap (breaksTapRowRule rows) (a .m) (l .loop .j) (l .loop .inv .1) (t .loop-test .taken) (ap not b), (λ q. absurd (omega arith)))
+    let after-tap-product = c .before .before in
+    let in-loop = after-tap-product .before in
+    let at-loop = in-loop .before in
+    let at-start = at-loop .before .before .before in
+    let args = at-start .args in
+    let rows = rowsOf (args .rows .now) (args .n) in
+    let b = product-broken rows (tapRowAt (args .taps .now) (at-loop .loop .j)) (sym (after-tap-product .tap-product .ensures) ∙ c .enum-told .given .1) in
+    (scan-stop (tapRowAt (args .taps .now)) noTap (breaksTapRowRule rows) (args .m) (at-loop .loop .j) (at-loop .loop .inv .1) (in-loop .loop-test .taken) (ap not b), (λ q. absurd (omega arith)))
 
 mul-c : tie.Need-mul-c Inv-loop μ-loop
 mul-c c = search needs
@@ -65,36 +66,38 @@ loop-less c = search needs
 
 loop-again : tie.Need-loop-again Inv-loop μ-loop
 loop-again c =
-    let v = c .before in
-    let p = v .before .before in
-    let t = p .before in
-    let l = t .before in
-    let a = l .before .before .before .args in
-    let rows = rowsOf (a .rows .now) (a .n) in
-    let j = l .loop .j in
+    let after-c = c .before in
+    let after-tap-product = after-c .before .before in
+    let in-loop = after-tap-product .before in
+    let at-loop = in-loop .before in
+    let at-start = at-loop .before .before .before in
+    let args = at-start .args in
+    let rows = rowsOf (args .rows .now) (args .n) in
+    let j = at-loop .loop .j in
     let f = coefficientOf rows in
-    let row = tapRowAt (a .taps .now) j in
-    let y = v .c .given .0 .0 in
-    let k = product-kept rows row _ (sym (p .tap-product .ensures) ∙ v .c .given .1) in
+    let row = tapRowAt (args .taps .now) j in
+    let y = after-c .c .given .0 .0 in
+    let k = product-kept rows row _ (sym (after-tap-product .tap-product .ensures) ∙ after-c .c .given .1) in
     let e : toZ w32 (ofZ w32 y) ≡ f row = toZ-ofZ w32 y (record { sfits = omega arith }) ∙ k .1 in
-    let g : f row ≡ f (getD (tapRowsOf (a .taps .now) (a .m)) j noTap) = ap f (sym (getD-upTo (a .m) (tapRowAt (a .taps .now)) noTap j (t .loop-test .taken))) in (
+    let g : f row ≡ f (getD (tapRowsOf (args .taps .now) (args .m)) j noTap) = ap f (sym (getD-upTo (args .m) (tapRowAt (args .taps .now)) noTap j (in-loop .loop-test .taken))) in (
       search needs,
-      scan-next (tapRowAt (a .taps .now)) noTap (breaksTapRowRule rows) (a .m) j (l .loop .inv .1) (t .loop-test .taken) (ap not (k .0)),
-      ap (λ (b : List ℤ). set b j (toZ w32 (ofZ w32 y))) (l .loop .inv .2)
-          ∙ ap (λ (z : ℤ). set (front f (tapRowsOf (a .taps .now) (a .m)) (a .buffer .now) j) j z) (e ∙ g)
-          ∙ front-next f noTap (tapRowsOf (a .taps .now) (a .m)) (a .buffer .now) j (omega (arith, length-upTo (a .m) (tapRowAt (a .taps .now)))) (omega arith),
+      scan-next (tapRowAt (args .taps .now)) noTap (breaksTapRowRule rows) (args .m) j (at-loop .loop .inv .1) (in-loop .loop-test .taken) (ap not (k .0)),
+      ap (λ (b : List ℤ). set b j (toZ w32 (ofZ w32 y))) (at-loop .loop .inv .2)
+          ∙ ap (λ (z : ℤ). set (front f (tapRowsOf (args .taps .now) (args .m)) (args .buffer .now) j) j z) (e ∙ g)
+          ∙ front-next f noTap (tapRowsOf (args .taps .now) (args .m)) (args .buffer .now) j (omega (arith, length-upTo (args .m) (tapRowAt (args .taps .now)))) (omega arith),
     )
 
 returns-2 : tie.Need-returns-2 Inv-loop μ-loop
 returns-2 c =
-    let l = c .before in
-    let a = l .before .before .before .args in
-    let rows = rowsOf (a .rows .now) (a .n) in
-    let s = length-upTo (a .m) (tapRowAt (a .taps .now)) in (
-      scan-end (tapRowAt (a .taps .now)) noTap (breaksTapRowRule rows) (a .m) (l .loop .j) (l .loop .inv .1) (c .loop-test .left),
+    let at-loop = c .before in
+    let at-start = at-loop .before .before .before in
+    let args = at-start .args in
+    let rows = rowsOf (args .rows .now) (args .n) in
+    let s = length-upTo (args .m) (tapRowAt (args .taps .now)) in (
+      scan-end (tapRowAt (args .taps .now)) noTap (breaksTapRowRule rows) (args .m) (at-loop .loop .j) (at-loop .loop .inv .1) (c .loop-test .left),
       λ q.
-          l .loop .inv .2 ∙ front-end (coefficientOf rows) (tapRowsOf (a .taps .now) (a .m)) (a .buffer .now) (l .loop .j) (omega (arith, s)) (omega (arith, s))
-          ∙ ap (λ (k : ℕ). map (coefficientOf rows) (tapRowsOf (a .taps .now) (a .m)) ++ drop k (a .buffer .now)) s,
+          at-loop .loop .inv .2 ∙ front-end (coefficientOf rows) (tapRowsOf (args .taps .now) (args .m)) (args .buffer .now) (at-loop .loop .j) (omega (arith, s)) (omega (arith, s))
+          ∙ ap (λ (k : ℕ). map (coefficientOf rows) (tapRowsOf (args .taps .now) (args .m)) ++ drop k (args .buffer .now)) s,
     )
 
 pub fill-spec : {M : Type 1} → statement M

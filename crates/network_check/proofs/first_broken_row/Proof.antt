@@ -29,11 +29,13 @@ keeps-row-rule-requires c κs = search needs
 
 returns : tie.Need-returns Inv-loop μ-loop
 returns c =
-    let t = c .before .before in
-    let l = t .before in
-    let a = l .before .before .args in
-    scan-stop same 0 (breaksRowRule (rowsOf (a .rows .now) (a .n))) (a .n) (l .loop .i) (l .loop .inv .1) (t .loop-test .taken)
-    (ap not (sym (c .before .keeps-row-rule .ensures (a .n) (t .loop-test .taken))) ∙ c .if1 .taken)
+    let after-keeps-row-rule = c .before in
+    let in-loop = after-keeps-row-rule .before in
+    let at-loop = in-loop .before in
+    let at-start = at-loop .before .before in
+    let args = at-start .args in
+    scan-stop same 0 (breaksRowRule (rowsOf (args .rows .now) (args .n))) (args .n) (at-loop .loop .i) (at-loop .loop .inv .1) (in-loop .loop-test .taken)
+    (ap not (sym (after-keeps-row-rule .keeps-row-rule .ensures (args .n) (in-loop .loop-test .taken))) ∙ c .if1 .taken)
 
 add-i : tie.Need-add-i Inv-loop μ-loop
 add-i c = search needs
@@ -43,19 +45,22 @@ loop-less c = search needs
 
 loop-again : tie.Need-loop-again Inv-loop μ-loop
 loop-again c =
-    let t = c .before .before in
-    let l = t .before in
-    let a = l .before .before .args in (
+    let after-keeps-row-rule = c .before in
+    let in-loop = after-keeps-row-rule .before in
+    let at-loop = in-loop .before in
+    let at-start = at-loop .before .before in
+    let args = at-start .args in (
       search needs,
-      scan-next same 0 (breaksRowRule (rowsOf (a .rows .now) (a .n))) (a .n) (l .loop .i) (l .loop .inv .1) (t .loop-test .taken)
-          (ap not (sym (c .before .keeps-row-rule .ensures (a .n) (t .loop-test .taken))) ∙ c .if1 .left),
+      scan-next same 0 (breaksRowRule (rowsOf (args .rows .now) (args .n))) (args .n) (at-loop .loop .i) (at-loop .loop .inv .1) (in-loop .loop-test .taken)
+          (ap not (sym (after-keeps-row-rule .keeps-row-rule .ensures (args .n) (in-loop .loop-test .taken))) ∙ c .if1 .left),
     )
 
 returns-2 : tie.Need-returns-2 Inv-loop μ-loop
 returns-2 c =
-    let l = c .before in
-    let a = l .before .before .args in
-    scan-end same 0 (breaksRowRule (rowsOf (a .rows .now) (a .n))) (a .n) (l .loop .i) (l .loop .inv .1) (c .loop-test .left)
+    let at-loop = c .before in
+    let at-start = at-loop .before .before in
+    let args = at-start .args in
+    scan-end same 0 (breaksRowRule (rowsOf (args .rows .now) (args .n))) (args .n) (at-loop .loop .i) (at-loop .loop .inv .1) (c .loop-test .left)
 
 pub first-broken-row-spec : {M : Type 1} → statement M
 first-broken-row-spec =

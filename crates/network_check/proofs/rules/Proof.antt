@@ -22,20 +22,23 @@ same k = k
 -- no row breaks the row rule
 kept-rows : (c : tie.Else3) → let a = c .before .before .before .before .before .before .args in lowest (breaksRowRule (rowsOf (a .rows .now) (a .n))) (numbers (a .n)) ≡ nowhere
 kept-rows c =
-    let r = c .before in
-    let a = r .before .before .before .before .before .args in
-    scan-none same 0 (breaksRowRule (rowsOf (a .rows .now) (a .n))) (a .n) (r .first-broken-row .result) (r .first-broken-row .ensures) (c .if3 .left)
+    let after-first-broken-row = c .before in
+    let at-start = after-first-broken-row .before .before .before .before .before in
+    let args = at-start .args in
+    scan-none same 0 (breaksRowRule (rowsOf (args .rows .now) (args .n))) (args .n) (after-first-broken-row .first-broken-row .result) (after-first-broken-row .first-broken-row .ensures) (c .if3 .left)
 
 returns : tie.Need-returns
 returns c =
-    let a = c .before .before .before .args in
-    turned (checked (networkOf (a .rows .now) (a .n) (a .taps .now) (a .m))) 10 0 _ (no-rows (a .rows .now) (a .n) (a .taps .now) (a .m) (c .if1 .taken))
+    let at-start = c .before .before .before in
+    let args = at-start .args in
+    turned (checked (networkOf (args .rows .now) (args .n) (args .taps .now) (args .m))) 10 0 _ (no-rows (args .rows .now) (args .n) (args .taps .now) (args .m) (c .if1 .taken))
 
 returns-2 : tie.Need-returns-2
 returns-2 c =
-    let i = c .before in
-    let a = i .before .before .before .args in
-    turned (checked (networkOf (a .rows .now) (a .n) (a .taps .now) (a .m))) 10 0 _ (many-rows (a .rows .now) (a .n) (a .taps .now) (a .m) (i .if1 .left) (c .if2 .taken))
+    let in-else-1 = c .before in
+    let at-start = in-else-1 .before .before .before in
+    let args = at-start .args in
+    turned (checked (networkOf (args .rows .now) (args .n) (args .taps .now) (args .m))) 10 0 _ (many-rows (args .rows .now) (args .n) (args .taps .now) (args .m) (in-else-1 .if1 .left) (c .if2 .taken))
 
 first-broken-row-requires : tie.Need-first-broken-row-requires
 first-broken-row-requires c κs = search needs
@@ -45,13 +48,15 @@ cast-t11 c = search needs
 
 returns-3 : tie.Need-returns-3
 returns-3 c =
-    let r = c .before in
-    let i = r .before .before in
-    let a = i .before .before .before .args in
-    let rows = a .rows .now in
-    let k = r .first-broken-row .result in
-    turned (checked (networkOf rows (a .n) (a .taps .now) (a .m))) 10 k _
-    (broken-row rows (a .n) (a .taps .now) (a .m) (i .if1 .left) (r .before .if2 .left) k (scan-found same 0 (breaksRowRule (rowsOf rows (a .n))) (a .n) k (r .first-broken-row .ensures) (c .if3 .taken)))
+    let after-first-broken-row = c .before in
+    let in-else-2 = after-first-broken-row .before in
+    let in-else-1 = in-else-2 .before in
+    let at-start = in-else-1 .before .before .before in
+    let args = at-start .args in
+    let rows = args .rows .now in
+    let first-broken-row-result = after-first-broken-row .first-broken-row .result in
+    turned (checked (networkOf rows (args .n) (args .taps .now) (args .m))) 10 first-broken-row-result _
+    (broken-row rows (args .n) (args .taps .now) (args .m) (in-else-1 .if1 .left) (in-else-2 .if2 .left) first-broken-row-result (scan-found same 0 (breaksRowRule (rowsOf rows (args .n))) (args .n) first-broken-row-result (after-first-broken-row .first-broken-row .ensures) (c .if3 .taken)))
 
 fill-requires : tie.Need-fill-requires
 fill-requires c κs = search needs
@@ -61,30 +66,33 @@ cast-t14 c = search needs
 
 returns-4 : tie.Need-returns-4
 returns-4 c =
-    let f = c .before in
-    let i3 = f .before .before in
-    let i2 = i3 .before .before in
-    let a = i2 .before .before .before .before .args in
-    let j = f .fill .result in
-    turned (checked (networkOf (a .rows .now) (a .n) (a .taps .now) (a .m))) 11 j _
-    (broken-tap (a .rows .now) (a .n) (a .taps .now) (a .m) (i2 .before .if1 .left) (i2 .if2 .left) (kept-rows i3) j
-    (scan-found (tapRowAt (a .taps .now)) noTap (breaksTapRowRule (rowsOf (a .rows .now) (a .n))) (a .m) j (f .fill .ensures .0) (c .if4 .taken)))
+    let after-fill = c .before in
+    let in-else-3 = after-fill .before .before in
+    let in-else-2 = in-else-3 .before .before in
+    let in-else-1 = in-else-2 .before in
+    let at-start = in-else-1 .before .before .before in
+    let args = at-start .args in
+    let fill-result = after-fill .fill .result in
+    turned (checked (networkOf (args .rows .now) (args .n) (args .taps .now) (args .m))) 11 fill-result _
+    (broken-tap (args .rows .now) (args .n) (args .taps .now) (args .m) (in-else-1 .if1 .left) (in-else-2 .if2 .left) (kept-rows in-else-3) fill-result
+    (scan-found (tapRowAt (args .taps .now)) noTap (breaksTapRowRule (rowsOf (args .rows .now) (args .n))) (args .m) fill-result (after-fill .fill .ensures .0) (c .if4 .taken)))
 
 returns-5 : tie.Need-returns-5
 returns-5 c =
-    let f = c .before in
-    let i3 = f .before .before in
-    let i2 = i3 .before .before in
-    let s = i2 .before .before .before .before in
-    let a = s .args in
-    let taps = a .taps .now in
-    let j = f .fill .result in
-    let q = scan-none (tapRowAt taps) noTap (breaksTapRowRule (rowsOf (a .rows .now) (a .n))) (a .m) j (f .fill .ensures .0) (c .if4 .left) in
-    let e = kept (a .rows .now) (a .n) taps (a .m) (i2 .before .if1 .left) (i2 .if2 .left) (kept-rows i3) q in
-    let p = f .fill .ensures .1 (f .fill .ensures .0 ∙ ap (placeOr (a .m)) q) in (
+    let after-fill = c .before in
+    let in-else-3 = after-fill .before .before in
+    let in-else-2 = in-else-3 .before .before in
+    let in-else-1 = in-else-2 .before in
+    let at-start = in-else-1 .before .before .before in
+    let args = at-start .args in
+    let taps = args .taps .now in
+    let fill-result = after-fill .fill .result in
+    let q = scan-none (tapRowAt taps) noTap (breaksTapRowRule (rowsOf (args .rows .now) (args .n))) (args .m) fill-result (after-fill .fill .ensures .0) (c .if4 .left) in
+    let e = kept (args .rows .now) (args .n) taps (args .m) (in-else-1 .if1 .left) (in-else-2 .if2 .left) (kept-rows in-else-3) q in
+    let p = after-fill .fill .ensures .1 (after-fill .fill .ensures .0 ∙ ap (placeOr (args .m)) q) in (
       ap outcome e,
-      subst (λ (r : Answer (List ℤ)). Holds r (f .fill .last .1 .1 .1 .1 .0)) e
-          (p ∙ padded-is (coefficients (networkOf (a .rows .now) (a .n) taps (a .m))) (a .buffer .now) (a .m) (length-coefficients (a .rows .now) (a .n) taps (a .m)) (s .pre .3)),
+      subst (λ (r : Answer (List ℤ)). Holds r (after-fill .fill .last .1 .1 .1 .1 .0)) e
+          (p ∙ padded-is (coefficients (networkOf (args .rows .now) (args .n) taps (args .m))) (args .buffer .now) (args .m) (length-coefficients (args .rows .now) (args .n) taps (args .m)) (at-start .pre .3)),
     )
 
 pub rules-spec : {M : Type 1} → statement M
