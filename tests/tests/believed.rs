@@ -107,7 +107,13 @@ fn a_contract_that_is_not_the_relation() {
     );
     let old = "    ensures { λ r. ⌜ Ran";
     let new = "    requires { ⌜ Unit {0} ⌝ }\n    ensures { λ r. ⌜ Ran";
-    refused("requires", file, old, new, "run_network::run has a requires");
+    refused(
+        "requires",
+        file,
+        old,
+        new,
+        "run_network::run has a requires",
+    );
     let file = "crates/fir_networks/specs/Run.antt";
     refused(
         "word",
