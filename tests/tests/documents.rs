@@ -75,3 +75,32 @@ fn paths_and_functions() {
     println!("{paths} paths, {functions} functions");
     assert!(paths > 300 && functions > 100, "{paths}, {functions}");
 }
+
+/// In the guide for contributors, names in backquotes that follow a file stand in it.
+#[test]
+fn names_that_follow_a_file() {
+    let page = read_to_string(root().join("docs/CONTRIBUTING.md")).unwrap();
+    let is_name = |word: &str| {
+        let plain = |b: u8| b.is_ascii_alphanumeric() || b == b'-';
+        word.len() > 1 && word.bytes().all(plain)
+    };
+    let mut checked = 0;
+    for line in page.lines() {
+        let mut file = None;
+        for word in line.split('`').skip(1).step_by(2) {
+            if is_path(word) {
+                let crates = root().join("crates").join(word);
+                let path = if crates.exists() {
+                    crates
+                } else {
+                    root().join(word)
+                };
+                file = read_to_string(path).ok();
+            } else if let Some(text) = file.as_ref().filter(|_| is_name(word)) {
+                checked += 1;
+                assert!(text.contains(word), "no {word} where it should be: {line}");
+            }
+        }
+    }
+    assert!(checked > 12, "{checked}");
+}
