@@ -4,7 +4,7 @@ mod tools_check;
 
 use fir_tests::sheet::program::root;
 use std::env::temp_dir;
-use std::fs::{read_to_string, remove_dir_all};
+use std::fs::{read_to_string, remove_dir_all, write};
 use std::os::unix::fs::symlink;
 use std::process::Command;
 use tools_check::{replace, Tool};
@@ -30,12 +30,12 @@ fn nothing_wrong() {
     }
 }
 
-/// What is reached through another is not named: network and sequence rest on nothing twice.
+/// What is reached through another is not named: top rests on low through mid, and w on y through z.
 #[test]
 fn the_picture() {
     let folder = FAMILIES.scratch();
     let crates = "## low: a\nx: io\ny: x\n\n## mid: b\nz: x y\nw: z y\n## other: c\nv: y\n## top: d\nu: w v x\n";
-    std::fs::write(folder.join("crates.txt"), crates).unwrap();
+    write(folder.join("crates.txt"), crates).unwrap();
     let (status, picture) = FAMILIES.run(&folder, &["--crates"]);
     assert_eq!(status, Some(0), "{picture}");
     let wanted = "\
@@ -69,8 +69,7 @@ fn crates_out_of_order() {
         &[upper, lower].concat(),
         "tap stands below tap_normalise, which rests on it",
     );
-    let (lower, upper) = ("## base: ", "# base: ");
-    FAMILIES.refuses(file, lower, upper, "word stands in no family");
+    FAMILIES.refuses(file, "## base: ", "# base: ", "word stands in no family");
     FAMILIES.refuses(file, "## bench: ", "## base: ", "base is a family twice");
     FAMILIES.refuses(file, "## bench: ", "## bench ", "a heading is");
 }
