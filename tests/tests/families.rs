@@ -62,13 +62,8 @@ top       u
 #[test]
 fn crates_out_of_order() {
     let file = "crates.txt";
-    let (lower, upper) = ("tap: word refusal\n", "tap_normalise: refusal tap\n");
-    FAMILIES.refuses(
-        file,
-        &[lower, upper].concat(),
-        &[upper, lower].concat(),
-        "tap stands below tap_normalise, which rests on it",
-    );
+    let says = "sheet stands below refusal, which rests on it";
+    FAMILIES.refuses(file, "\nrefusal:\n", "\nrefusal: sheet\n", says);
     FAMILIES.refuses(file, "## base: ", "# base: ", "word stands in no family");
     FAMILIES.refuses(file, "## bench: ", "## base: ", "base is a family twice");
     FAMILIES.refuses(file, "## bench: ", "## bench ", "a heading is");
@@ -77,11 +72,10 @@ fn crates_out_of_order() {
 #[test]
 fn a_stale_picture() {
     let file = "crates.txt";
-    let (old, new) = ("tap: word refusal\n", "tap: word refusal coefficient\n");
     let says = "README.md has another picture";
-    FAMILIES.refuses(file, old, new, says);
+    FAMILIES.refuses(file, "\nsheet: ", "\nsheet: run_network ", says);
     let says = "docs/CONTRIBUTING.md has another picture";
-    FAMILIES.refuses(file, "sequence:\n", "sequence: word\n", says);
+    FAMILIES.refuses(file, "\nrefusal:\n", "\nrefusal: word\n", says);
     FAMILIES.refuses("docs/CONTRIBUTING.md", "| sheet ", "| Sheet ", says);
     let says = "README.md has no place for the picture";
     FAMILIES.refuses("README.md", "<!-- end -->\n", "", says);
@@ -107,8 +101,7 @@ fn another_table_of_crates() {
     ] {
         FAMILIES.refuses("README.md", old, new, says);
     }
-    let (old, new) = ("tap_normalise: refusal tap\n", "");
-    FAMILIES.refuses("crates.txt", old, new, "another picture");
+    FAMILIES.refuses("crates.txt", "\nbench_second:\n", "\n", "another picture");
 }
 
 /// From another folder, and through a symlink.
