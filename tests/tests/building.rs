@@ -1,9 +1,9 @@
 //! The core's building, and the fast version's, against the literal one; what is built is checked
 //! and run.
 
-mod builds;
+mod building_check;
 
-use builds::{check, Tally};
+use building_check::{check, Tally};
 use fir_tests::answer::Answer;
 use fir_tests::building::call::Call;
 use fir_tests::building::search::{by_value, over_all_rows};

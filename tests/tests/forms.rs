@@ -1,12 +1,12 @@
 //! The core's minimal forms, and the fast version's, against the literal ones.
 
-mod listing;
+mod forms_check;
 
 use fir_tests::forms::call::Call;
 use fir_tests::forms::literal::{self, Digits};
 use fir_tests::forms::{mixture, pattern, Form, MOST_FORMS};
 use fir_tests::random::Random;
-use listing::{check, check_form, check_listing, check_refused, Tally};
+use forms_check::{check, check_form, check_listing, check_refused, Tally};
 use std::collections::HashSet;
 
 const RANDOM_COEFFICIENTS: usize = 100_000;

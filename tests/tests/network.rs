@@ -1,14 +1,14 @@
 //! The core's checks of networks and their coefficients, and the fast version's, against the literal
 //! ones.
 
-mod rules;
+mod network_check;
 
 use fir_tests::answer::{Answer, ACCEPTED};
 use fir_tests::network::hard::{edges, sheet};
 use fir_tests::network::{damage, literal, mixture, Network};
 use fir_tests::network::{MINUS, PLUS, REVERSED, ROW_WORDS, TAP_WORDS};
 use fir_tests::random::Random;
-use rules::{check, show, Tally};
+use network_check::{check, show, Tally};
 use std::collections::HashSet;
 
 const RANDOM_NETWORKS: usize = 8_000;

@@ -1,14 +1,14 @@
 //! The core's running, and that of the plain loop and the fast version, against the literal sums.
 
-mod calls;
+mod running_check;
 
-use calls::{Registers, Tally};
 use fir_tests::answer::Answer;
 use fir_tests::network::hard::sheet;
 use fir_tests::network::{mixture as networks, Network, MINUS, PLUS};
 use fir_tests::random::Random;
 use fir_tests::running::call::Call;
 use fir_tests::running::{mixture, REGISTERS};
+use running_check::{Registers, Tally};
 
 const CLEARED: [u64; REGISTERS] = [0; REGISTERS];
 const STREAMS: usize = 1_500;

@@ -1,6 +1,6 @@
 //! The sheet program, as a process, against the literal sheet, byte for byte.
 
-mod sheets;
+mod sheet_check;
 
 use fir_tests::answer::Answer;
 use fir_tests::random::Random;
@@ -8,7 +8,7 @@ use fir_tests::sheet::input::{packed, Input};
 use fir_tests::sheet::mixture::{self, BAD_ARGUMENTS, MANY_ZEROS};
 use fir_tests::sheet::program::{self, Delivery};
 use fir_tests::sheet::{literal, text};
-use sheets::{check, check_delivered, Tally};
+use sheet_check::{check, check_delivered, Tally};
 use std::fs::File;
 use std::process::{Command, Stdio};
 

@@ -1,12 +1,12 @@
 //! Random small changes of inputs and arguments, for a bounded time: FUZZ_SECONDS, else 30. The
 //! program must not crash, must end, and must print the literal sheet.
 
-mod sheets;
+mod sheet_check;
 
 use fir_tests::random::Random;
 use fir_tests::sheet::input::Input;
 use fir_tests::sheet::mutation::{changed, starts};
-use sheets::{check, Tally};
+use sheet_check::{check, Tally};
 use std::env;
 use std::time::{Duration, Instant};
 

@@ -1,13 +1,13 @@
 //! The core's rounding of taps, and the fast version's, against the literal one, bit for bit.
 
-mod check;
+mod taps_check;
 
-use check::{check_set, check_tap, show, Tally};
 use fir_tests::answer::{Answer, TapAnswer, ACCEPTED};
 use fir_tests::random::Random;
-use fir_tests::set::Set;
-use fir_tests::{hard, hard_sets, literal, mixture};
+use fir_tests::taps::set::Set;
+use fir_tests::taps::{hard, hard_sets, literal, mixture};
 use std::collections::HashSet;
+use taps_check::{check_set, check_tap, show, Tally};
 
 const RANDOM_TAPS: usize = 4_000_000;
 const RANDOM_SETS: usize = 1_000_000;

@@ -30,7 +30,7 @@ fn example() -> Vec<u8> {
 
 #[test]
 fn help() {
-    for name in ["taps", "draw", "believed"] {
+    for name in ["taps", "draw", "believed", "families"] {
         let text = String::from_utf8(written(name, &["--help"], b"")).unwrap();
         assert!(text.starts_with(&format!("usage: tools/{name}")));
         let ended = tool(name, &["--no-such-option"], b"");

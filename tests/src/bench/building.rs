@@ -64,7 +64,7 @@ fn low_pass_at(fraction_bits: u32) -> Vec<i32> {
     let taps = low_pass();
     let mut coefficients = vec![0; taps.len()];
     let (mut divisor, mut leftover) = (0.0, 0.0);
-    let answer = fir_tests::fast::round_taps(
+    let answer = fir_tests::taps::fast::round_taps(
         &taps,
         fraction_bits,
         0,

@@ -3,8 +3,8 @@
 use super::{best, print, print_head};
 use fir_tests::answer::{TapAnswer, ACCEPTED};
 use fir_tests::random::Random;
-use fir_tests::set::Entry;
-use fir_tests::{core, fast};
+use fir_tests::taps::set::Entry;
+use fir_tests::taps::{core, fast};
 use std::f64::consts::PI;
 use std::hint::black_box;
 

@@ -6,7 +6,7 @@ use crate::answer::Answer;
 use crate::building::call::Call;
 use crate::building::literal::{built, listings};
 use crate::building::search::{by_value, over_all_rows};
-use crate::literal::{tap, Tap};
+use crate::taps::literal::{tap, Tap};
 
 const FRACTION_BITS: u32 = 15;
 /// Up to so many taps every right row is tried; with more they are looked up by value.

@@ -1,8 +1,8 @@
 //! Random inputs and arguments of many kinds, so that every refusal and its order come up.
 
 use super::input::{packed, Input};
-use crate::mixture::near_bits;
 use crate::random::Random;
+use crate::taps::mixture::near_bits;
 
 /// Arguments that are refused.
 pub const BAD_ARGUMENTS: [&str; 30] = [

@@ -108,7 +108,7 @@ fn check_network(call: &Call, outcome: &Outcome) {
     let run = Run::new(&network, &SAMPLES);
     let outputs = stream.outputs(coefficients, &SAMPLES);
     let wanted = run.wanted(ACCEPTED, &outputs);
-    assert_eq!(run.run(run_calls::core::run, &mut memory), wanted, "{call:?}");
+    assert_eq!(run.run(running::core::run, &mut memory), wanted, "{call:?}");
     let registers = stream.registers(coefficients);
     assert_eq!(memory.registers(), registers, "{call:?}");
 }

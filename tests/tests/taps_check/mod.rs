@@ -1,9 +1,9 @@
 //! One input through the core and the fast version, each compared with the literal one.
 
 use fir_tests::answer::ACCEPTED;
-use fir_tests::literal::{self, Tap};
-use fir_tests::set::{Outcome, Set, DIVISOR_BEFORE, GUARD, LEFTOVER_BEFORE};
-use fir_tests::{core, fast};
+use fir_tests::taps::literal::{self, Tap};
+use fir_tests::taps::set::{Outcome, Set, DIVISOR_BEFORE, GUARD, LEFTOVER_BEFORE};
+use fir_tests::taps::{core, fast};
 use std::collections::HashSet;
 
 /// What came up, counted by the literal version.

@@ -1,7 +1,7 @@
 //! Sets that are easy to get wrong.
 
-use crate::hard::FRACTION_BITS_PAST;
-use crate::set::Set;
+use super::hard::FRACTION_BITS_PAST;
+use super::set::Set;
 
 const HUGE: f64 = f64::MAX;
 const TINY: f64 = f64::MIN_POSITIVE;

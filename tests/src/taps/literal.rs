@@ -1,8 +1,8 @@
 //! The rules for taps as the paper states them, in whole numbers throughout; only the sum and the
 //! quotients are left to the machine's binary64 addition and division. Slow on purpose.
 
+use super::binary64::{is_finite, put_together, take_apart, Parts, SIGN};
 use crate::answer::{Answer, TapAnswer, ACCEPTED};
-use crate::binary64::{is_finite, put_together, take_apart, Parts, SIGN};
 
 /// One tap, rounded. The leftover is given by its bits.
 #[derive(Clone, Copy, Debug, PartialEq, Eq)]

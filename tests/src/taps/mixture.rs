@@ -1,8 +1,8 @@
 //! Random taps and random sets, of many kinds, so that every refusal and its order come up.
 
-use crate::hard::FRACTION_BITS_PAST;
+use super::hard::FRACTION_BITS_PAST;
+use super::set::Set;
 use crate::random::Random;
-use crate::set::Set;
 
 /// Fraction bits from 0 to 33.
 pub fn fraction_bits(random: &mut Random) -> u32 {
