@@ -8,7 +8,7 @@ use Rattle.refusal.specs.Answer.{Answer, given, turnedDown}
 use Rattle.tap_set.specs.declared.Report.{Report}
 use Rattle.tap_set.specs.Set.{answerOf, TapsRounded}
 use Rattle.tap_set.proofs.Claims.{set-claims}
-use Rattle.fir_words.specs.Words.{isSet}
+use Rattle.fir_taps.specs.Rounding.{isSet}
 use Rattle.fir_taps.proofs.fir_round_taps.Statement.{statement}
 use Rattle.fir_taps.proofs.fir_round_taps.Tie as tie
 

@@ -8,7 +8,7 @@ use mir.Syntax.{w32}
 use mir.Val.{boolByte}
 use mir.ValLaws.{toZ-ofZ}
 use Rattle.coefficient.specs.Parts.{parts, partsIn, signIf, ReducedTo}
-use Rattle.fir_words.specs.Words.{negativeIn, oddPartIn, shiftIn}
+use Rattle.fir_forms.specs.Reduction.{negativeIn, oddPartIn, shiftIn}
 use Rattle.fir_forms.proofs.reduction.fir_reduce.Statement.{statement}
 use Rattle.fir_forms.proofs.reduction.fir_reduce.Tie as tie
 
