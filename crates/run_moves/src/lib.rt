@@ -1,6 +1,5 @@
 // The registers in passes of four samples, raised, as words. Place j holds output j for j below 4,
-// and then register j - 4. All functions here are internal: they serve the crates `run_passes`
-// and `run_kernel`.
+// and then register j - 4.
 ghost use mathlib.Core.Path.{_≡_};
 ghost use mathlib.Core.List.{List};
 ghost use Prim.Native.Nat.{ℕ, _≤_, _<_, _+_};
@@ -49,14 +48,14 @@ pub fn raise(v: &[u64; 265], w: usize, registers: &[u64], words: &mut [u64; 260]
 }
 
 // The first w registers from words that were raised.
-pub fn lower(v: &[u64; 265], w: usize, gain: u64, words: &[u64; 260], registers: &mut [u64])
+pub fn lower(v: &[u64; 265], w: usize, bias: u64, words: &[u64; 260], registers: &mut [u64])
     requires { ⌜ (w ≤ 256) × (256 ≤ length (now registers)) ⌝ }
-    ensures { λ _. ⌜ ((r : List ℕ) → Words r → Raised w (now (v .entry)) gain r (now (words .entry))
+    ensures { λ _. ⌜ ((r : List ℕ) → Words r → Raised w (now (v .entry)) bias r (now (words .entry))
         → now (registers .exit) ≡ front (held r) (now (registers .entry)) w) ⌝ }
 {
     let mut k: usize = 0;
     while k < w {
-        registers[k] = lowered(words[k], v[k + 5], gain);
+        registers[k] = lowered(words[k], v[k + 5], bias);
         k += 1;
     }
 }

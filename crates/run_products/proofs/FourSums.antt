@@ -1,10 +1,10 @@
--- Four products in offset binary at once: what the offsets add is a level and a gain. Assumes nothing.
+-- Four products in offset binary at once: a sum with an offset and a bias becomes the sum with the products, its offset and its bias. Assumes nothing.
 use mathlib.Core.Path.{_≡_, sym, ap, _∙_}
 use Prim.Native.Nat.{ℕ, _+_, _*_, _%_, _<_}
 use native.Mathlib.Omega.{arith}
 use lib.IntN.{ℤ, pos, subℕ, _+ℤ_, _*ℤ_}
 use Rattle.run_convolution.proofs.Words.{wrapped-lt}
-use Rattle.run_products.specs.Inner.{coefficientIn, sampleIn, plus, fourSums, fourProducts, levelBelow, gainAfter, raisedBy}
+use Rattle.run_products.specs.Inner.{coefficientIn, sampleIn, plus, fourSums, fourProducts, offsetBelow, biasAfter, raisedBy}
 use Rattle.run_products.proofs.Products.{cost, sum-first, sum-next}
 
 cost-exact : (a y : ℕ) → a < 4294967296 → y < 65536 → cost a y + (32768 * a + 2147483648 * y) ≡ 18446814442453729280
@@ -26,10 +26,10 @@ mod-three a b c = omega arith
 mod-left : (a b : ℕ) → (a % 18446744073709551616 + b) % 18446744073709551616 ≡ (a + b) % 18446744073709551616
 mod-left a b = omega arith
 
--- the level four places below
-levels-four : (v m0 m1 m2 m3 : ℕ)
+-- the offset four places below
+offsets-four : (v m0 m1 m2 m3 : ℕ)
     → ((((v + m0) % 18446744073709551616 + m1) % 18446744073709551616 + m2) % 18446744073709551616 + m3) % 18446744073709551616 ≡ (v + (m0 + m1 + m2 + m3)) % 18446744073709551616
-levels-four v m0 m1 m2 m3 =
+offsets-four v m0 m1 m2 m3 =
     ap (λ n. (n + m3) % 18446744073709551616) (ap (λ n. (n + m2) % 18446744073709551616) (mod-left (v + m0) m1) ∙ mod-left (v + m0 + m1) m2) ∙ mod-left (v + m0 + m1 + m2) m3
     ∙ ap (λ n. n % 18446744073709551616) (together v m0 m1 m2 m3)
   where
@@ -111,13 +111,13 @@ four-is n c0 c1 c2 c3 y0 y1 y2 y3 p0 p1 p2 p3 e0 e1 e2 e3 = rw (e0, e1, e2, e3)
 -- what `four` makes of a raised sum is the sum with four products, raised further
 pub four-raised : (n v g c0 c1 c2 c3 y0 y1 y2 y3 : ℕ) → y0 < 65536 → y1 < 65536 → y2 < 65536 → y3 < 65536
     → fourProducts (raisedBy v g n) c0 c1 c2 c3 y0 y1 y2 y3
-    ≡ raisedBy (levelBelow (levelBelow (levelBelow (levelBelow v c0) c1) c2) c3) (gainAfter g y0 y1 y2 y3)
+    ≡ raisedBy (offsetBelow (offsetBelow (offsetBelow (offsetBelow v c0) c1) c2) c3) (biasAfter g y0 y1 y2 y3)
     (fourSums n (coefficientIn c0) (coefficientIn c1) (coefficientIn c2) (coefficientIn c3) (sampleIn y0) (sampleIn y1) (sampleIn y2) (sampleIn y3))
 unfolding fourProducts fourSums
 four-raised n v g c0 c1 c2 c3 y0 y1 y2 y3 g0 g1 g2 g3 =
     total n (c0 % 4294967296) (c1 % 4294967296) (c2 % 4294967296) (c3 % 4294967296) y0 y1 y2 y3 (mod-lt32 c0) (mod-lt32 c1) (mod-lt32 c2) (mod-lt32 c3) g0 g1 g2 g3 g v
-    ∙ ap (λ l. (fours + (l + gainAfter g y0 y1 y2 y3)) % 18446744073709551616)
-    (sym (levels-four v (18446673704965373952 + 32768 * (c0 % 4294967296)) (18446673704965373952 + 32768 * (c1 % 4294967296)) (18446673704965373952 + 32768 * (c2 % 4294967296)) (18446673704965373952 + 32768 * (c3 % 4294967296))))
+    ∙ ap (λ l. (fours + (l + biasAfter g y0 y1 y2 y3)) % 18446744073709551616)
+    (sym (offsets-four v (18446673704965373952 + 32768 * (c0 % 4294967296)) (18446673704965373952 + 32768 * (c1 % 4294967296)) (18446673704965373952 + 32768 * (c2 % 4294967296)) (18446673704965373952 + 32768 * (c3 % 4294967296))))
   where
     fours : ℕ
     fours = plus (plus (plus (plus n (coefficientIn c0) (sampleIn y0)) (coefficientIn c1) (sampleIn y1)) (coefficientIn c2) (sampleIn y2)) (coefficientIn c3) (sampleIn y3)

@@ -24,14 +24,14 @@ unfoldable pub fourProducts : (n c0 c1 c2 c3 y0 y1 y2 y3 : ℕ) → ℕ
 fourProducts n c0 c1 c2 c3 y0 y1 y2 y3 =
     (n + ((c0 % 4294967296) * y0 + (c1 % 4294967296) * y1 + (c2 % 4294967296) * y2 + (c3 % 4294967296) * y3)) % 18446744073709551616
 
--- 2^15 times the coefficient stored in c above the level v: what the offset of a sample adds to its product
-abbrev pub levelBelow : ℕ → ℕ → ℕ
-levelBelow v c = (v + (18446673704965373952 + 32768 * (c % 4294967296))) % 18446744073709551616
+-- the offset v and 2^15 times the coefficient stored in c, which is what the 2^15 in a sample adds to its product
+abbrev pub offsetBelow : ℕ → ℕ → ℕ
+offsetBelow v c = (v + (18446673704965373952 + 32768 * (c % 4294967296))) % 18446744073709551616
 
--- 2^31 times four stored samples above the gain g: what the offsets of coefficients add to their products
-abbrev pub gainAfter : ℕ → ℕ → ℕ → ℕ → ℕ → ℕ
-gainAfter g y0 y1 y2 y3 = (g + 2147483648 * (y0 + y1 + y2 + y3)) % 18446744073709551616
+-- the bias g and 2^31 times four stored samples, which is what the 2^31 in the coefficients adds to their products
+abbrev pub biasAfter : ℕ → ℕ → ℕ → ℕ → ℕ → ℕ
+biasAfter g y0 y1 y2 y3 = (g + 2147483648 * (y0 + y1 + y2 + y3)) % 18446744073709551616
 
--- a sum with a level and a gain added, modulo 2^64
+-- a sum with an offset and a bias added, modulo 2^64
 abbrev pub raisedBy : ℕ → ℕ → ℕ → ℕ
-raisedBy level gain n = (n + (level + gain)) % 18446744073709551616
+raisedBy offset bias n = (n + (offset + bias)) % 18446744073709551616

@@ -1,15 +1,15 @@
 // Registers and products as 64-bit words: one product with its sign, and four at a time in offset
 // binary, where a number is stored with half its range added, so that a product of two is one
-// multiplication without a sign. What the offsets add is not taken off product by product: a sum
-// stays raised by a level and a gain for as long as samples pass. All functions here are internal:
-// they serve the crates `run_..` and `run_kernel`.
+// multiplication without a sign. What the added halves bring in is not taken off product by product:
+// for as long as samples pass, a sum stays raised by an offset, which the 2^15 in every sample leaves,
+// and by a bias, which the 2^31 in every coefficient leaves.
 ghost use mathlib.Core.Path.{_≡_};
 ghost use Prim.Native.Nat.{_≤_, _+_, _*_, _%_};
 ghost use lib.IntN.{pos, _+ℤ_, _*ℤ_};
 ghost use mir.Syntax.{w64};
 ghost use mir.Val.{ofZ, toZ};
 ghost use Rattle.run_convolution.specs.Words.{wrapped};
-ghost use Rattle.run_products.specs.Inner.{coefficientIn, sampleIn, fourProducts, levelBelow, gainAfter, raisedBy};
+ghost use Rattle.run_products.specs.Inner.{coefficientIn, sampleIn, fourProducts, offsetBelow, biasAfter, raisedBy};
 
 // The 64-bit pattern of n in two's complement.
 fn pattern(n: i64) -> u64
@@ -96,12 +96,12 @@ pub fn four(
     std::num::wrapping_add_u64(register, p0 + p1 + p2 + p3)
 }
 
-// The level of a place, from that of the place after it and the coefficient between them.
-pub fn level_below(level: u64, c: u64) -> u64
-    ensures { λ r. ⌜ r ≡ levelBelow level c ⌝ }
+// The offset of a place, from that of the place after it and the coefficient between them.
+pub fn offset_below(offset: u64, c: u64) -> u64
+    ensures { λ r. ⌜ r ≡ offsetBelow offset c ⌝ }
 {
     let by = std::num::wrapping_add_u64(18446673704965373952, 32768 * (c % 4294967296));
-    std::num::wrapping_add_u64(level, by)
+    std::num::wrapping_add_u64(offset, by)
 }
 
 fn word(y: u16) -> u64
@@ -110,25 +110,25 @@ fn word(y: u16) -> u64
     y as u64
 }
 
-// The gain four samples on.
-pub fn gain_after(gain: u64, y0: u16, y1: u16, y2: u16, y3: u16) -> u64
-    ensures { λ r. ⌜ r ≡ gainAfter gain y0 y1 y2 y3 ⌝ }
+// The bias four samples on.
+pub fn bias_after(bias: u64, y0: u16, y1: u16, y2: u16, y3: u16) -> u64
+    ensures { λ r. ⌜ r ≡ biasAfter bias y0 y1 y2 y3 ⌝ }
 {
     std::num::wrapping_add_u64(
-        gain,
+        bias,
         2147483648 * (word(y0) + word(y1) + word(y2) + word(y3)),
     )
 }
 
-pub fn raised(n: u64, level: u64, gain: u64) -> u64
-    ensures { λ r. ⌜ r ≡ raisedBy level gain n ⌝ }
+pub fn raised(n: u64, offset: u64, bias: u64) -> u64
+    ensures { λ r. ⌜ r ≡ raisedBy offset bias n ⌝ }
 {
-    std::num::wrapping_add_u64(n, std::num::wrapping_add_u64(level, gain))
+    std::num::wrapping_add_u64(n, std::num::wrapping_add_u64(offset, bias))
 }
 
 // The word that was raised.
-pub fn lowered(n: u64, level: u64, gain: u64) -> u64
-    ensures { λ r. ⌜ raisedBy level gain r ≡ n ⌝ }
+pub fn lowered(n: u64, offset: u64, bias: u64) -> u64
+    ensures { λ r. ⌜ raisedBy offset bias r ≡ n ⌝ }
 {
-    std::num::wrapping_sub_u64(n, std::num::wrapping_add_u64(level, gain))
+    std::num::wrapping_sub_u64(n, std::num::wrapping_add_u64(offset, bias))
 }

@@ -13,7 +13,7 @@ use lib.Seq.{getD-set-same, getD-set-other, ext-getD}
 use Rattle.sequence.specs.UpTo.{upTo}
 use Rattle.sequence.proofs.UpTo.{length-upTo, getD-upTo}
 use Rattle.run_products.specs.Inner.{coefficientIn}
-use Rattle.run_tables.specs.Inner.{coefficientsIn, Padded, Blank}
+use Rattle.run_tables.specs.Inner.{coefficientsIn, Padded, StoredZeroFrom}
 
 -- c holds the first k coefficients, and 0 at every other place
 pub record Filled (h : List ℤ) (c : List ℕ) (k : ℕ) : Type 0 where
@@ -60,8 +60,8 @@ module _ (h : List ℤ) (c : List ℕ) (w : ℕ) (b : w ≤ 256) (n : length h �
   pub filled-padded : Padded c
   filled-padded = record { low = λ k l. ap coefficientIn (f .low k l); high = λ k a m. ap coefficientIn (f .rest k (omega arith) m) }
 
-  pub filled-blank : Blank w c
-  filled-blank j l m = let e : j - 4 + 4 ≡ j = omega arith in subst (λ i. getD c i 0 ≡ 2147483648) e (f .rest (j - 4) (omega arith) (omega arith))
+  pub filled-zero-from : StoredZeroFrom w c
+  filled-zero-from j l m = let e : j - 4 + 4 ≡ j = omega arith in subst (λ i. getD c i 0 ≡ 2147483648) e (f .rest (j - 4) (omega arith) (omega arith))
 
   at-by : (k : ℕ) → k < 256 → (t : Bool) → ltb k w ≡ t → coefficientIn (getD c (k + 4) 0) ≡ getD h k (pos 0)
   at-by k l true e = f .done k (ltb-true k w e)

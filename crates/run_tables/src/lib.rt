@@ -1,22 +1,21 @@
 // The tables of a running call: its coefficients in offset binary, with four zeros before and after
-// them, and the levels. All functions here are internal: they serve the crates `run_passes` and
-// `run_kernel`.
+// them, and the offsets that samples in offset binary leave in the registers.
 ghost use mathlib.Core.Path.{_≡_};
 ghost use Prim.Native.Nat.{ℕ, _≤_};
 ghost use lib.IntN.{pos};
 ghost use lib.ListN.{length, getD, replicate};
-ghost use Rattle.run_tables.specs.Inner.{coefficientsIn, Padded, Blank, Levelled};
+ghost use Rattle.run_tables.specs.Inner.{coefficientsIn, Padded, StoredZeroFrom, OffsetsOf};
 
 mod width;
 
-use run_products::level_below;
+use run_products::offset_below;
 use run_products::offset_coefficient;
 pub use width::used;
 
 // Fills a table that holds zeros in offset binary; from w on, coefficients are 0.
-pub fn offset_all(h: &[i32; 256], w: usize, c: &mut [u64; 264])
+pub fn fill_coefficients(h: &[i32; 256], w: usize, c: &mut [u64; 264])
     requires { ⌜ ((length (now h) ≡ 256) × (w ≤ 256)) × ((now c ≡ replicate 264 2147483648) × ((k : ℕ) → w ≤ k → getD (now h) k (pos 0) ≡ pos 0)) ⌝ }
-    ensures { λ _. ⌜ (Padded (now (c .exit))) × ((coefficientsIn (now (c .exit)) ≡ now (h .entry)) × (Blank w (now (c .exit)))) ⌝ }
+    ensures { λ _. ⌜ (Padded (now (c .exit))) × ((coefficientsIn (now (c .exit)) ≡ now (h .entry)) × (StoredZeroFrom w (now (c .exit)))) ⌝ }
 {
     let mut k: usize = 0;
     while k < w {
@@ -25,14 +24,14 @@ pub fn offset_all(h: &[i32; 256], w: usize, c: &mut [u64; 264])
     }
 }
 
-// Fills a table of zeros with the levels, from the last place in use to the first.
-pub fn levels(c: &[u64; 264], w: usize, v: &mut [u64; 265])
-    requires { ⌜ (w ≤ 256) × ((now v ≡ replicate 265 0) × (Blank w (now c))) ⌝ }
-    ensures { λ _. ⌜ Levelled (now (c .entry)) (now (v .exit)) ⌝ }
+// Fills a table of zeros with the offsets, from the last place in use to the first.
+pub fn fill_offsets(c: &[u64; 264], w: usize, v: &mut [u64; 265])
+    requires { ⌜ (w ≤ 256) × ((now v ≡ replicate 265 0) × (StoredZeroFrom w (now c))) ⌝ }
+    ensures { λ _. ⌜ OffsetsOf (now (c .entry)) (now (v .exit)) ⌝ }
 {
     let mut j = w + 4;
     while j > 0 {
         j -= 1;
-        v[j] = level_below(v[j + 1], c[j]);
+        v[j] = offset_below(v[j + 1], c[j]);
     }
 }

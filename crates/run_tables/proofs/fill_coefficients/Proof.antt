@@ -1,4 +1,4 @@
--- `run_tables::offset_all` meets its contract. Assumes nothing.
+-- `run_tables::fill_coefficients` meets its contract. Assumes nothing.
 use Prim.Native.Nat.{_≤_, _-_}
 use mathlib.Core.Path.{_≡_, subst, _∙_}
 use native.Mathlib.Omega.{arith}
@@ -7,9 +7,9 @@ use borrow.Author.Needs.{needs}
 use lib.IntN.{pos}
 use mir.Syntax.{w32}
 use mir.ValLaws.{toZ-ofZ}
-use Rattle.run_tables.proofs.Filling.{Filled, filled-start, filled-next, filled-padded, filled-blank, filled-all}
-use Rattle.run_tables.proofs.offset_all.Statement.{statement}
-use Rattle.run_tables.proofs.offset_all.Tie as tie
+use Rattle.run_tables.proofs.Filling.{Filled, filled-start, filled-next, filled-padded, filled-zero-from, filled-all}
+use Rattle.run_tables.proofs.fill_coefficients.Statement.{statement}
+use Rattle.run_tables.proofs.fill_coefficients.Tie as tie
 
 abbrev Inv-loop : tie.InvT-loop
 Inv-loop h w c₀ k₀ c k = (k ≤ w) × (Filled h c k)
@@ -61,11 +61,11 @@ returns c =
     let e : at .loop .k ≡ w = omega (arith, at .loop .inv .0, c .loop-test .left) in
     let f : Filled h (at .loop .c) w = subst (Filled h (at .loop .c)) e (at .loop .inv .1) in (
       filled-padded h _ w (st .pre .0 .1) (st .pre .0 .0) (st .pre .1 .1) f,
-      (filled-all h _ w (st .pre .0 .1) (st .pre .0 .0) (st .pre .1 .1) f, filled-blank h _ w (st .pre .0 .1) (st .pre .0 .0) (st .pre .1 .1) f),
+      (filled-all h _ w (st .pre .0 .1) (st .pre .0 .0) (st .pre .1 .1) f, filled-zero-from h _ w (st .pre .0 .1) (st .pre .0 .0) (st .pre .1 .1) f),
     )
 
-pub offset-all-spec : {M : Type 1} → statement M
-offset-all-spec =
+pub fill-coefficients-spec : {M : Type 1} → statement M
+fill-coefficients-spec =
     tie.close
     (tie.spec
     Inv-loop

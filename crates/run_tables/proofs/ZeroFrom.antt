@@ -13,33 +13,33 @@ use Rattle.run_convolution.specs.Running.{next}
 use Rattle.run_convolution.specs.Sums.{held}
 use Rattle.run_convolution.proofs.Words.{wrapped-none}
 use Rattle.run_convolution.proofs.Steps.{held-low, held-high, held-next}
-use Rattle.run_tables.specs.Inner.{Quiet, after4}
+use Rattle.run_tables.specs.Inner.{ZeroFrom, after4}
 
 module _ (h : List ℤ) (few : length h ≤ 256) (w : ℕ) where
-  pub quiet-next : (x : ℤ) (r : List ℕ) → Quiet w h r → Quiet w h (next h x r)
-  quiet-next x r q k l = (
+  pub zero-from-next : (x : ℤ) (r : List ℕ) → ZeroFrom w h r → ZeroFrom w h (next h x r)
+  zero-from-next x r q k l = (
     held-next h few x r k ∙ ap₂ (λ n a. wrapped (pos n +ℤ a *ℤ x)) (q (suc k) (omega arith) .0) (q (suc k) (omega arith) .1) ∙ wrapped-none 0 x (omega arith),
     q k l .1,
   )
 
-  pub quiet-four : (x0 x1 x2 x3 : ℤ) (r : List ℕ) → Quiet w h r → Quiet w h (after4 h x0 x1 x2 x3 r)
-  quiet-four x0 x1 x2 x3 r q = quiet-next x3 _ (quiet-next x2 _ (quiet-next x1 _ (quiet-next x0 r q)))
+  pub zero-from-four : (x0 x1 x2 x3 : ℤ) (r : List ℕ) → ZeroFrom w h r → ZeroFrom w h (after4 h x0 x1 x2 x3 r)
+  zero-from-four x0 x1 x2 x3 r q = zero-from-next x3 _ (zero-from-next x2 _ (zero-from-next x1 _ (zero-from-next x0 r q)))
 
   -- what is out of use before and after is the same
-  pub quiet-same : (r s : List ℕ) → Quiet w h r → Quiet w h s → (k : ℕ) → w ≤ k → k < 256 → held s k ≡ getD r k 0
-  quiet-same r s q p k l m = p k l .0 ∙ sym (q k l .0) ∙ held-low r k m
+  pub zero-from-same : (r s : List ℕ) → ZeroFrom w h r → ZeroFrom w h s → (k : ℕ) → w ≤ k → k < 256 → held s k ≡ getD r k 0
+  zero-from-same r s q p k l m = p k l .0 ∙ sym (q k l .0) ∙ held-low r k m
 
 -- nothing is in use past 256
-pub quiet-end : (h : List ℤ) (r : List ℕ) → length h ≡ 256 → Quiet 256 h r
-quiet-end h r e k l = (held-high r k l, List·getD-eq-default h (pos 0) {n = k} (omega arith))
+pub zero-from-end : (h : List ℤ) (r : List ℕ) → length h ≡ 256 → ZeroFrom 256 h r
+zero-from-end h r e k l = (held-high r k l, List·getD-eq-default h (pos 0) {n = k} (omega arith))
 
-quiet-by : (h : List ℤ) (r : List ℕ) (w : ℕ) → w < 256 → getD r w 0 ≡ 0 → getD h w (pos 0) ≡ pos 0 → Quiet (suc w) h r
+zero-from-by : (h : List ℤ) (r : List ℕ) (w : ℕ) → w < 256 → getD r w 0 ≡ 0 → getD h w (pos 0) ≡ pos 0 → ZeroFrom (suc w) h r
     → (k : ℕ) → w ≤ k → (t : Bool) → ltb w k ≡ t → (held r k ≡ 0) × (getD h k (pos 0) ≡ pos 0)
-quiet-by h r w b e f q k l true p = q k (omega (arith, ltb-true w k p))
-quiet-by h r w b e f q k l false p =
+zero-from-by h r w b e f q k l true p = q k (omega (arith, ltb-true w k p))
+zero-from-by h r w b e f q k l false p =
     let s : w ≡ k = omega (arith, ltb-false w k p) in
     (ap (held r) (sym s) ∙ held-low r w b ∙ e, ap (λ i. getD h i (pos 0)) (sym s) ∙ f)
 
 -- one register less in use
-pub quiet-less : (h : List ℤ) (r : List ℕ) (w : ℕ) → w < 256 → getD r w 0 ≡ 0 → getD h w (pos 0) ≡ pos 0 → Quiet (suc w) h r → Quiet w h r
-quiet-less h r w b e f q k l = quiet-by h r w b e f q k l (ltb w k) refl
+pub zero-from-less : (h : List ℤ) (r : List ℕ) (w : ℕ) → w < 256 → getD r w 0 ≡ 0 → getD h w (pos 0) ≡ pos 0 → ZeroFrom (suc w) h r → ZeroFrom w h r
+zero-from-less h r w b e f q k l = zero-from-by h r w b e f q k l (ltb w k) refl

@@ -1,11 +1,11 @@
--- `run_tables::levels` meets its contract. Assumes nothing.
+-- `run_tables::fill_offsets` meets its contract. Assumes nothing.
 use Prim.Native.Nat.{_≤_, _-_, _+_}
 use mathlib.Core.Path.{_≡_, subst}
 use native.Mathlib.Omega.{arith}
 use borrow.Author.Needs.{needs}
 use Rattle.run_tables.proofs.Backward.{From, from-end, from-next, from-all}
-use Rattle.run_tables.proofs.levels.Statement.{statement}
-use Rattle.run_tables.proofs.levels.Tie as tie
+use Rattle.run_tables.proofs.fill_offsets.Statement.{statement}
+use Rattle.run_tables.proofs.fill_offsets.Tie as tie
 
 abbrev Inv-loop : tie.InvT-loop
 Inv-loop c w v₀ j₀ v j = (j ≤ 260) × (From c v j)
@@ -22,23 +22,23 @@ loop-holds c = (search needs, from-end _ _ _ (c .pre .1 .0) (c .pre .1 .1))
 sub-j : tie.Need-sub-j Inv-loop μ-loop
 sub-j c = search needs
 
-add-level-below : tie.Need-add-level-below Inv-loop μ-loop
-add-level-below c = search needs
+add-offset-below : tie.Need-add-offset-below Inv-loop μ-loop
+add-offset-below c = search needs
 
-mul-level-below : tie.Need-mul-level-below Inv-loop μ-loop
-mul-level-below c = search needs
+mul-offset-below : tie.Need-mul-offset-below Inv-loop μ-loop
+mul-offset-below c = search needs
 
-element-copy-out-level-below : tie.Need-element-copy-out-level-below Inv-loop μ-loop
-element-copy-out-level-below c = omega (arith, c .before .loop .inv .1 .size)
+element-copy-out-offset-below : tie.Need-element-copy-out-offset-below Inv-loop μ-loop
+element-copy-out-offset-below c = omega (arith, c .before .loop .inv .1 .size)
 
-mul-level-below-2 : tie.Need-mul-level-below-2 Inv-loop μ-loop
-mul-level-below-2 c = search needs
+mul-offset-below-2 : tie.Need-mul-offset-below-2 Inv-loop μ-loop
+mul-offset-below-2 c = search needs
 
-element-copy-out-level-below-2 : tie.Need-element-copy-out-level-below-2 Inv-loop μ-loop
-element-copy-out-level-below-2 c = search needs
+element-copy-out-offset-below-2 : tie.Need-element-copy-out-offset-below-2 Inv-loop μ-loop
+element-copy-out-offset-below-2 c = search needs
 
-level-below-requires : tie.Need-level-below-requires Inv-loop μ-loop
-level-below-requires c κs = search needs
+offset-below-requires : tie.Need-offset-below-requires Inv-loop μ-loop
+offset-below-requires c κs = search needs
 
 mul-v : tie.Need-mul-v Inv-loop μ-loop
 mul-v c = search needs
@@ -56,7 +56,7 @@ loop-again c =
     let table = at .before .args .c .now in
     let v = at .loop .v in
     let e : j ≡ j - 1 + 1 = omega arith in
-    (search needs, from-next table v (j - 1) (c .level-below .result) (omega arith) (subst (From table v) e (at .loop .inv .1)) (c .level-below .ensures))
+    (search needs, from-next table v (j - 1) (c .offset-below .result) (omega arith) (subst (From table v) e (at .loop .inv .1)) (c .offset-below .ensures))
 
 returns : tie.Need-returns Inv-loop μ-loop
 returns c =
@@ -64,8 +64,8 @@ returns c =
     let e : at .loop .j ≡ 0 = omega arith in
     from-all _ _ (subst (From (at .before .args .c .now) (at .loop .v)) e (at .loop .inv .1))
 
-pub levels-spec : {M : Type 1} → statement M
-levels-spec =
+pub fill-offsets-spec : {M : Type 1} → statement M
+fill-offsets-spec =
     tie.close
     (tie.spec
     Inv-loop
@@ -73,12 +73,12 @@ levels-spec =
     add-j
     loop-holds
     sub-j
-    add-level-below
-    mul-level-below
-    element-copy-out-level-below
-    mul-level-below-2
-    element-copy-out-level-below-2
-    level-below-requires
+    add-offset-below
+    mul-offset-below
+    element-copy-out-offset-below
+    mul-offset-below-2
+    element-copy-out-offset-below-2
+    offset-below-requires
     mul-v
     element-write-v
     loop-less
