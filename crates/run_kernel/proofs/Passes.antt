@@ -1,7 +1,7 @@
 -- Registers and outputs while samples pass, one by one and four by four. Assumes nothing.
 use mathlib.Core.Path.{_≡_, refl, sym, ap, subst, _∙_}
 use mathlib.Core.List.{List, [], _∷_, _++_}
-use Prim.Native.Nat.{ℕ, suc, _+_, _<_, _≤_}
+use Prim.Native.Nat.{ℕ, suc, _+_, _<_, _≤_, _^_}
 use native.Mathlib.Nat.{zero-add}
 use native.Mathlib.Omega.{arith}
 use lib.IntN.{ℤ, pos, _+ℤ_, _*ℤ_}
@@ -63,7 +63,7 @@ length-four h x0 x1 x2 x3 r l =
     let e2 : length (next h x2 (next h x1 (next h x0 r))) ≡ length r = length-next h x2 (next h x1 (next h x0 r)) (omega arith) ∙ e1 in
     length-next h x3 (next h x2 (next h x1 (next h x0 r))) (omega arith) ∙ e2
 
-next-word : (h : List ℤ) → length h ≤ 256 → (x : ℤ) (r : List ℕ) (k : ℕ) → held (next h x r) k < 18446744073709551616
+next-word : (h : List ℤ) → length h ≤ 256 → (x : ℤ) (r : List ℕ) (k : ℕ) → held (next h x r) k < 2 ^ 64
 next-word h few x r k = rw (held-next h few x r k) (wrapped-lt (pos (held r (suc k)) +ℤ getD h (suc k) (pos 0) *ℤ x))
 
 module _ (h : List ℤ) (few : length h ≤ 256) (w : ℕ) (v r : List ℕ) (xs outs : List ℤ) where

@@ -46,7 +46,7 @@ fn by_fours(h: &[i32; 256], w: usize, samples: &[i16], registers: &mut [u64], ou
         (outputsOf (now (h .entry)) (now (registers .exit)) (drop (fourfold (length (now (samples .entry)))) (now (samples .entry))))
         ≡ sets (now (outputs .entry)) 0 (outputsOf (now (h .entry)) (now (registers .entry)) (now (samples .entry))) ⌝ }
 {
-    let mut c = [2147483648u64; 264];
+    let mut c = [0x8000_0000u64; 264];
     run_tables::fill_coefficients(h, w, &mut c);
     let mut v = [0u64; 265];
     run_tables::fill_offsets(&c, w, &mut v);

@@ -1,7 +1,7 @@
 -- A pass of four samples over raised registers raises the registers after it. Assumes nothing.
 use mathlib.Core.Path.{_≡_, refl, sym, ap, _∙_}
 use mathlib.Core.List.{List}
-use Prim.Native.Nat.{ℕ, _+_, _<_, _≤_}
+use Prim.Native.Nat.{ℕ, _+_, _<_, _≤_, _^_}
 use native.Mathlib.Omega.{arith}
 use lib.ListN.{getD}
 use Rattle.sequence.specs.Inner.{front}
@@ -24,7 +24,7 @@ module _ (c v : List ℕ) (q : OffsetsOf c v) where
       ∙ ap (λ n. offsetBelow (offsetBelow n (getD c (j + 2) 0)) (getD c (j + 1) 0)) (below (j + 3) (j + 4) (omega arith) (omega arith))
       ∙ ap (λ n. offsetBelow n (getD c (j + 1) 0)) (below (j + 2) (j + 3) (omega arith) (omega arith)) ∙ below (j + 1) (j + 2) (omega arith) (omega arith)
 
-  module _ (y0 y1 y2 y3 : ℕ) (g0 : y0 < 65536) (g1 : y1 < 65536) (g2 : y2 < 65536) (g3 : y3 < 65536) (bias : ℕ) where
+  module _ (y0 y1 y2 y3 : ℕ) (g0 : y0 < 2 ^ 16) (g1 : y1 < 2 ^ 16) (g2 : y2 < 2 ^ 16) (g3 : y3 < 2 ^ 16) (bias : ℕ) where
     -- what a raised place comes to
     pub place-raised : (j n : ℕ) → j < 260
         → placed c y0 y1 y2 y3 j (raisedBy (getD v (j + 5) 0) bias n)

@@ -3,7 +3,7 @@ use mathlib.Core.Path.{_≡_, refl, sym, ap, _∙_, subst}
 use mathlib.Core.Logic.{_≢_}
 use mathlib.Core.Bool.{Bool, true, false}
 use mathlib.Core.List.{List}
-use Prim.Native.Nat.{ℕ, _+_, _-_, _<_, _≤_}
+use Prim.Native.Nat.{ℕ, _+_, _-_, _<_, _≤_, _^_}
 use native.Mathlib.Omega.{arith}
 use borrow.Author.Tests.{ltb-true, ltb-false}
 use lib.Dec.{ltb}
@@ -19,16 +19,16 @@ use Rattle.run_tables.specs.Inner.{coefficientsIn, Padded, StoredZeroFro
 pub record Filled (h : List ℤ) (c : List ℕ) (k : ℕ) : Type 0 where
   pub size : length c ≡ 264
   pub done : (j : ℕ) → j < k → coefficientIn (getD c (j + 4) 0) ≡ getD h j (pos 0)
-  pub low : (j : ℕ) → j < 4 → getD c j 0 ≡ 2147483648
-  pub rest : (j : ℕ) → k ≤ j → j < 260 → getD c (j + 4) 0 ≡ 2147483648
+  pub low : (j : ℕ) → j < 4 → getD c j 0 ≡ 2 ^ 31
+  pub rest : (j : ℕ) → k ≤ j → j < 260 → getD c (j + 4) 0 ≡ 2 ^ 31
 
-pub filled-start : (h : List ℤ) (c : List ℕ) → c ≡ replicate 264 2147483648 → Filled h c 0
+pub filled-start : (h : List ℤ) (c : List ℕ) → c ≡ replicate 264 (2 ^ 31) → Filled h c 0
 filled-start h c e =
     record {
-      size = ap length e ∙ length-replicate {A = ℕ} 264 2147483648;
+      size = ap length e ∙ length-replicate {A = ℕ} 264 (2 ^ 31);
       done = λ j l. absurd (omega arith);
-      low = λ j l. ap (λ q. getD q j 0) e ∙ getD-replicate 264 j 2147483648 0 (omega arith);
-      rest = λ j a b. ap (λ q. getD q (j + 4) 0) e ∙ getD-replicate 264 (j + 4) 2147483648 0 (omega arith);
+      low = λ j l. ap (λ q. getD q j 0) e ∙ getD-replicate 264 j (2 ^ 31) 0 (omega arith);
+      rest = λ j a b. ap (λ q. getD q (j + 4) 0) e ∙ getD-replicate 264 (j + 4) (2 ^ 31) 0 (omega arith);
     }
 
 module _ (h : List ℤ) (c : List ℕ) (k v : ℕ) (l : k < 256) (f : Filled h c k) (e : coefficientIn v ≡ getD h k (pos 0)) where
@@ -61,7 +61,7 @@ module _ (h : List ℤ) (c : List ℕ) (w : ℕ) (b : w ≤ 256) (n : length h �
   filled-padded = record { low = λ k l. ap coefficientIn (f .low k l); high = λ k a m. ap coefficientIn (f .rest k (omega arith) m) }
 
   pub filled-zero-from : StoredZeroFrom w c
-  filled-zero-from j l m = let e : j - 4 + 4 ≡ j = omega arith in subst (λ i. getD c i 0 ≡ 2147483648) e (f .rest (j - 4) (omega arith) (omega arith))
+  filled-zero-from j l m = let e : j - 4 + 4 ≡ j = omega arith in subst (λ i. getD c i 0 ≡ 2 ^ 31) e (f .rest (j - 4) (omega arith) (omega arith))
 
   at-by : (k : ℕ) → k < 256 → (t : Bool) → ltb k w ≡ t → coefficientIn (getD c (k + 4) 0) ≡ getD h k (pos 0)
   at-by k l true e = f .done k (ltb-true k w e)

@@ -1,7 +1,7 @@
 -- The tables of a call and the registers four samples on, for the contracts of inner functions; document 01 does not speak of them. Definitions only.
 use mathlib.Core.Path.{_≡_}
 use mathlib.Core.List.{List}
-use Prim.Native.Nat.{ℕ, _+_, _<_, _≤_}
+use Prim.Native.Nat.{ℕ, _+_, _<_, _≤_, _^_}
 use lib.IntN.{ℤ, pos}
 use lib.ListN.{getD}
 use Rattle.sequence.specs.UpTo.{upTo}
@@ -20,7 +20,7 @@ pub record Padded (c : List ℕ) : Type 0 where
 
 -- past the first w coefficients the table c holds 0
 abbrev pub StoredZeroFrom : ℕ → List ℕ → Type 0
-StoredZeroFrom w c = (j : ℕ) → w + 4 ≤ j → j < 264 → getD c j 0 ≡ 2147483648
+StoredZeroFrom w c = (j : ℕ) → w + 4 ≤ j → j < 264 → getD c j 0 ≡ 2 ^ 31
 
 -- v holds the offsets of the coefficients in c; whatever stands at its end
 pub record OffsetsOf (c v : List ℕ) : Type 0 where

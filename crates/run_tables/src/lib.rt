@@ -1,7 +1,7 @@
 // The tables of a running call: its coefficients in offset binary, with four zeros before and after
 // them, and the offsets that samples in offset binary leave in the registers.
 ghost use mathlib.Core.Path.{_≡_};
-ghost use Prim.Native.Nat.{ℕ, _≤_};
+ghost use Prim.Native.Nat.{ℕ, _^_, _≤_};
 ghost use lib.IntN.{pos};
 ghost use lib.ListN.{length, getD, replicate};
 ghost use Rattle.run_tables.specs.Inner.{coefficientsIn, Padded, StoredZeroFrom, OffsetsOf};
@@ -14,7 +14,7 @@ pub use width::used;
 
 // Fills a table that holds zeros in offset binary; from w on, coefficients are 0.
 pub fn fill_coefficients(h: &[i32; 256], w: usize, c: &mut [u64; 264])
-    requires { ⌜ ((length (now h) ≡ 256) × (w ≤ 256)) × ((now c ≡ replicate 264 2147483648) × ((k : ℕ) → w ≤ k → getD (now h) k (pos 0) ≡ pos 0)) ⌝ }
+    requires { ⌜ ((length (now h) ≡ 256) × (w ≤ 256)) × ((now c ≡ replicate 264 (2 ^ 31)) × ((k : ℕ) → w ≤ k → getD (now h) k (pos 0) ≡ pos 0)) ⌝ }
     ensures { λ _. ⌜ (Padded (now (c .exit))) × ((coefficientsIn (now (c .exit)) ≡ now (h .entry)) × (StoredZeroFrom w (now (c .exit)))) ⌝ }
 {
     let mut k: usize = 0;
