@@ -1,4 +1,4 @@
--- `fir_taps::fir_round_taps` meets its contract. Assumes nothing.
+-- `fir_taps::fir_round_taps` meets its contract. By the case of the answer. A report's two numbers are no not-a-numbers, so they have bits (`numbers`). Assumes nothing.
 use borrow.Author.Needs.{needs}
 use mathlib.Core.Path.{refl, sym, ap, subst}
 use mathlib.Core.Bool.{Bool, not}

@@ -1,4 +1,4 @@
--- `fir_taps::tap_word` meets its contract. Assumes nothing.
+-- `fir_taps::tap_word` meets its contract. By the case of the result: the pattern of N, or the refusal number in the upper half. Assumes nothing.
 use borrow.Author.Needs.{needs}
 use mathlib.Core.Path.{sym, ap, _∙_}
 use Prim.Native.Nat.{ℕ, _*_, _^_}

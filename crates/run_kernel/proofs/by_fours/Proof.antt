@@ -1,4 +1,4 @@
--- `run_kernel::by_fours` meets its contract. Assumes nothing.
+-- `run_kernel::by_fours` meets its contract. The words stand for the registers, raised, before `fours` and after it, and `lower` finds the registers that they stand for (`lowered-to`). Assumes nothing.
 use mathlib.Core.Path.{sym, subst}
 use native.Mathlib.Omega.{arith}
 use borrow.Author.Needs.{needs}

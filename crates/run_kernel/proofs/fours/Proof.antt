@@ -1,4 +1,4 @@
--- `run_kernel::fours` meets its contract. Assumes nothing.
+-- `run_kernel::fours` meets its contract. The invariant: i samples, a multiple of four, have passed; the words are the registers after them, raised by their offsets and the bias, and the outputs of these samples are written (`Passed`, of whatever registers the words stood for at the start). The measure is the number of samples left, which falls by four. Assumes nothing.
 use Prim.Native.Nat.{ℕ, _≤_, _-_, _+_, _%_}
 use mathlib.Core.Path.{_≡_, refl, subst}
 use mathlib.Core.List.{List}

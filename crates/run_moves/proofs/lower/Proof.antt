@@ -1,4 +1,4 @@
--- `run_moves::lower` meets its contract. Assumes nothing.
+-- `run_moves::lower` meets its contract. The invariant: the first k registers are those that the words were raised from, whichever these are, and the others are the old ones. A word is raised from one number only (`raised-one`), so what `lowered` gives is the register. The measure is w - k. Assumes nothing.
 use Prim.Native.Nat.{ℕ, _≤_, _-_, _+_, _<_}
 use mathlib.Core.Path.{_≡_, refl, sym, ap, _∙_}
 use mathlib.Core.List.{List}

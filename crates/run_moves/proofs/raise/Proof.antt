@@ -1,4 +1,4 @@
--- `run_moves::raise` meets its contract. Assumes nothing.
+-- `run_moves::raise` meets its contract. The invariant: the first k words are the first k registers, raised, and the others are the old ones. The measure is w - k. Assumes nothing.
 use Prim.Native.Nat.{ℕ, _≤_, _-_, _+_, _<_}
 use mathlib.Core.Path.{_≡_, sym, ap, _∙_}
 use native.Mathlib.Omega.{arith}

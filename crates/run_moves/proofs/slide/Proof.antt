@@ -1,4 +1,4 @@
--- `run_moves::slide` meets its contract. Assumes nothing.
+-- `run_moves::slide` meets its contract. The invariant: the first k words are those four places on, worked out, and the others are the old ones; so the word at k + 4, which is read next, is an old one. The measure is n - k. Assumes nothing.
 use Prim.Native.Nat.{ℕ, _≤_, _-_, _+_, _<_}
 use mathlib.Core.Path.{_≡_, sym, ap, _∙_}
 use native.Mathlib.Omega.{arith}

@@ -1,4 +1,4 @@
--- `run_passes::answer` meets its contract. Assumes nothing.
+-- `run_passes::answer` meets its contract. Each of the four outputs is what its place comes to, which is the output of its sample (`output-place0` and so on); four stores in a row are the outputs of four samples (`four-outputs`). Assumes nothing.
 use mathlib.Core.Path.{refl, ap, _∙_}
 use native.Mathlib.Omega.{arith}
 use lib.ListN.{length-set}

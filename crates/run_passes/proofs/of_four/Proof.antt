@@ -1,4 +1,4 @@
--- `run_passes::of_four` meets its contract. Assumes nothing.
+-- `run_passes::of_four` meets its contract. `top` makes the registers four more, all 0, so that every place in use has a word four places on. Then `slide` leaves the registers four samples on, raised by the bias after them (`slide-raised`), and `answer` the outputs. Assumes nothing.
 use Prim.Native.Nat.{_+_, _≤_}
 use mathlib.Core.Path.{ap, _∙_}
 use native.Mathlib.Omega.{arith}

@@ -1,4 +1,4 @@
--- `run_passes::output` meets its contract. Assumes nothing.
+-- `run_passes::output` meets its contract. What `place` makes of a raised word is the sum, raised by the offset of the output's place and by the bias after the four samples (`place-raised`); a word is raised from one number only (`raised-one`), so `lowered` gives the sum. Assumes nothing.
 use Prim.Native.Nat.{_+_}
 use mathlib.Core.Path.{_≡_, sym, ap, _∙_}
 use native.Mathlib.Omega.{arith}

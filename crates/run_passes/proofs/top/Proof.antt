@@ -1,4 +1,4 @@
--- `run_passes::top` meets its contract. Assumes nothing.
+-- `run_passes::top` meets its contract. The invariant: the first k words are registers, raised, with k from w to w + 4; the registers from w on are 0, so their words are 0, raised. The measure is w + 4 - k. Assumes nothing.
 use Prim.Native.Nat.{ℕ, _≤_, _-_, _+_, _<_}
 use mathlib.Core.Path.{_≡_, subst}
 use mathlib.Core.List.{List}

@@ -1,4 +1,4 @@
--- `run_singly::singly` meets its contract. Assumes nothing.
+-- `run_singly::singly` meets its contract. The invariant: the samples from i on, run from the registers as they are now, give the registers and outputs of the whole run; from w on registers stay 0. The measure is the number of samples left. Assumes nothing.
 use Prim.Native.Nat.{_≤_, _-_, _<_}
 use mathlib.Core.Path.{_≡_, refl, sym, ap, subst, _∙_}
 use native.Mathlib.Omega.{arith}

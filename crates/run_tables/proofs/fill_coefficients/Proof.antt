@@ -1,4 +1,4 @@
--- `run_tables::fill_coefficients` meets its contract. Assumes nothing.
+-- `run_tables::fill_coefficients` meets its contract. The invariant: the first k coefficients stand in the table from word 4 on, and every other word is 0 in offset binary (`Filled`). The measure is w - k. Assumes nothing.
 use Prim.Native.Nat.{_≤_, _-_}
 use mathlib.Core.Path.{_≡_, subst, _∙_}
 use native.Mathlib.Omega.{arith}

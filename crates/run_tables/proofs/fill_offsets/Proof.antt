@@ -1,4 +1,4 @@
--- `run_tables::fill_offsets` meets its contract. Assumes nothing.
+-- `run_tables::fill_offsets` meets its contract. The invariant: from place j on, the table holds the offsets (`From`). At the start that is true because past the places in use coefficients are 0, and so are their offsets. The measure is j, which counts down. Assumes nothing.
 use Prim.Native.Nat.{_≤_, _-_, _+_}
 use mathlib.Core.Path.{_≡_, subst}
 use native.Mathlib.Omega.{arith}

@@ -1,4 +1,4 @@
--- `bench_second::form::least` meets its contract. The invariant: the least weights of the number made of the bits passed, and of the next, are those of the recurrence. Assumes nothing.
+-- `bench_second::form::least` meets its contract. The invariant: the least weights of the number made of the bits passed, and of the next, are those of the recurrence. The measure is the bit, which is halved. Assumes nothing.
 use borrow.Author.Needs.{needs}
 use mathlib.Core.Path.{refl, _∙_}
 use mathlib.Core.Logic.{⊎-elim}

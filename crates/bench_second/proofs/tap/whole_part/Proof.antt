@@ -1,4 +1,4 @@
--- `bench_second::tap::whole_part` is safe and ends. Assumes nothing.
+-- `bench_second::tap::whole_part` is safe and ends. The invariant: the weight is at most 2^31. The measure is the weight, which is halved. Assumes nothing.
 use borrow.Author.Needs.{needs}
 use Prim.Native.Nat.{_≤_}
 use Rattle.bench_second.proofs.tap.whole_part.Statement.{statement}

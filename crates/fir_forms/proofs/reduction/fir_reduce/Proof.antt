@@ -1,4 +1,4 @@
--- `fir_forms::reduction::fir_reduce` meets its contract. Assumes nothing.
+-- `fir_forms::reduction::fir_reduce` meets its contract. By the case of the answer, which settles the three numbers. Assumes nothing.
 use borrow.Author.Needs.{needs}
 use mathlib.Core.Path.{_≡_, refl, sym, ap, _∙_, subst}
 use mathlib.Core.Bool.{Bool, true, false}

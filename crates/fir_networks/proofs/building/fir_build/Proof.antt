@@ -1,4 +1,4 @@
--- `fir_networks::building::fir_build` meets its contract. Assumes nothing.
+-- `fir_networks::building::fir_build` meets its contract. By the case of the answer, which settles the word and the row count; the tables are as `build` leaves them. Assumes nothing.
 use borrow.Author.Needs.{needs}
 use mathlib.Core.Path.{sym, ap, _∙_}
 use Prim.Native.Nat.{ℕ}

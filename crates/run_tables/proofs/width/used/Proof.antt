@@ -1,4 +1,4 @@
--- `run_tables::width::used` meets its contract. Assumes nothing.
+-- `run_tables::width::used` meets its contract. The invariant: from w on, registers and coefficients are 0. Where both are 0 at w - 1 too, w falls by one. The measure is w. Assumes nothing.
 use Prim.Native.Nat.{suc, _≤_, _-_}
 use mathlib.Core.Path.{_≡_, sym, ap, subst, _∙_}
 use native.Mathlib.Omega.{arith}
