@@ -1,9 +1,10 @@
 -- Filling a table of offset words: the coefficients so far, zeros around them. Assumes nothing.
 use mathlib.Core.Path.{_≡_, refl, sym, ap, _∙_, subst}
-use mathlib.Core.Logic.{_≢_}
+use mathlib.Core.Logic.{_≢_, ⊎-elim}
 use mathlib.Core.Bool.{Bool, true, false}
 use mathlib.Core.List.{List}
 use Prim.Native.Nat.{ℕ, _+_, _-_, _<_, _≤_, _^_}
+use native.Mathlib.Nat.{eq-or-lt-of-le}
 use native.Mathlib.Omega.{arith}
 use borrow.Author.Tests.{ltb-true, ltb-false}
 use lib.Dec.{ltb}
@@ -38,19 +39,16 @@ module _ (h : List ℤ) (c : List ℕ) (k v : ℕ) (l : k < 256) (f : Filled h c
   other : (i : ℕ) → i ≢ k + 4 → getD (set c (k + 4) v) i 0 ≡ getD c i 0
   other i n = getD-set-other c (k + 4) i v 0 n
 
-  done-by : (j : ℕ) → j < k + 1 → (t : Bool) → ltb j k ≡ t → coefficientIn (getD (set c (k + 4) v) (j + 4) 0) ≡ getD h j (pos 0)
-  done-by j m true q =
-      let u : j < k = ltb-true j k q in
-      ap coefficientIn (other (j + 4) (λ p. omega (arith, p))) ∙ f .done j u
-  done-by j m false q =
-      let u : k ≡ j = omega (arith, ltb-false j k q) in
-      subst (λ i. coefficientIn (getD (set c (k + 4) v) (i + 4) 0) ≡ getD h i (pos 0)) u new
+  before : (j : ℕ) → j < k → coefficientIn (getD (set c (k + 4) v) (j + 4) 0) ≡ getD h j (pos 0)
+  before j u = ap coefficientIn (other (j + 4) (λ p. omega (arith, p))) ∙ f .done j u
 
   pub filled-next : Filled h (set c (k + 4) v) (k + 1)
   filled-next =
       record {
         size = length-set c (k + 4) v ∙ f .size;
-        done = λ j m. done-by j m (ltb j k) refl;
+        done =
+            λ j m. ⊎-elim (λ p. subst (λ i. coefficientIn (getD (set c (k + 4) v) (i + 4) 0) ≡ getD h i (pos 0)) (sym p) new) (before j)
+            (eq-or-lt-of-le {n = j} {m = k} (omega arith));
         low = λ j m. other j (λ p. omega (arith, p)) ∙ f .low j m;
         rest = λ j a b. other (j + 4) (λ p. omega (arith, p)) ∙ f .rest j (omega arith) b;
       }

@@ -1,11 +1,10 @@
 -- Registers and coefficients that are 0 from some place on stay so. Assumes nothing.
-use mathlib.Core.Path.{_≡_, refl, sym, ap, ap₂, _∙_}
-use mathlib.Core.Bool.{Bool, true, false}
+use mathlib.Core.Path.{_≡_, sym, ap, ap₂, _∙_}
+use mathlib.Core.Logic.{⊎-elim}
 use mathlib.Core.List.{List}
 use Prim.Native.Nat.{ℕ, suc, _<_, _≤_}
+use native.Mathlib.Nat.{eq-or-lt-of-le}
 use native.Mathlib.Omega.{arith}
-use borrow.Author.Tests.{ltb-true, ltb-false}
-use lib.Dec.{ltb}
 use lib.IntN.{ℤ, pos, _+ℤ_, _*ℤ_}
 use lib.ListN.{length, getD, List·getD-eq-default}
 use Rattle.run_convolution.specs.Words.{wrapped}
@@ -33,13 +32,6 @@ module _ (h : List ℤ) (few : length h ≤ 256) (w : ℕ) where
 pub zero-from-end : (h : List ℤ) (r : List ℕ) → length h ≡ 256 → ZeroFrom 256 h r
 zero-from-end h r e k l = (held-high r k l, List·getD-eq-default h (pos 0) {n = k} (omega arith))
 
-zero-from-by : (h : List ℤ) (r : List ℕ) (w : ℕ) → w < 256 → getD r w 0 ≡ 0 → getD h w (pos 0) ≡ pos 0 → ZeroFrom (suc w) h r
-    → (k : ℕ) → w ≤ k → (t : Bool) → ltb w k ≡ t → (held r k ≡ 0) × (getD h k (pos 0) ≡ pos 0)
-zero-from-by h r w b e f q k l true p = q k (omega (arith, ltb-true w k p))
-zero-from-by h r w b e f q k l false p =
-    let s : w ≡ k = omega (arith, ltb-false w k p) in
-    (ap (held r) (sym s) ∙ held-low r w b ∙ e, ap (λ i. getD h i (pos 0)) (sym s) ∙ f)
-
 -- one register less in use
 pub zero-from-less : (h : List ℤ) (r : List ℕ) (w : ℕ) → w < 256 → getD r w 0 ≡ 0 → getD h w (pos 0) ≡ pos 0 → ZeroFrom (suc w) h r → ZeroFrom w h r
-zero-from-less h r w b e f q k l = zero-from-by h r w b e f q k l (ltb w k) refl
+zero-from-less h r w b e f q k l = ⊎-elim (λ p. (ap (held r) (sym p) ∙ held-low r w b ∙ e, ap (λ i. getD h i (pos 0)) (sym p) ∙ f)) (λ m. q k (omega (arith, m))) (eq-or-lt-of-le l)
