@@ -12,23 +12,24 @@ use run_singly::singly;
 
 // The samples four by four, as far as that goes; returns the bias after them.
 fn fours(
-    c: &[u64; 264],
-    v: &[u64; 265],
+    stored: &[u64; 264],
+    offsets: &[u64; 265],
     w: usize,
     samples: &[i16],
     words: &mut [u64; 260],
     outputs: &mut [i64],
 ) -> u64
     requires { ⌜ ((w ≤ 256) × (length (now words) ≡ 260))
-        × ((length (now samples) ≤ length (now outputs)) × ((Padded (now c)) × (OffsetsOf (now c) (now v)))) ⌝ }
-    ensures { λ bias. ⌜ ((r : List ℕ) → 256 ≤ length r → ZeroFrom w (coefficientsIn (now (c .entry))) r → Raised w (now (v .entry)) 0 r (now (words .entry))
-        → Passed (coefficientsIn (now (c .entry))) w (now (v .entry)) r (now (samples .entry)) (now (outputs .entry))
+        × ((length (now samples) ≤ length (now outputs)) × ((Padded (now stored)) × (OffsetsOf (now stored) (now offsets)))) ⌝ }
+    ensures { λ bias. ⌜ ((r : List ℕ) → 256 ≤ length r → ZeroFrom w (coefficientsIn (now (stored .entry))) r
+        → Raised w (now (offsets .entry)) 0 r (now (words .entry))
+        → Passed (coefficientsIn (now (stored .entry))) w (now (offsets .entry)) r (now (samples .entry)) (now (outputs .entry))
         (fourfold (length (now (samples .entry)))) bias (now (words .exit)) (now (outputs .exit))) ⌝ }
 {
     let mut bias: u64 = 0;
     let mut i: usize = 0;
     while samples.len() - i >= 4 {
-        bias = run_passes::of_four(c, v, w, bias, samples, i, words, outputs);
+        bias = run_passes::of_four(stored, offsets, w, bias, samples, i, words, outputs);
         i += 4;
     }
     bias
@@ -46,14 +47,14 @@ fn by_fours(h: &[i32; 256], w: usize, samples: &[i16], registers: &mut [u64], ou
         (outputsOf (now (h .entry)) (now (registers .exit)) (drop (fourfold (length (now (samples .entry)))) (now (samples .entry))))
         ≡ sets (now (outputs .entry)) 0 (outputsOf (now (h .entry)) (now (registers .entry)) (now (samples .entry))) ⌝ }
 {
-    let mut c = [0x8000_0000u64; 264];
-    run_tables::fill_coefficients(h, w, &mut c);
-    let mut v = [0u64; 265];
-    run_tables::fill_offsets(&c, w, &mut v);
+    let mut stored = [0x8000_0000u64; 264];
+    run_tables::fill_coefficients(h, w, &mut stored);
+    let mut offsets = [0u64; 265];
+    run_tables::fill_offsets(&stored, w, &mut offsets);
     let mut words = [0u64; 260];
-    run_moves::raise(&v, w, registers, &mut words);
-    let bias = fours(&c, &v, w, samples, &mut words, outputs);
-    run_moves::lower(&v, w, bias, &words, registers);
+    run_moves::raise(&offsets, w, registers, &mut words);
+    let bias = fours(&stored, &offsets, w, samples, &mut words, outputs);
+    run_moves::lower(&offsets, w, bias, &words, registers);
 }
 
 // The outputs for the samples, and the registers after them. Tables are not made for fewer than

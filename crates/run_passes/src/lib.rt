@@ -20,23 +20,23 @@ use run_products::raised;
 use run_products::signed;
 
 // After the first w words, those of four registers that hold 0.
-fn top(v: &[u64; 265], w: usize, bias: u64, words: &mut [u64; 260])
+fn top(offsets: &[u64; 265], w: usize, bias: u64, words: &mut [u64; 260])
     requires { ⌜ (w ≤ 256) × (length (now words) ≡ 260) ⌝ }
     ensures { λ _. ⌜ length (now (words .exit)) ≡ 260 ⌝ }
-    ensures { λ _. ⌜ ((r : List ℕ) → ((k : ℕ) → w ≤ k → held r k ≡ 0) → Raised w (now (v .entry)) bias r (now (words .entry))
-        → Raised (w + 4) (now (v .entry)) bias r (now (words .exit))) ⌝ }
+    ensures { λ _. ⌜ ((r : List ℕ) → ((k : ℕ) → w ≤ k → held r k ≡ 0) → Raised w (now (offsets .entry)) bias r (now (words .entry))
+        → Raised (w + 4) (now (offsets .entry)) bias r (now (words .exit))) ⌝ }
 {
     let mut k = w;
     while k < w + 4 {
-        words[k] = raised(0, v[k + 5], bias);
+        words[k] = raised(0, offsets[k + 5], bias);
         k += 1;
     }
 }
 
 // The output at place j; the bias is that after the four samples.
 fn output(
-    c: &[u64; 264],
-    v: &[u64; 265],
+    stored: &[u64; 264],
+    offsets: &[u64; 265],
     j: usize,
     y0: u16,
     y1: u16,
@@ -45,19 +45,23 @@ fn output(
     bias: u64,
     words: &[u64; 260],
 ) -> i64
-    requires { ⌜ (j < 4) × (OffsetsOf (now c) (now v)) ⌝ }
-    ensures { λ o. ⌜ ((g : ℕ) (r : List ℕ) → bias ≡ biasAfter g y0 y1 y2 y3 → Raised 4 (now (v .entry)) g r (now (words .entry))
-        → o ≡ toZ w64 (fourSums (held r j) (coefficientIn (getD (now (c .entry)) (j + 4) 0)) (coefficientIn (getD (now (c .entry)) (j + 3) 0))
-        (coefficientIn (getD (now (c .entry)) (j + 2) 0)) (coefficientIn (getD (now (c .entry)) (j + 1) 0)) (sampleIn y0) (sampleIn y1) (sampleIn y2)
+    requires { ⌜ (j < 4) × (OffsetsOf (now stored) (now offsets)) ⌝ }
+    ensures { λ o. ⌜ ((g : ℕ) (r : List ℕ) → bias ≡ biasAfter g y0 y1 y2 y3 → Raised 4 (now (offsets .entry)) g r (now (words .entry))
+        → o ≡ toZ w64 (fourSums (held r j) (coefficientIn (getD (now (stored .entry)) (j + 4) 0)) (coefficientIn (getD (now (stored .entry)) (j + 3) 0))
+        (coefficientIn (getD (now (stored .entry)) (j + 2) 0)) (coefficientIn (getD (now (stored .entry)) (j + 1) 0)) (sampleIn y0) (sampleIn y1) (sampleIn y2)
         (sampleIn y3))) ⌝ }
 {
-    signed(lowered(place(c, j, words[j], y0, y1, y2, y3), v[j + 1], bias))
+    signed(lowered(
+        place(stored, j, words[j], y0, y1, y2, y3),
+        offsets[j + 1],
+        bias,
+    ))
 }
 
 // The outputs for four samples.
 fn answer(
-    c: &[u64; 264],
-    v: &[u64; 265],
+    stored: &[u64; 264],
+    offsets: &[u64; 265],
     y0: u16,
     y1: u16,
     y2: u16,
@@ -67,21 +71,21 @@ fn answer(
     outputs: &mut [i64],
     i: usize,
 )
-    requires { ⌜ (i + 4 ≤ length (now outputs)) × ((Padded (now c)) × (OffsetsOf (now c) (now v))) ⌝ }
-    ensures { λ _. ⌜ ((g : ℕ) (r : List ℕ) → bias ≡ biasAfter g y0 y1 y2 y3 → Raised 4 (now (v .entry)) g r (now (words .entry))
+    requires { ⌜ (i + 4 ≤ length (now outputs)) × ((Padded (now stored)) × (OffsetsOf (now stored) (now offsets))) ⌝ }
+    ensures { λ _. ⌜ ((g : ℕ) (r : List ℕ) → bias ≡ biasAfter g y0 y1 y2 y3 → Raised 4 (now (offsets .entry)) g r (now (words .entry))
         → now (outputs .exit) ≡ sets (now (outputs .entry)) i
-        (outputsOf (coefficientsIn (now (c .entry))) r (sampleIn y0 ∷ sampleIn y1 ∷ sampleIn y2 ∷ sampleIn y3 ∷ []))) ⌝ }
+        (outputsOf (coefficientsIn (now (stored .entry))) r (sampleIn y0 ∷ sampleIn y1 ∷ sampleIn y2 ∷ sampleIn y3 ∷ []))) ⌝ }
 {
-    outputs[i] = output(c, v, 0, y0, y1, y2, y3, bias, words);
-    outputs[i + 1] = output(c, v, 1, y0, y1, y2, y3, bias, words);
-    outputs[i + 2] = output(c, v, 2, y0, y1, y2, y3, bias, words);
-    outputs[i + 3] = output(c, v, 3, y0, y1, y2, y3, bias, words);
+    outputs[i] = output(stored, offsets, 0, y0, y1, y2, y3, bias, words);
+    outputs[i + 1] = output(stored, offsets, 1, y0, y1, y2, y3, bias, words);
+    outputs[i + 2] = output(stored, offsets, 2, y0, y1, y2, y3, bias, words);
+    outputs[i + 3] = output(stored, offsets, 3, y0, y1, y2, y3, bias, words);
 }
 
 // The four samples from the one at i; returns the bias after them.
 pub fn of_four(
-    c: &[u64; 264],
-    v: &[u64; 265],
+    stored: &[u64; 264],
+    offsets: &[u64; 265],
     w: usize,
     bias: u64,
     samples: &[i16],
@@ -90,14 +94,15 @@ pub fn of_four(
     outputs: &mut [i64],
 ) -> u64
     requires { ⌜ ((w ≤ 256) × (length (now words) ≡ 260))
-        × (((i + 4 ≤ length (now samples)) × (length (now samples) ≤ length (now outputs))) × ((Padded (now c)) × (OffsetsOf (now c) (now v)))) ⌝ }
+        × (((i + 4 ≤ length (now samples)) × (length (now samples) ≤ length (now outputs)))
+        × ((Padded (now stored)) × (OffsetsOf (now stored) (now offsets)))) ⌝ }
     ensures { λ _. ⌜ length (now (words .exit)) ≡ 260 ⌝ }
-    ensures { λ after. ⌜ ((r : List ℕ) → ZeroFrom w (coefficientsIn (now (c .entry))) r → Raised w (now (v .entry)) bias r (now (words .entry))
-        → (Raised w (now (v .entry)) after (after4 (coefficientsIn (now (c .entry))) (getD (now (samples .entry)) i (pos 0))
+    ensures { λ after. ⌜ ((r : List ℕ) → ZeroFrom w (coefficientsIn (now (stored .entry))) r → Raised w (now (offsets .entry)) bias r (now (words .entry))
+        → (Raised w (now (offsets .entry)) after (after4 (coefficientsIn (now (stored .entry))) (getD (now (samples .entry)) i (pos 0))
         (getD (now (samples .entry)) (i + 1) (pos 0)) (getD (now (samples .entry)) (i + 2) (pos 0)) (getD (now (samples .entry)) (i + 3) (pos 0)) r)
         (now (words .exit)))
         × (now (outputs .exit) ≡ sets (now (outputs .entry)) i
-        (outputsOf (coefficientsIn (now (c .entry))) r
+        (outputsOf (coefficientsIn (now (stored .entry))) r
         (getD (now (samples .entry)) i (pos 0) ∷ getD (now (samples .entry)) (i + 1) (pos 0) ∷ getD (now (samples .entry)) (i + 2) (pos 0)
         ∷ getD (now (samples .entry)) (i + 3) (pos 0) ∷ [])))) ⌝ }
 {
@@ -106,8 +111,8 @@ pub fn of_four(
     let y2 = offset_sample(samples[i + 2]);
     let y3 = offset_sample(samples[i + 3]);
     let after = bias_after(bias, y0, y1, y2, y3);
-    top(v, w, bias, words);
-    answer(c, v, y0, y1, y2, y3, after, words, outputs, i);
-    slide(c, y0, y1, y2, y3, w, words);
+    top(offsets, w, bias, words);
+    answer(stored, offsets, y0, y1, y2, y3, after, words, outputs, i);
+    slide(stored, y0, y1, y2, y3, w, words);
     after
 }

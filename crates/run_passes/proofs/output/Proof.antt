@@ -45,8 +45,8 @@ returns c =
     let pl = c .before .before .before .place in
     let st = c .before .before .before .before .before in
     let a = st .args in
-    let t = a .c .now in
-    let v = a .v .now in
+    let t = a .stored .now in
+    let v = a .offsets .now in
     let j = a .j in
     λ g r e f.
     let s = fourSums (held r j) (coefficientIn (getD t (j + 4) 0)) (coefficientIn (getD t (j + 3) 0)) (coefficientIn (getD t (j + 2) 0)) (coefficientIn (getD t (j + 1) 0)) (sampleIn (a .y0)) (sampleIn (a .y1)) (sampleIn (a .y2)) (sampleIn (a .y3)) in

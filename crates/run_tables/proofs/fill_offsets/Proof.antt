@@ -8,10 +8,10 @@ use Rattle.run_tables.proofs.fill_offsets.Statement.{statement}
 use Rattle.run_tables.proofs.fill_offsets.Tie as tie
 
 abbrev Inv-loop : tie.InvT-loop
-Inv-loop c w v₀ j₀ v j = (j ≤ 260) × (From c v j)
+Inv-loop stored w offsets₀ j₀ offsets j = (j ≤ 260) × (From stored offsets j)
 
 abbrev μ-loop : tie.MeasureT-loop
-μ-loop c w v₀ j₀ v j = j
+μ-loop stored w offsets₀ j₀ offsets j = j
 
 add-j : tie.Need-add-j Inv-loop μ-loop
 add-j c = search needs
@@ -40,11 +40,11 @@ element-copy-out-offset-below-2 c = search needs
 offset-below-requires : tie.Need-offset-below-requires Inv-loop μ-loop
 offset-below-requires c κs = search needs
 
-mul-v : tie.Need-mul-v Inv-loop μ-loop
-mul-v c = search needs
+mul-offsets : tie.Need-mul-offsets Inv-loop μ-loop
+mul-offsets c = search needs
 
-element-write-v : tie.Need-element-write-v Inv-loop μ-loop
-element-write-v c = omega (arith, c .before .before .before .before .loop .inv .1 .size)
+element-write-offsets : tie.Need-element-write-offsets Inv-loop μ-loop
+element-write-offsets c = omega (arith, c .before .before .before .before .loop .inv .1 .size)
 
 loop-less : tie.Need-loop-less Inv-loop μ-loop
 loop-less c = search needs
@@ -53,8 +53,8 @@ loop-again : tie.Need-loop-again Inv-loop μ-loop
 loop-again c =
     let at = c .before .before .before .before in
     let j = at .loop .j in
-    let table = at .before .args .c .now in
-    let v = at .loop .v in
+    let table = at .before .args .stored .now in
+    let v = at .loop .offsets in
     let e : j ≡ j - 1 + 1 = omega arith in
     (search needs, from-next table v (j - 1) (c .offset-below .result) (omega arith) (subst (From table v) e (at .loop .inv .1)) (c .offset-below .ensures))
 
@@ -62,7 +62,7 @@ returns : tie.Need-returns Inv-loop μ-loop
 returns c =
     let at = c .before in
     let e : at .loop .j ≡ 0 = omega arith in
-    from-all _ _ (subst (From (at .before .args .c .now) (at .loop .v)) e (at .loop .inv .1))
+    from-all _ _ (subst (From (at .before .args .stored .now) (at .loop .offsets)) e (at .loop .inv .1))
 
 pub fill-offsets-spec : {M : Type 1} → statement M
 fill-offsets-spec =
@@ -79,8 +79,8 @@ fill-offsets-spec =
     mul-offset-below-2
     element-copy-out-offset-below-2
     offset-below-requires
-    mul-v
-    element-write-v
+    mul-offsets
+    element-write-offsets
     loop-less
     loop-again
     returns)
