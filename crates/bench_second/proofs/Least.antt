@@ -107,7 +107,7 @@ place bit zero e p = absurd (omega (arith, e))
 place bit (suc k) e p = (k, refl, e ∙ half k)
 
 module _ (m bit : ℕ) (h x : LeastWeight) where
-  pub room : Walked m bit h x → 0 < bit → ((h .weight ≤ 33) × (x .weight ≤ 33)) × (h .count + x .count ≤ 4294967295)
+  pub room : Walked m bit h x → 0 < bit → ((h .weight ≤ 33) × (x .weight ≤ 33)) × (h .count + x .count < 2 ^ 32)
   room w p =
       let n = w .left in
       let e = place bit n (w .bit-is) p .1 in

@@ -1,7 +1,7 @@
 -- The four ways out of `bench_second::tap::round`. Assumes nothing.
 use mathlib.Core.Path.{_≡_, sym, _∙_}
 use mathlib.Core.Bool.{Bool, true, false, true≢false}
-use Prim.Native.Nat.{ℕ, _≤_, _<_}
+use Prim.Native.Nat.{ℕ, _≤_, _<_, _^_, _-_}
 use native.Mathlib.Omega.{arith}
 use lib.Ieee.{Float}
 use Rattle.bench_second.specs.Inner.{isFinite, RoundedByDigits}
@@ -49,7 +49,7 @@ module _ (x : Float) (f r : ℕ) (n : Bool) (s : ℕ) where
         refused-size = λ q. z;
       }
 
-  pub given : f ≤ 31 → isFinite x ≡ true → r ≡ 0 → s ≤ 2147483648 → (n ≡ false → s ≤ 2147483647) → RoundedByDigits x f r n s
+  pub given : f ≤ 31 → isFinite x ≡ true → r ≡ 0 → s ≤ 2 ^ 31 → (n ≡ false → s ≤ 2 ^ 31 - 1) → RoundedByDigits x f r n s
   given h d e l g =
       record {
         four-above = λ q. omega arith;

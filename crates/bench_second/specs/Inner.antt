@@ -2,7 +2,7 @@
 use mathlib.Core.Path.{_≡_}
 use mathlib.Core.Bool.{Bool, true, false, cond}
 use mathlib.Core.List.{List, [], foldl}
-use Prim.Native.Nat.{ℕ, zero, suc, _+_, _/_, _%_, _≤_, _<_}
+use Prim.Native.Nat.{ℕ, zero, suc, _+_, _/_, _%_, _≤_, _<_, _^_, _-_}
 use lib.Dec.{ltb}
 use lib.IntN.{pos}
 use lib.Ieee.{Float, nan, inf, fin, binary64, add}
@@ -54,8 +54,8 @@ pub record RoundedByDigits (tap : Float) (f refusal : ℕ) (negative : Bool) (si
   pub five-only : refusal ≡ 5 → isFinite tap ≡ false
   pub lowest-number : 0 < refusal → 4 ≤ refusal
   pub highest-number : refusal ≤ 6
-  pub least-bound : size ≤ 2147483648
-  pub greatest-bound : negative ≡ false → size ≤ 2147483647
+  pub least-bound : size ≤ 2 ^ 31
+  pub greatest-bound : negative ≡ false → size ≤ 2 ^ 31 - 1
   pub refused-size : 0 < refusal → size ≡ 0
 
 -- the contract of `tap::sum`: from +0 in order, each addition rounded once

@@ -1,7 +1,7 @@
 // The least weight of a number and how many strings have it, from the high end: of the number x made
 // of the bits passed, and of x + 1.
 ghost use mathlib.Core.Path.{_≡_};
-ghost use Prim.Native.Nat.{_+_, _≤_};
+ghost use Prim.Native.Nat.{_+_, _≤_, _^_, _<_};
 ghost use Rattle.bench_second.specs.Inner.{ofOdd, LeastFound};
 
 pub struct LeastWeight {
@@ -11,7 +11,7 @@ pub struct LeastWeight {
 
 // Of an odd number, by the halves of its two neighbours.
 fn of_odd(below: LeastWeight, above: LeastWeight) -> LeastWeight
-    requires { ⌜ ((below .weight ≤ 33) × (above .weight ≤ 33)) × (below .count + above .count ≤ 4294967295) ⌝ }
+    requires { ⌜ ((below .weight ≤ 33) × (above .weight ≤ 33)) × (below .count + above .count < 2 ^ 32) ⌝ }
     ensures { λ r. ⌜ r ≡ ofOdd below above ⌝ }
 {
     if below.weight < above.weight {
@@ -36,7 +36,7 @@ fn of_odd(below: LeastWeight, above: LeastWeight) -> LeastWeight
 pub fn least(magnitude: u32) -> LeastWeight
     ensures { λ r. ⌜ LeastFound magnitude r ⌝ }
 {
-    let mut bit: u32 = 2147483648;
+    let mut bit: u32 = 0x8000_0000;
     let mut here = LeastWeight {
         weight: 0,
         count: 1,

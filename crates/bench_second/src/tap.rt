@@ -1,7 +1,7 @@
 // Rounding a tap digit by digit, by exact sums and differences of floats.
 ghost use mathlib.Core.Path.{_≡_};
 ghost use mathlib.Core.Bool.{false};
-ghost use Prim.Native.Nat.{_≤_};
+ghost use Prim.Native.Nat.{_≤_, _^_, _-_};
 ghost use lib.ListN.{length};
 ghost use Rattle.bench_second.specs.Inner.{RoundedByDigits, Summed, LargestFound, SetJudged, Judged};
 
@@ -59,7 +59,7 @@ fn whole_part(x: f64) -> Parts {
 }
 
 fn most(negative: bool) -> u64
-    ensures { λ r. ⌜ (r ≤ 2147483648) × (negative ≡ false → r ≤ 2147483647) ⌝ }
+    ensures { λ r. ⌜ (r ≤ 2 ^ 31) × (negative ≡ false → r ≤ 2 ^ 31 - 1) ⌝ }
 {
     if negative { 2147483648 } else { 2147483647 }
 }

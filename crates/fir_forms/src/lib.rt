@@ -1,11 +1,16 @@
-// Minimal signed-digit forms: functions for C, declared in include/fir.h.
+// Minimal signed-digit forms and reduction: functions for C, declared in include/fir.h.
 ghost use Rattle.fir_forms.specs.Form.{FormValuedWord, FormWeighedWord, InCanonicalFormWord};
 ghost use Rattle.fir_forms.specs.Listing.{FormsListedWord, FormsCountedWord};
+
+mod reduction;
+
 use fir_words::refusal_word;
 use form_listing::Listing;
 use form_masks::Form;
 use form_masks::FormValue;
 use form_masks::FormWeight;
+pub use reduction::fir_reduce;
+pub use reduction::fir_trimmed;
 
 // The value of a form.
 #[no_mangle]

@@ -1,9 +1,14 @@
-// Networks: the check, the coefficients of one that passes, and running. Functions for C, declared in include/fir.h.
+// Networks: building, the check, the coefficients of one that passes, and running. Functions for C,
+// declared in include/fir.h.
 ghost use mathlib.Core.Path.{_≡_};
 ghost use Rattle.network_check.specs.Checked.{answerOf};
 ghost use Rattle.fir_words.specs.Words.{refusalWord};
 ghost use Rattle.fir_networks.specs.Check.{CheckedWord, CoefficientsWord};
 ghost use Rattle.fir_networks.specs.Run.{RanWord};
+
+mod building;
+
+pub use building::fir_build;
 use network_check::Checked;
 
 fn checked_word(answer: Checked) -> u64

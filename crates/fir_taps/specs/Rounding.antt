@@ -1,14 +1,27 @@
 -- Rounding taps as C sees it. Definitions only.
 use mathlib.Core.Path.{_≡_}
 use mathlib.Core.List.{List}
-use Prim.Native.Nat.{ℕ}
+use mathlib.Core.Bool.{Bool, not}
+use Prim.Native.Nat.{ℕ, _*_, _^_}
+use lib.Dec.{eqb}
 use lib.IntN.{ℤ}
 use lib.Ieee.{Float, binary64, ofBits, toBits}
-use Rattle.refusal.specs.Answer.{Answer, stored}
-use Rattle.tap.specs.Rounding.{TapResult, TapRounded}
+use mir.Syntax.{w32}
+use mir.Val.{ofZ}
+use Rattle.refusal.specs.Answer.{Answer, given, refused, stored}
+use Rattle.tap.specs.Rounding.{TapResult, wholeOf, TapRounded}
 use Rattle.tap_set.specs.declared.Report.{Report}
 use Rattle.tap_set.specs.Set.{TapsRounded}
-use Rattle.fir_words.specs.Words.{tapWord, refusalWord, isSet}
+use Rattle.fir_words.specs.Words.{refusalWord}
+
+-- document 01: "refusal number (0 for none) in the upper half, N's 32-bit pattern in the lower (0 when turned down)"
+abbrev pub tapWord : Answer TapResult → ℕ
+tapWord (given c) = ofZ w32 (wholeOf c)
+tapWord (refused number place) = number * 2 ^ 32
+
+-- a flag that C hands over: 0 is no, any other number is yes
+abbrev pub isSet : ℕ → Bool
+isSet n = not (eqb n 0)
 
 -- the word that C receives is that of an answer of `round_tap` for the tap of these bits: the contract of `fir_round_tap`
 pub record TapRoundedWord (F bits received : ℕ) : Type 0 where

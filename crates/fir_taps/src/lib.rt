@@ -1,8 +1,7 @@
 // Rounding taps: functions for C, declared in include/fir.h.
 ghost use mathlib.Core.Path.{_≡_};
 ghost use Rattle.tap.specs.Rounding as Tap;
-ghost use Rattle.fir_words.specs.Words.{tapWord};
-ghost use Rattle.fir_taps.specs.Rounding.{TapRoundedWord, TapsRoundedWord};
+ghost use Rattle.fir_taps.specs.Rounding.{tapWord, TapRoundedWord, TapsRoundedWord};
 use fir_words::refusal_word;
 use tap::RoundedTap;
 use tap::pattern::of_bits;
@@ -14,7 +13,7 @@ fn tap_word(tap: RoundedTap) -> u64
     match tap {
         RoundedTap::Exact(n) => word::pattern(n) as u64,
         RoundedTap::Rounded(n, _) => word::pattern(n) as u64,
-        RoundedTap::Refused(refusal) => (refusal::number(refusal) as u64) * 4294967296,
+        RoundedTap::Refused(refusal) => (refusal::number(refusal) as u64) * 0x1_0000_0000,
     }
 }
 

@@ -1,7 +1,7 @@
 -- Magnitudes of sums and products. Assumes nothing.
 use mathlib.Core.Path.{_≡_, refl}
 use mathlib.Core.Bool.{Bool, true, false}
-use Prim.Native.Nat.{ℕ, zero, suc, _+_, _*_, _<_, _≤_}
+use Prim.Native.Nat.{ℕ, zero, suc, _+_, _*_, _<_, _≤_, _^_}
 use native.Mathlib.Nat.{mul-le-mul}
 use native.Mathlib.Omega.{arith}
 use borrow.Author.Tests.{ltb-true, ltb-false}
@@ -33,7 +33,7 @@ abs-mul (pos a) (negsuc b) = abs-neg (a * suc b)
 abs-mul (negsuc a) (pos b) = abs-neg (suc a * b)
 abs-mul (negsuc a) (negsuc b) = refl
 
-abs-fits : (z : ℤ) → natAbs z < 9223372036854775808 → SFits w64 z
+abs-fits : (z : ℤ) → natAbs z < 2 ^ 63 → SFits w64 z
 abs-fits (pos n) h = record { sfits = omega arith }
 abs-fits (negsuc n) h = record { sfits = omega arith }
 
@@ -42,19 +42,19 @@ mag-abs (pos k) n h = omega arith
 mag-abs (negsuc k) n h = omega arith
 
 -- a coefficient times a sample is at most 2^46 in size
-pub product-size : (c x : ℤ) → SFits w32 c → SFits w16 x → natAbs (c *ℤ x) ≤ 70368744177664
+pub product-size : (c x : ℤ) → SFits w32 c → SFits w16 x → natAbs (c *ℤ x) ≤ 2 ^ 46
 product-size c x f g =
-    let a : natAbs c ≤ 2147483648 = mag-abs c 2147483648 (f .sfits) in
-    let b : natAbs x ≤ 32768 = mag-abs x 32768 (g .sfits) in
+    let a : natAbs c ≤ 2 ^ 31 = mag-abs c (2 ^ 31) (f .sfits) in
+    let b : natAbs x ≤ 2 ^ 15 = mag-abs x (2 ^ 15) (g .sfits) in
     omega (arith, abs-mul c x, mul-le-mul a b)
 
 pub product-fits : (c x : ℤ) → SFits w32 c → SFits w16 x → SFits w64 (c *ℤ x)
 product-fits c x f g = abs-fits (c *ℤ x) (omega (arith, product-size c x f g))
 
-sum-size : (n : ℕ) (f : ℕ → ℤ) → ((k : ℕ) → natAbs (f k) ≤ 70368744177664) → natAbs (sumBelow n f) ≤ n * 70368744177664
+sum-size : (n : ℕ) (f : ℕ → ℤ) → ((k : ℕ) → natAbs (f k) ≤ 2 ^ 46) → natAbs (sumBelow n f) ≤ n * 2 ^ 46
 sum-size zero f h = omega arith
 sum-size (suc n) f h = omega (arith, abs-add (sumBelow n f) (f n), h n, sum-size n f h)
 
 -- 256 such products sum up within 64 bits
-pub sum-fits : (n : ℕ) (f : ℕ → ℤ) → n ≤ 256 → ((k : ℕ) → natAbs (f k) ≤ 70368744177664) → SFits w64 (sumBelow n f)
+pub sum-fits : (n : ℕ) (f : ℕ → ℤ) → n ≤ 256 → ((k : ℕ) → natAbs (f k) ≤ 2 ^ 46) → SFits w64 (sumBelow n f)
 sum-fits n f l h = abs-fits (sumBelow n f) (omega (arith, sum-size n f h))

@@ -1,7 +1,7 @@
 -- Registers and outputs while samples pass, one by one and four by four. Assumes nothing.
 use mathlib.Core.Path.{_≡_, refl, sym, ap, subst, _∙_}
 use mathlib.Core.List.{List, [], _∷_, _++_}
-use Prim.Native.Nat.{ℕ, suc, _+_, _<_, _≤_}
+use Prim.Native.Nat.{ℕ, suc, _+_, _<_, _≤_, _^_}
 use native.Mathlib.Nat.{zero-add}
 use native.Mathlib.Omega.{arith}
 use lib.IntN.{ℤ, pos, _+ℤ_, _*ℤ_}
@@ -13,8 +13,8 @@ use Rattle.run_convolution.specs.Sums.{held}
 use Rattle.run_convolution.specs.Bounds.{Words}
 use Rattle.run_convolution.proofs.Words.{wrapped-lt}
 use Rattle.run_convolution.proofs.Steps.{held-next, next-drop, length-next, length-outputs}
-use Rattle.run_tables.specs.Inner.{Raised, after4, Quiet}
-use Rattle.run_tables.proofs.Quiets.{quiet-four}
+use Rattle.run_tables.specs.Inner.{Raised, after4, ZeroFrom}
+use Rattle.run_tables.proofs.ZeroFrom.{zero-from-four}
 use Rattle.run_moves.proofs.Moves.{moved-all}
 use Rattle.run_kernel.specs.Inner.{Passed}
 
@@ -63,29 +63,29 @@ length-four h x0 x1 x2 x3 r l =
     let e2 : length (next h x2 (next h x1 (next h x0 r))) ≡ length r = length-next h x2 (next h x1 (next h x0 r)) (omega arith) ∙ e1 in
     length-next h x3 (next h x2 (next h x1 (next h x0 r))) (omega arith) ∙ e2
 
-next-word : (h : List ℤ) → length h ≤ 256 → (x : ℤ) (r : List ℕ) (k : ℕ) → held (next h x r) k < 18446744073709551616
+next-word : (h : List ℤ) → length h ≤ 256 → (x : ℤ) (r : List ℕ) (k : ℕ) → held (next h x r) k < 2 ^ 64
 next-word h few x r k = rw (held-next h few x r k) (wrapped-lt (pos (held r (suc k)) +ℤ getD h (suc k) (pos 0) *ℤ x))
 
 module _ (h : List ℤ) (few : length h ≤ 256) (w : ℕ) (v r : List ℕ) (xs outs : List ℤ) where
-  pub passed-none : (words : List ℕ) → Quiet w h r → Raised w v 0 r words → Passed h w v r xs outs 0 0 words outs
-  passed-none words q f = record { registers = r; quiet = q; size = refl; past = refl; fit = λ l. absurd (omega arith); raised = f; to-come = refl; outputs = refl }
+  pub passed-none : (words : List ℕ) → ZeroFrom w h r → Raised w v 0 r words → Passed h w v r xs outs 0 0 words outs
+  passed-none words q f = record { registers = r; zero-from = q; size = refl; past = refl; fit = λ l. absurd (omega arith); raised = f; to-come = refl; outputs = refl }
 
   -- four samples more
   pub passed-four : (i g n : ℕ) (words new : List ℕ) (news outputs : List ℤ) → i + 4 ≤ length xs → 256 ≤ length r
-      → ((s : List ℕ) → Quiet w h s → Raised w v g s words
+      → ((s : List ℕ) → ZeroFrom w h s → Raised w v g s words
       → (Raised w v n (after4 h (getD xs i (pos 0)) (getD xs (i + 1) (pos 0)) (getD xs (i + 2) (pos 0)) (getD xs (i + 3) (pos 0)) s) new)
       × (outputs ≡ sets news i (outputsOf h s (getD xs i (pos 0) ∷ getD xs (i + 1) (pos 0) ∷ getD xs (i + 2) (pos 0) ∷ getD xs (i + 3) (pos 0) ∷ []))))
       → Passed h w v r xs outs i g words news → Passed h w v r xs outs (i + 4) n new outputs
   passed-four i g n words new news outputs l b f p =
       let s = p .registers in
-      let step = f s (p .quiet) (p .raised) in
+      let step = f s (p .zero-from) (p .raised) in
       let y0 = getD xs i (pos 0) in
       let y1 = getD xs (i + 1) (pos 0) in
       let y2 = getD xs (i + 2) (pos 0) in
       let y3 = getD xs (i + 3) (pos 0) in
       record {
         registers = after4 h y0 y1 y2 y3 s;
-        quiet = quiet-four h few w y0 y1 y2 y3 s (p .quiet);
+        zero-from = zero-from-four h few w y0 y1 y2 y3 s (p .zero-from);
         size = length-four h y0 y1 y2 y3 s (omega (arith, b, p .size)) ∙ p .size;
         past = next-drop h y3 _ ∙ next-drop h y2 _ ∙ next-drop h y1 _ ∙ next-drop h y0 s ∙ p .past;
         fit = λ m k. next-word h few y3 (next h y2 (next h y1 (next h y0 s))) k;
@@ -95,20 +95,20 @@ module _ (h : List ℤ) (few : length h ≤ 256) (w : ℕ) (v r : List ℕ) (xs 
       }
 
 -- the same coefficients by another name
-pub passed-same : {g h : List ℤ} {w : ℕ} {v r : List ℕ} {xs outs : List ℤ} {i gain : ℕ} {words : List ℕ} {news : List ℤ} → g ≡ h
-    → Passed g w v r xs outs i gain words news → Passed h w v r xs outs i gain words news
-passed-same {w = w} {v = v} {r = r} {xs = xs} {outs = outs} {i = i} {gain = gain} {words = words} {news = news} e p = subst (λ f. Passed f w v r xs outs i gain words news) e p
+pub passed-same : {g h : List ℤ} {w : ℕ} {v r : List ℕ} {xs outs : List ℤ} {i bias : ℕ} {words : List ℕ} {news : List ℤ} → g ≡ h
+    → Passed g w v r xs outs i bias words news → Passed h w v r xs outs i bias words news
+passed-same {w = w} {v = v} {r = r} {xs = xs} {outs = outs} {i = i} {bias = bias} {words = words} {news = news} e p = subst (λ f. Passed f w v r xs outs i bias words news) e p
 
 -- the registers that the words stand for, once they are lowered
-pub lowered-to : {h : List ℤ} {w : ℕ} {v r : List ℕ} {xs outs : List ℤ} {i gain : ℕ} {words : List ℕ} {news : List ℤ} → length h ≡ 256 → 256 ≤ length r → w ≤ 256 → 0 < i
-    → Quiet w h r → (p : Passed h w v r xs outs i gain words news) → (new : List ℕ)
-    → ((s : List ℕ) → Words s → Raised w v gain s words → new ≡ front (held s) r w) → new ≡ p .registers
+pub lowered-to : {h : List ℤ} {w : ℕ} {v r : List ℕ} {xs outs : List ℤ} {i bias : ℕ} {words : List ℕ} {news : List ℤ} → length h ≡ 256 → 256 ≤ length r → w ≤ 256 → 0 < i
+    → ZeroFrom w h r → (p : Passed h w v r xs outs i bias words news) → (new : List ℕ)
+    → ((s : List ℕ) → Words s → Raised w v bias s words → new ≡ front (held s) r w) → new ≡ p .registers
 lowered-to {h = h} {w = w} {r = r} n l b k q p new f =
-    moved-all h (omega arith) w r (p .registers) l b q (p .quiet) (p .size) (p .past) new (f (p .registers) (p .fit k) (p .raised))
+    moved-all h (omega arith) w r (p .registers) l b q (p .zero-from) (p .size) (p .past) new (f (p .registers) (p .fit k) (p .raised))
 
-module _ {h : List ℤ} {w : ℕ} {v r : List ℕ} {xs outs : List ℤ} {i gain : ℕ} {words : List ℕ} {news : List ℤ} (p : Passed h w v r xs outs i gain words news) {new : List ℕ} (e : new ≡ p .registers) where
-  pub passed-quiet : Quiet w h new
-  passed-quiet = subst (Quiet w h) (sym e) (p .quiet)
+module _ {h : List ℤ} {w : ℕ} {v r : List ℕ} {xs outs : List ℤ} {i bias : ℕ} {words : List ℕ} {news : List ℤ} (p : Passed h w v r xs outs i bias words news) {new : List ℕ} (e : new ≡ p .registers) where
+  pub passed-zero-from : ZeroFrom w h new
+  passed-zero-from = subst (ZeroFrom w h) (sym e) (p .zero-from)
 
   pub passed-registers : registersOf h new (drop i xs) ≡ registersOf h r xs
   passed-registers = ap (λ s. registersOf h s (drop i xs)) e ∙ p .to-come

@@ -1,11 +1,10 @@
-// Samples through 256 coefficients and 256 registers, one by one. All functions here are internal:
-// they serve the crate `run_kernel`.
+// Samples through 256 coefficients and 256 registers, one by one.
 ghost use mathlib.Core.Path.{_≡_};
 ghost use Prim.Native.Nat.{_≤_, min};
 ghost use lib.ListN.{length, drop};
 ghost use lib.Seq.{sets};
 ghost use Rattle.run_convolution.specs.Running.{next, outputsOf, registersOf};
-ghost use Rattle.run_tables.specs.Inner.{Quiet};
+ghost use Rattle.run_tables.specs.Inner.{ZeroFrom};
 use run_products::signed;
 use run_products::sum;
 
@@ -17,7 +16,7 @@ fn least(a: usize, b: usize) -> usize
 
 // The registers after one sample; those from w on are 0 and stay so.
 fn move_one(h: &[i32; 256], x: i16, w: usize, registers: &mut [u64])
-    requires { ⌜ (length (now h) ≡ 256) × ((256 ≤ length (now registers)) × (Quiet w (now h) (now registers))) ⌝ }
+    requires { ⌜ (length (now h) ≡ 256) × ((256 ≤ length (now registers)) × (ZeroFrom w (now h) (now registers))) ⌝ }
     ensures { λ _. ⌜ now (registers .exit) ≡ next (now (h .entry)) x (now (registers .entry)) ⌝ }
 {
     let n = least(w, 255);
@@ -39,7 +38,7 @@ pub fn singly(
     outputs: &mut [i64],
 )
     requires { ⌜ ((length (now h) ≡ 256) × ((start ≤ length (now samples))
-        × ((256 ≤ length (now registers)) × (length (now samples) ≤ length (now outputs))))) × (Quiet w (now h) (now registers)) ⌝ }
+        × ((256 ≤ length (now registers)) × (length (now samples) ≤ length (now outputs))))) × (ZeroFrom w (now h) (now registers)) ⌝ }
     ensures { λ _. ⌜ now (registers .exit) ≡ registersOf (now (h .entry)) (now (registers .entry)) (drop start (now (samples .entry))) ⌝ }
     ensures { λ _. ⌜ now (outputs .exit) ≡ sets (now (outputs .entry)) start
         (outputsOf (now (h .entry)) (now (registers .entry)) (drop start (now (samples .entry)))) ⌝ }

@@ -1,3 +1,3 @@
-pub mod Quiets
+pub mod ZeroFrom
 pub mod Filling
 pub mod Backward

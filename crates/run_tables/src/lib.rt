@@ -1,38 +1,37 @@
 // The tables of a running call: its coefficients in offset binary, with four zeros before and after
-// them, and the levels. All functions here are internal: they serve the crates `run_passes` and
-// `run_kernel`.
+// them, and the offsets that samples in offset binary leave in the registers.
 ghost use mathlib.Core.Path.{_≡_};
-ghost use Prim.Native.Nat.{ℕ, _≤_};
+ghost use Prim.Native.Nat.{ℕ, _^_, _≤_};
 ghost use lib.IntN.{pos};
 ghost use lib.ListN.{length, getD, replicate};
-ghost use Rattle.run_tables.specs.Inner.{coefficientsIn, Padded, Blank, Levelled};
+ghost use Rattle.run_tables.specs.Inner.{coefficientsIn, Padded, StoredZeroFrom, OffsetsOf};
 
 mod width;
 
-use run_products::level_below;
+use run_products::offset_below;
 use run_products::offset_coefficient;
 pub use width::used;
 
 // Fills a table that holds zeros in offset binary; from w on, coefficients are 0.
-pub fn offset_all(h: &[i32; 256], w: usize, c: &mut [u64; 264])
-    requires { ⌜ ((length (now h) ≡ 256) × (w ≤ 256)) × ((now c ≡ replicate 264 2147483648) × ((k : ℕ) → w ≤ k → getD (now h) k (pos 0) ≡ pos 0)) ⌝ }
-    ensures { λ _. ⌜ (Padded (now (c .exit))) × ((coefficientsIn (now (c .exit)) ≡ now (h .entry)) × (Blank w (now (c .exit)))) ⌝ }
+pub fn fill_coefficients(h: &[i32; 256], w: usize, stored: &mut [u64; 264])
+    requires { ⌜ ((length (now h) ≡ 256) × (w ≤ 256)) × ((now stored ≡ replicate 264 (2 ^ 31)) × ((k : ℕ) → w ≤ k → getD (now h) k (pos 0) ≡ pos 0)) ⌝ }
+    ensures { λ _. ⌜ (Padded (now (stored .exit))) × ((coefficientsIn (now (stored .exit)) ≡ now (h .entry)) × (StoredZeroFrom w (now (stored .exit)))) ⌝ }
 {
     let mut k: usize = 0;
     while k < w {
-        c[k + 4] = offset_coefficient(h[k]);
+        stored[k + 4] = offset_coefficient(h[k]);
         k += 1;
     }
 }
 
-// Fills a table of zeros with the levels, from the last place in use to the first.
-pub fn levels(c: &[u64; 264], w: usize, v: &mut [u64; 265])
-    requires { ⌜ (w ≤ 256) × ((now v ≡ replicate 265 0) × (Blank w (now c))) ⌝ }
-    ensures { λ _. ⌜ Levelled (now (c .entry)) (now (v .exit)) ⌝ }
+// Fills a table of zeros with the offsets, from the last place in use to the first.
+pub fn fill_offsets(stored: &[u64; 264], w: usize, offsets: &mut [u64; 265])
+    requires { ⌜ (w ≤ 256) × ((now offsets ≡ replicate 265 0) × (StoredZeroFrom w (now stored))) ⌝ }
+    ensures { λ _. ⌜ OffsetsOf (now (stored .entry)) (now (offsets .exit)) ⌝ }
 {
     let mut j = w + 4;
     while j > 0 {
         j -= 1;
-        v[j] = level_below(v[j + 1], c[j]);
+        offsets[j] = offset_below(offsets[j + 1], stored[j]);
     }
 }

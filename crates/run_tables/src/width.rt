@@ -2,13 +2,12 @@
 ghost use mathlib.Core.Path.{_≡_};
 ghost use Prim.Native.Nat.{_≤_};
 ghost use lib.ListN.{length};
-ghost use Rattle.run_tables.specs.Inner.{Quiet};
+ghost use Rattle.run_tables.specs.Inner.{ZeroFrom};
 
-// From the number returned on, registers and coefficients are 0. Internal: the crate `run_kernel` brings
-// tables that are long enough.
+// From the number returned on, registers and coefficients are 0.
 pub fn used(h: &[i32; 256], registers: &[u64]) -> usize
     requires { ⌜ (length (now h) ≡ 256) × (256 ≤ length (now registers)) ⌝ }
-    ensures { λ r. ⌜ (r ≤ 256) × (Quiet r (now (h .entry)) (now (registers .entry))) ⌝ }
+    ensures { λ r. ⌜ (r ≤ 256) × (ZeroFrom r (now (h .entry)) (now (registers .entry))) ⌝ }
 {
     let mut w: usize = 256;
     while w > 0 {

@@ -1,4 +1,4 @@
--- `fir_forms::fir_minimal_forms` meets its contract. Assumes nothing.
+-- `fir_forms::fir_minimal_forms` meets its contract. By the case of the answer, which settles the word and the count; the tables are as `minimal_forms` leaves them. Assumes nothing.
 use borrow.Author.Needs.{needs}
 use mathlib.Core.Path.{sym, ap, _∙_, subst}
 use Prim.Native.Nat.{ℕ}

@@ -1,4 +1,4 @@
--- `fir_taps::fir_round_taps` meets its contract. Assumes nothing.
+-- `fir_taps::fir_round_taps` meets its contract. By the case of the answer. A report's two numbers are no not-a-numbers, so they have bits (`numbers`). Assumes nothing.
 use borrow.Author.Needs.{needs}
 use mathlib.Core.Path.{refl, sym, ap, subst}
 use mathlib.Core.Bool.{Bool, not}
@@ -8,7 +8,7 @@ use Rattle.refusal.specs.Answer.{Answer, given, turnedDown}
 use Rattle.tap_set.specs.declared.Report.{Report}
 use Rattle.tap_set.specs.Set.{answerOf, TapsRounded}
 use Rattle.tap_set.proofs.Claims.{set-claims}
-use Rattle.fir_words.specs.Words.{isSet}
+use Rattle.fir_taps.specs.Rounding.{isSet}
 use Rattle.fir_taps.proofs.fir_round_taps.Statement.{statement}
 use Rattle.fir_taps.proofs.fir_round_taps.Tie as tie
 

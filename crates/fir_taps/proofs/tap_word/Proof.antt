@@ -1,13 +1,13 @@
--- `fir_taps::tap_word` meets its contract. Assumes nothing.
+-- `fir_taps::tap_word` meets its contract. By the case of the result: the pattern of N, or the refusal number in the upper half. Assumes nothing.
 use borrow.Author.Needs.{needs}
 use mathlib.Core.Path.{sym, ap, _∙_}
-use Prim.Native.Nat.{ℕ, _*_}
+use Prim.Native.Nat.{ℕ, _*_, _^_}
 use mir.Syntax.{w32}
 use mir.Val.{ofZ}
 use mir.ValLaws.{toZ-ofZ}
 use Rattle.tap.specs.declared.RoundedTap.{RoundedTap}
 use Rattle.tap.specs.Rounding.{answerOf}
-use Rattle.fir_words.specs.Words.{tapWord}
+use Rattle.fir_taps.specs.Rounding.{tapWord}
 use Rattle.fir_taps.proofs.tap_word.Statement.{statement}
 use Rattle.fir_taps.proofs.tap_word.Tie as tie
 
@@ -55,7 +55,7 @@ returns-2 c =
     c .pattern2 .ensures ∙ ap (ofZ w32) (toZ-ofZ w32 (g .0 .0) (record { sfits = c .before .known-told2 .given .0 .1 })) ∙ ap wordOf (sym (g .1))
 
 returns-3 : tie.Need-returns-3
-returns-3 c = ap (λ (n : ℕ). n * 4294967296) (c .number .ensures) ∙ ap wordOf (sym (c .before .before .tap3 .given .1))
+returns-3 c = ap (λ (n : ℕ). n * 2 ^ 32) (c .number .ensures) ∙ ap wordOf (sym (c .before .before .tap3 .given .1))
 
 pub tap-word-spec : {M : Type 1} → statement M
 tap-word-spec =

@@ -1,4 +1,4 @@
--- `run_kernel::feed` meets its contract. Assumes nothing.
+-- `run_kernel::feed` meets its contract. Where there are four samples or more, `by_fours` leaves registers and outputs from which the samples left over give those of the whole run, and `singly` runs these. Assumes nothing.
 use mathlib.Core.Path.{_∙_}
 use native.Mathlib.Omega.{arith}
 use borrow.Author.Needs.{needs}

@@ -1,11 +1,11 @@
--- `run_kernel::fours` meets its contract. Assumes nothing.
+-- `run_kernel::fours` meets its contract. The invariant: i samples, a multiple of four, have passed; the words are the registers after them, raised by their offsets and the bias, and the outputs of these samples are written (`Passed`, of whatever registers the words stood for at the start). The measure is the number of samples left, which falls by four. Assumes nothing.
 use Prim.Native.Nat.{ℕ, _≤_, _-_, _+_, _%_}
 use mathlib.Core.Path.{_≡_, refl, subst}
 use mathlib.Core.List.{List}
 use native.Mathlib.Omega.{arith}
 use lib.ListN.{length}
 use borrow.Author.Needs.{needs}
-use Rattle.run_tables.specs.Inner.{coefficientsIn, Raised, Quiet}
+use Rattle.run_tables.specs.Inner.{coefficientsIn, Raised, ZeroFrom}
 use Rattle.run_moves.proofs.Places.{length-in}
 use Rattle.run_kernel.specs.Inner.{Passed}
 use Rattle.run_kernel.proofs.Passes.{passed-none, passed-four}
@@ -13,17 +13,17 @@ use Rattle.run_kernel.proofs.fours.Statement.{statement}
 use Rattle.run_kernel.proofs.fours.Tie as tie
 
 abbrev Inv-loop : tie.InvT-loop
-Inv-loop c v w samples words₀ outputs₀ gain₀ i₀ words outputs gain i =
+Inv-loop stored offsets w samples words₀ outputs₀ bias₀ i₀ words outputs bias i =
     ((i ≤ length samples) × (i % 4 ≡ 0)) × (((length words ≡ 260) × (length outputs ≡ length outputs₀))
-    × ((r : List ℕ) → 256 ≤ length r → Quiet w (coefficientsIn c) r → Raised w v 0 r words₀ → Passed (coefficientsIn c) w v r samples outputs₀ i gain words outputs))
+    × ((r : List ℕ) → 256 ≤ length r → ZeroFrom w (coefficientsIn stored) r → Raised w offsets 0 r words₀ → Passed (coefficientsIn stored) w offsets r samples outputs₀ i bias words outputs))
 
 abbrev μ-loop : tie.MeasureT-loop
-μ-loop c v w samples words₀ outputs₀ gain₀ i₀ words outputs gain i = length samples - i
+μ-loop stored offsets w samples words₀ outputs₀ bias₀ i₀ words outputs bias i = length samples - i
 
 loop-holds : tie.Need-loop-holds Inv-loop μ-loop
 loop-holds c =
     let a = c .args in
-    ((search needs, refl), ((c .pre .0 .1, refl), λ r l q f. passed-none (coefficientsIn (a .c .now)) (omega (arith, length-in (a .c .now))) (a .w) (a .v .now) r (a .samples .now) (a .outputs .now) (a .words .now) q f))
+    ((search needs, refl), ((c .pre .0 .1, refl), λ r l q f. passed-none (coefficientsIn (a .stored .now)) (omega (arith, length-in (a .stored .now))) (a .w) (a .offsets .now) r (a .samples .now) (a .outputs .now) (a .words .now) q f))
 
 sub-loop : tie.Need-sub-loop Inv-loop μ-loop
 sub-loop c = search needs
@@ -57,7 +57,7 @@ loop-again c =
       (
         (of .of-four .ensures .0, search needs),
         (λ r b q f.
-            passed-four (coefficientsIn (a .c .now)) (omega (arith, length-in (a .c .now))) (a .w) (a .v .now) r (a .samples .now) (a .outputs .now) i (at .loop .gain) _ (at .loop .words) _ (at .loop .outputs) _ l b
+            passed-four (coefficientsIn (a .stored .now)) (omega (arith, length-in (a .stored .now))) (a .w) (a .offsets .now) r (a .samples .now) (a .outputs .now) i (at .loop .bias) _ (at .loop .words) _ (at .loop .outputs) _ l b
             (of .of-four .ensures .1) (at .loop .inv .1 .1 r b q f)),
       ),
     )
@@ -72,7 +72,7 @@ returns c =
     let n = length (a .samples .now) in
     let e : at .loop .i ≡ n - n % 4 = omega (arith, at .loop .inv .0 .0, at .loop .inv .0 .1, c .loop-test .left) in
     λ r b q f.
-    subst (λ i. Passed (coefficientsIn (a .c .now)) (a .w) (a .v .now) r (a .samples .now) (a .outputs .now) i (at .loop .gain) (at .loop .words) (at .loop .outputs)) e (at .loop .inv .1 .1 r b q f)
+    subst (λ i. Passed (coefficientsIn (a .stored .now)) (a .w) (a .offsets .now) r (a .samples .now) (a .outputs .now) i (at .loop .bias) (at .loop .words) (at .loop .outputs)) e (at .loop .inv .1 .1 r b q f)
 
 pub fours-spec : {M : Type 1} → statement M
 fours-spec =

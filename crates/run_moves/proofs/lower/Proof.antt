@@ -1,4 +1,4 @@
--- `run_moves::lower` meets its contract. Assumes nothing.
+-- `run_moves::lower` meets its contract. The invariant: the first k registers are those that the words were raised from, whichever these are, and the others are the old ones. A word is raised from one number only (`raised-one`), so what `lowered` gives is the register. The measure is w - k. Assumes nothing.
 use Prim.Native.Nat.{ℕ, _≤_, _-_, _+_, _<_}
 use mathlib.Core.Path.{_≡_, refl, sym, ap, _∙_}
 use mathlib.Core.List.{List}
@@ -15,11 +15,11 @@ use Rattle.run_moves.proofs.lower.Statement.{statement}
 use Rattle.run_moves.proofs.lower.Tie as tie
 
 abbrev Inv-loop : tie.InvT-loop
-Inv-loop v w gain words registers₀ k₀ registers k =
-    (k ≤ w) × (((r : List ℕ) → Words r → Raised w v gain r words → registers ≡ front (held r) registers₀ k) × (length registers ≡ length registers₀))
+Inv-loop offsets w bias words registers₀ k₀ registers k =
+    (k ≤ w) × (((r : List ℕ) → Words r → Raised w offsets bias r words → registers ≡ front (held r) registers₀ k) × (length registers ≡ length registers₀))
 
 abbrev μ-loop : tie.MeasureT-loop
-μ-loop v w gain words registers₀ k₀ registers k = w - k
+μ-loop offsets w bias words registers₀ k₀ registers k = w - k
 
 loop-holds : tie.Need-loop-holds Inv-loop μ-loop
 loop-holds c = (search needs, ((λ r f g. sym (front-start _ _)), refl))
@@ -65,7 +65,7 @@ loop-again c =
       search needs,
       (
         (λ r f g.
-            let v : c .lowered .result ≡ held r k = raised-one (getD (a .v .now) (k + 5) 0) (a .gain) (c .lowered .result) (held r k) (omega arith) (f k) (c .lowered .ensures ∙ g .at k l) in
+            let v : c .lowered .result ≡ held r k = raised-one (getD (a .offsets .now) (k + 5) 0) (a .bias) (c .lowered .result) (held r k) (omega arith) (f k) (c .lowered .ensures ∙ g .at k l) in
             ap (λ q. set q k (c .lowered .result)) (at .loop .inv .1 .0 r f g) ∙ ap (set (front (held r) (a .registers .now) k) k) v ∙ front-next (held r) (a .registers .now) k 0 n),
         simp length-set (at .loop .inv .1 .1),
       ),

@@ -1,4 +1,4 @@
--- `run_moves::raise` meets its contract. Assumes nothing.
+-- `run_moves::raise` meets its contract. The invariant: the first k words are the first k registers, raised, and the others are the old ones. The measure is w - k. Assumes nothing.
 use Prim.Native.Nat.{ℕ, _≤_, _-_, _+_, _<_}
 use mathlib.Core.Path.{_≡_, sym, ap, _∙_}
 use native.Mathlib.Omega.{arith}
@@ -12,11 +12,11 @@ use Rattle.run_moves.proofs.raise.Statement.{statement}
 use Rattle.run_moves.proofs.raise.Tie as tie
 
 abbrev Inv-loop : tie.InvT-loop
-Inv-loop v w registers words₀ k₀ words k =
-    (k ≤ w) × ((words ≡ front (λ i. raisedBy (getD v (i + 5) 0) 0 (getD registers i 0)) words₀ k) × (length words ≡ 260))
+Inv-loop offsets w registers words₀ k₀ words k =
+    (k ≤ w) × ((words ≡ front (λ i. raisedBy (getD offsets (i + 5) 0) 0 (getD registers i 0)) words₀ k) × (length words ≡ 260))
 
 abbrev μ-loop : tie.MeasureT-loop
-μ-loop v w registers words₀ k₀ words k = w - k
+μ-loop offsets w registers words₀ k₀ words k = w - k
 
 loop-holds : tie.Need-loop-holds Inv-loop μ-loop
 loop-holds c = (search needs, (sym (front-start _ _), c .before .pre .1 .1))
@@ -57,7 +57,7 @@ loop-again c =
     let st = at .before .before in
     let a = st .args in
     let k = at .loop .k in
-    let f : ℕ → ℕ = λ i. raisedBy (getD (a .v .now) (i + 5) 0) 0 (getD (a .registers .now) i 0) in
+    let f : ℕ → ℕ = λ i. raisedBy (getD (a .offsets .now) (i + 5) 0) 0 (getD (a .registers .now) i 0) in
     let n : k < length (a .words .now) = omega (arith, c .before .before .before .loop-test .taken, st .pre .0, st .pre .1 .1) in (
       search needs,
       (
@@ -76,7 +76,7 @@ returns c =
       record {
         at =
             λ k l. ap (λ q. getD q k 0) (at .loop .inv .1 .0) ∙ front-done _ (a .words .now) (at .loop .k) k 0 (omega (arith, e, l))
-            ∙ ap (raisedBy (getD (a .v .now) (k + 5) 0) 0) (sym (held-low (a .registers .now) k (omega (arith, l, st .pre .0))));
+            ∙ ap (raisedBy (getD (a .offsets .now) (k + 5) 0) 0) (sym (held-low (a .registers .now) k (omega (arith, l, st .pre .0))));
       },
     )
 

@@ -1,4 +1,4 @@
--- `run_moves::slide` meets its contract. Assumes nothing.
+-- `run_moves::slide` meets its contract. The invariant: the first k words are those four places on, worked out, and the others are the old ones; so the word at k + 4, which is read next, is an old one. The measure is n - k. Assumes nothing.
 use Prim.Native.Nat.{ℕ, _≤_, _-_, _+_, _<_}
 use mathlib.Core.Path.{_≡_, sym, ap, _∙_}
 use native.Mathlib.Omega.{arith}
@@ -11,11 +11,11 @@ use Rattle.run_moves.proofs.slide.Statement.{statement}
 use Rattle.run_moves.proofs.slide.Tie as tie
 
 abbrev Inv-loop : tie.InvT-loop
-Inv-loop c y0 y1 y2 y3 n words₀ k₀ words k =
-    (k ≤ n) × ((words ≡ front (λ i. placed c y0 y1 y2 y3 (i + 4) (getD words₀ (i + 4) 0)) words₀ k) × (length words ≡ 260))
+Inv-loop stored y0 y1 y2 y3 n words₀ k₀ words k =
+    (k ≤ n) × ((words ≡ front (λ i. placed stored y0 y1 y2 y3 (i + 4) (getD words₀ (i + 4) 0)) words₀ k) × (length words ≡ 260))
 
 abbrev μ-loop : tie.MeasureT-loop
-μ-loop c y0 y1 y2 y3 n words₀ k₀ words k = n - k
+μ-loop stored y0 y1 y2 y3 n words₀ k₀ words k = n - k
 
 loop-holds : tie.Need-loop-holds Inv-loop μ-loop
 loop-holds c = (search needs, (sym (front-start _ _), c .pre .1))
@@ -54,9 +54,9 @@ loop-again c =
     let a = st .args in
     let r = a .words .now in
     let k = at .loop .k in
-    let f : ℕ → ℕ = λ i. placed (a .c .now) (a .y0) (a .y1) (a .y2) (a .y3) (i + 4) (getD r (i + 4) 0) in
+    let f : ℕ → ℕ = λ i. placed (a .stored .now) (a .y0) (a .y1) (a .y2) (a .y3) (i + 4) (getD r (i + 4) 0) in
     let e : getD (at .loop .words) (k + 4) 0 ≡ getD r (k + 4) 0 = ap (λ q. getD q (k + 4) 0) (at .loop .inv .1 .0) ∙ front-read f r k 4 0 in
-    let v : c .place .result ≡ f k = c .place .ensures ∙ ap (placed (a .c .now) (a .y0) (a .y1) (a .y2) (a .y3) (k + 4)) e in
+    let v : c .place .result ≡ f k = c .place .ensures ∙ ap (placed (a .stored .now) (a .y0) (a .y1) (a .y2) (a .y3) (k + 4)) e in
     let n : k < length r = omega (arith, c .before .before .loop-test .taken, st .pre .0, st .pre .1) in (
       search needs,
       (
@@ -70,7 +70,7 @@ returns c =
     let at = c .before in
     let a = at .before .args in
     let e : at .loop .k ≡ a .n = omega (arith, at .loop .inv .0, c .loop-test .left) in
-    at .loop .inv .1 .0 ∙ ap (front (λ i. placed (a .c .now) (a .y0) (a .y1) (a .y2) (a .y3) (i + 4) (getD (a .words .now) (i + 4) 0)) (a .words .now)) e
+    at .loop .inv .1 .0 ∙ ap (front (λ i. placed (a .stored .now) (a .y0) (a .y1) (a .y2) (a .y3) (i + 4) (getD (a .words .now) (i + 4) 0)) (a .words .now)) e
 
 pub slide-spec : {M : Type 1} → statement M
 slide-spec =

@@ -1,4 +1,4 @@
--- `run_network::run` meets its contract. Assumes nothing.
+-- `run_network::run` meets its contract. Where the network passes, the buffer holds its coefficients and zeros after them (`held`), and `feed` runs the samples through these; zeros past the last tap change nothing. Else nothing is written. Assumes nothing.
 use mathlib.Core.Path.{_≡_, sym, ap, _∙_}
 use mathlib.Core.Bool.{_||_}
 use mathlib.Core.List.{List}

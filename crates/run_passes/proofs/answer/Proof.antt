@@ -1,4 +1,4 @@
--- `run_passes::answer` meets its contract. Assumes nothing.
+-- `run_passes::answer` meets its contract. Each of the four outputs is what its place comes to, which is the output of its sample (`output-place0` and so on); four stores in a row are the outputs of four samples (`four-outputs`). Assumes nothing.
 use mathlib.Core.Path.{refl, ap, _∙_}
 use native.Mathlib.Omega.{arith}
 use lib.ListN.{length-set}
@@ -70,7 +70,7 @@ returns c =
     let q1 = c .before .before .before .output in
     let st = c .before .before .before .before in
     let a = st .args in
-    let t = a .c .now in
+    let t = a .stored .now in
     let p = st .pre .1 .0 in
     let x0 = sampleIn (a .y0) in
     let x1 = sampleIn (a .y1) in

@@ -1,4 +1,4 @@
--- `run_passes::of_four` meets its contract. Assumes nothing.
+-- `run_passes::of_four` meets its contract. `top` makes the registers four more, all 0, so that every place in use has a word four places on. Then `slide` leaves the registers four samples on, raised by the bias after them (`slide-raised`), and `answer` the outputs. Assumes nothing.
 use Prim.Native.Nat.{_+_, _≤_}
 use mathlib.Core.Path.{ap, _∙_}
 use native.Mathlib.Omega.{arith}
@@ -59,8 +59,8 @@ shared-slice-copy-out-offset-sample-4 c = search needs
 offset-sample-requires-4 : tie.Need-offset-sample-requires-4
 offset-sample-requires-4 c κs = search needs
 
-gain-after-requires : tie.Need-gain-after-requires
-gain-after-requires c κs = search needs
+bias-after-requires : tie.Need-bias-after-requires
+bias-after-requires c κs = search needs
 
 top-requires : tie.Need-top-requires
 top-requires c κs = search needs
@@ -85,8 +85,8 @@ returns c =
     let q0 = q1 .before .before in
     let st = q0 .before .before in
     let a = st .args in
-    let t = a .c .now in
-    let v = a .v .now in
+    let t = a .stored .now in
+    let v = a .offsets .now in
     let h = coefficientsIn t in
     let w = a .w in
     let xs = a .samples .now in
@@ -103,10 +103,10 @@ returns c =
       ap length (c .slide .ensures) ∙ front-length _ (to .top .last .1 .1 .1 .0) w n ∙ to .top .ensures .0,
       (λ r q f.
           let high = to .top .ensures .1 r (λ k l. q k l .0) f in
-          let low : Raised 4 v (a .gain) r (to .top .last .1 .1 .1 .0) = record { at = λ k l. high .at k (omega (arith, l)) } in
-          let new = slide-raised t v (st .pre .1 .1 .1) y0 y1 y2 y3 (omega arith) (omega arith) (omega arith) (omega arith) (a .gain) (st .pre .1 .1 .0) w r (to .top .last .1 .1 .1 .0) _ (st .pre .0 .0) high (c .slide .ensures) in (
-            same-raised h r _ _ _ _ _ _ _ _ e0 e1 e2 e3 (ga .gain-after .ensures) new,
-            an .answer .ensures (a .gain) r (ga .gain-after .ensures) low ∙ same-outputs h r _ _ _ _ _ _ _ _ e0 e1 e2 e3 (a .outputs .now) i,
+          let low : Raised 4 v (a .bias) r (to .top .last .1 .1 .1 .0) = record { at = λ k l. high .at k (omega (arith, l)) } in
+          let new = slide-raised t v (st .pre .1 .1 .1) y0 y1 y2 y3 (omega arith) (omega arith) (omega arith) (omega arith) (a .bias) (st .pre .1 .1 .0) w r (to .top .last .1 .1 .1 .0) _ (st .pre .0 .0) high (c .slide .ensures) in (
+            same-raised h r _ _ _ _ _ _ _ _ e0 e1 e2 e3 (ga .bias-after .ensures) new,
+            an .answer .ensures (a .bias) r (ga .bias-after .ensures) low ∙ same-outputs h r _ _ _ _ _ _ _ _ e0 e1 e2 e3 (a .outputs .now) i,
           )),
     )
 
@@ -129,7 +129,7 @@ of-four-spec =
     mul-offset-sample-4
     shared-slice-copy-out-offset-sample-4
     offset-sample-requires-4
-    gain-after-requires
+    bias-after-requires
     top-requires
     answer-requires
     slide-requires

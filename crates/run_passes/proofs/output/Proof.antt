@@ -1,4 +1,4 @@
--- `run_passes::output` meets its contract. Assumes nothing.
+-- `run_passes::output` meets its contract. What `place` makes of a raised word is the sum, raised by the offset of the output's place and by the bias after the four samples (`place-raised`); a word is raised from one number only (`raised-one`), so `lowered` gives the sum. Assumes nothing.
 use Prim.Native.Nat.{_+_}
 use mathlib.Core.Path.{_≡_, sym, ap, _∙_}
 use native.Mathlib.Omega.{arith}
@@ -8,7 +8,7 @@ use mir.Syntax.{w64}
 use mir.Val.{toZ}
 use mir.ValLaws.{toZ-ofZ}
 use Rattle.run_convolution.specs.Sums.{held}
-use Rattle.run_products.specs.Inner.{coefficientIn, sampleIn, fourSums, gainAfter, raisedBy}
+use Rattle.run_products.specs.Inner.{coefficientIn, sampleIn, fourSums, biasAfter, raisedBy}
 use Rattle.run_products.proofs.FourSums.{four-word, raised-one}
 use Rattle.run_moves.specs.Inner.{placed}
 use Rattle.run_moves.proofs.Raising.{place-raised}
@@ -45,16 +45,16 @@ returns c =
     let pl = c .before .before .before .place in
     let st = c .before .before .before .before .before in
     let a = st .args in
-    let t = a .c .now in
-    let v = a .v .now in
+    let t = a .stored .now in
+    let v = a .offsets .now in
     let j = a .j in
     λ g r e f.
     let s = fourSums (held r j) (coefficientIn (getD t (j + 4) 0)) (coefficientIn (getD t (j + 3) 0)) (coefficientIn (getD t (j + 2) 0)) (coefficientIn (getD t (j + 1) 0)) (sampleIn (a .y0)) (sampleIn (a .y1)) (sampleIn (a .y2)) (sampleIn (a .y3)) in
-    let p : pl .result ≡ raisedBy (getD v (j + 1) 0) (gainAfter g (a .y0) (a .y1) (a .y2) (a .y3)) s =
+    let p : pl .result ≡ raisedBy (getD v (j + 1) 0) (biasAfter g (a .y0) (a .y1) (a .y2) (a .y3)) s =
     pl .ensures ∙ ap (placed t (a .y0) (a .y1) (a .y2) (a .y3) j) (f .at j (st .pre .0))
     ∙ place-raised t v (st .pre .1) (a .y0) (a .y1) (a .y2) (a .y3) (omega arith) (omega arith) (omega arith) (omega arith) g j (held r j) (omega (arith, st .pre .0)) in
-    let q : raisedBy (getD v (j + 1) 0) (a .gain) (lo .result) ≡ raisedBy (getD v (j + 1) 0) (a .gain) s = lo .ensures ∙ p ∙ ap (λ n. raisedBy (getD v (j + 1) 0) n s) (sym e) in
-    toZ-ofZ w64 (c .signed .result) (record { sfits = c .signed .ok }) ∙ c .signed .ensures ∙ ap (toZ w64) (raised-one (getD v (j + 1) 0) (a .gain) (lo .result) s (omega arith) (four-word (held r j) _ _ _ _ _ _ _ _) q)
+    let q : raisedBy (getD v (j + 1) 0) (a .bias) (lo .result) ≡ raisedBy (getD v (j + 1) 0) (a .bias) s = lo .ensures ∙ p ∙ ap (λ n. raisedBy (getD v (j + 1) 0) n s) (sym e) in
+    toZ-ofZ w64 (c .signed .result) (record { sfits = c .signed .ok }) ∙ c .signed .ensures ∙ ap (toZ w64) (raised-one (getD v (j + 1) 0) (a .bias) (lo .result) s (omega arith) (four-word (held r j) _ _ _ _ _ _ _ _) q)
 
 pub output-spec : {M : Type 1} → statement M
 output-spec =

@@ -1,4 +1,4 @@
--- `run_passes::top` meets its contract. Assumes nothing.
+-- `run_passes::top` meets its contract. The invariant: the first k words are registers, raised, with k from w to w + 4; the registers from w on are 0, so their words are 0, raised. The measure is w + 4 - k. Assumes nothing.
 use Prim.Native.Nat.{ℕ, _≤_, _-_, _+_, _<_}
 use mathlib.Core.Path.{_≡_, subst}
 use mathlib.Core.List.{List}
@@ -12,11 +12,11 @@ use Rattle.run_passes.proofs.top.Statement.{statement}
 use Rattle.run_passes.proofs.top.Tie as tie
 
 abbrev Inv-loop : tie.InvT-loop
-Inv-loop v w gain words₀ k₀ words k =
-    ((w ≤ k) × (k ≤ w + 4)) × (((r : List ℕ) → ((i : ℕ) → w ≤ i → held r i ≡ 0) → Raised w v gain r words₀ → Raised k v gain r words) × (length words ≡ 260))
+Inv-loop offsets w bias words₀ k₀ words k =
+    ((w ≤ k) × (k ≤ w + 4)) × (((r : List ℕ) → ((i : ℕ) → w ≤ i → held r i ≡ 0) → Raised w offsets bias r words₀ → Raised k offsets bias r words) × (length words ≡ 260))
 
 abbrev μ-loop : tie.MeasureT-loop
-μ-loop v w gain words₀ k₀ words k = w + 4 - k
+μ-loop offsets w bias words₀ k₀ words k = w + 4 - k
 
 loop-holds : tie.Need-loop-holds Inv-loop μ-loop
 loop-holds c = ((search needs, search needs), ((λ r z f. f), c .pre .1))
@@ -57,7 +57,7 @@ loop-again c =
     let l : k < length (at .loop .words) = omega (arith, c .before .before .loop-test .taken, st .pre .0, at .loop .inv .1 .1) in (
       (omega (arith, at .loop .inv .0 .0), omega (arith, c .before .before .loop-test .taken)),
       (
-        (λ r z f. raised-more (a .v .now) (a .gain) r (at .loop .words) k (c .raised .result) l (z k (at .loop .inv .0 .0)) (c .raised .ensures) (at .loop .inv .1 .0 r z f)),
+        (λ r z f. raised-more (a .offsets .now) (a .bias) r (at .loop .words) k (c .raised .result) l (z k (at .loop .inv .0 .0)) (c .raised .ensures) (at .loop .inv .1 .0 r z f)),
         simp length-set (at .loop .inv .1 .1),
       ),
     )
@@ -67,7 +67,7 @@ returns c =
     let at = c .before in
     let a = at .before .args in
     let e : at .loop .k ≡ a .w + 4 = omega (arith, at .loop .inv .0, c .loop-test .left) in
-    (at .loop .inv .1 .1, λ r z f. subst (λ n. Raised n (a .v .now) (a .gain) r (at .loop .words)) e (at .loop .inv .1 .0 r z f))
+    (at .loop .inv .1 .1, λ r z f. subst (λ n. Raised n (a .offsets .now) (a .bias) r (at .loop .words)) e (at .loop .inv .1 .0 r z f))
 
 pub top-spec : {M : Type 1} → statement M
 top-spec =

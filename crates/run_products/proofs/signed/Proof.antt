@@ -1,5 +1,5 @@
 -- `run_products::signed` meets its contract. Assumes nothing.
-use Prim.Native.Nat.{_-_}
+use Prim.Native.Nat.{_-_, _^_}
 use mathlib.Core.Path.{_≡_, ap}
 use native.Mathlib.Omega.{arith}
 use borrow.Author.Needs.{needs}
@@ -22,7 +22,7 @@ returns c = search needs
 
 returns-2 : tie.Need-returns-2
 returns-2 c =
-    let e : 18446744073709551615 - (18446744073709551615 - c .before .args .word) ≡ c .before .args .word = omega arith in
+    let e : 2 ^ 64 - 1 - (2 ^ 64 - 1 - c .before .args .word) ≡ c .before .args .word = omega arith in
     ap (toZ w64) e
 
 pub signed-spec : {M : Type 1} → statement M

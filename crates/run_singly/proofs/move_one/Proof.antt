@@ -1,4 +1,4 @@
--- `run_singly::move_one` meets its contract. Assumes nothing.
+-- `run_singly::move_one` meets its contract. The invariant: the first k registers hold what they come to after the sample, and the others are the old ones; so register k + 1, which is read next, is an old one. The measure is n - k. From w on registers are 0 before and after, so the first w of the 255 that move are enough (`moved-one`). Assumes nothing.
 use Prim.Native.Nat.{_≤_, _-_, _+_, _<_}
 use mathlib.Core.Path.{_≡_, refl, sym, ap, _∙_}
 use native.Mathlib.Omega.{arith}

@@ -1,4 +1,4 @@
--- `run_singly::singly` meets its contract. Assumes nothing.
+-- `run_singly::singly` meets its contract. The invariant: the samples from i on, run from the registers as they are now, give the registers and outputs of the whole run; from w on registers stay 0. The measure is the number of samples left. Assumes nothing.
 use Prim.Native.Nat.{_≤_, _-_, _<_}
 use mathlib.Core.Path.{_≡_, refl, sym, ap, subst, _∙_}
 use native.Mathlib.Omega.{arith}
@@ -12,15 +12,15 @@ use mir.Val.{toZ, ofZ}
 use mir.ValLaws.{toZ-ofZ}
 use Rattle.run_convolution.specs.Words.{wrapped}
 use Rattle.run_convolution.specs.Running.{sumAt, next, registersOf, outputsOf}
-use Rattle.run_tables.specs.Inner.{Quiet}
-use Rattle.run_tables.proofs.Quiets.{quiet-next}
+use Rattle.run_tables.specs.Inner.{ZeroFrom}
+use Rattle.run_tables.proofs.ZeroFrom.{zero-from-next}
 use Rattle.run_singly.proofs.Single.{one-registers, one-outputs, end-registers, end-outputs}
 use Rattle.run_singly.proofs.singly.Statement.{statement}
 use Rattle.run_singly.proofs.singly.Tie as tie
 
 abbrev Inv-loop : tie.InvT-loop
 Inv-loop h w samples start registers₀ outputs₀ i₀ registers outputs i =
-    ((i ≤ length samples) × (Quiet w h registers)) × ((length registers ≡ length registers₀) × ((length outputs ≡ length outputs₀)
+    ((i ≤ length samples) × (ZeroFrom w h registers)) × ((length registers ≡ length registers₀) × ((length outputs ≡ length outputs₀)
     × ((registersOf h registers (drop i samples) ≡ registersOf h registers₀ (drop start samples))
     × (sets outputs i (outputsOf h registers (drop i samples)) ≡ sets outputs₀ start (outputsOf h registers₀ (drop start samples))))))
 
@@ -87,8 +87,8 @@ loop-again c =
     toZ-ofZ w64 (sg .signed .result) (record { sfits = sg .signed .ok }) ∙ sg .signed .ensures ∙ ap (toZ w64) s in
     let e = mo .move-one .ensures ∙ ap (λ y. next h y r) u in
     let l : i < length xs = sm .before .before .before .before .loop-test .taken in
-    let q = quiet-next h (omega (arith, st .pre .0 .0)) (a .w) x r (at .loop .inv .0 .1) in (
-      (omega (arith, l), subst (Quiet (a .w) h) (sym e) q),
+    let q = zero-from-next h (omega (arith, st .pre .0 .0)) (a .w) x r (at .loop .inv .0 .1) in (
+      (omega (arith, l), subst (ZeroFrom (a .w) h) (sym e) q),
       (
         search needs,
         (

@@ -1,4 +1,4 @@
--- `bench_figures::taps::core_set` is safe and ends. Assumes nothing.
+-- `bench_figures::taps::core_set` is safe and ends. The loop goes over the table's four places; the invariant: i is at most 4. The measure is 4 - i. Assumes nothing.
 use borrow.Author.Needs.{needs}
 use Prim.Native.Nat.{_-_, _≤_}
 use Rattle.bench_figures.proofs.taps.core_set.Statement.{statement}

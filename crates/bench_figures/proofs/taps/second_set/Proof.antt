@@ -1,4 +1,4 @@
--- `bench_figures::taps::second_set` is safe and ends. Assumes nothing.
+-- `bench_figures::taps::second_set` is safe and ends. The invariant: i is at most the number of taps. The measure is the number of taps left. Assumes nothing.
 use borrow.Author.Needs.{needs}
 use Prim.Native.Nat.{_-_, _≤_}
 use mathlib.Core.Path.{_≡_}

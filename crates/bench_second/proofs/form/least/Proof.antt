@@ -1,8 +1,8 @@
--- `bench_second::form::least` meets its contract. The invariant: the least weights of the number made of the bits passed, and of the next, are those of the recurrence. Assumes nothing.
+-- `bench_second::form::least` meets its contract. The invariant: the least weights of the number made of the bits passed, and of the next, are those of the recurrence. The measure is the bit, which is halved. Assumes nothing.
 use borrow.Author.Needs.{needs}
 use mathlib.Core.Path.{refl, _∙_}
 use mathlib.Core.Logic.{⊎-elim}
-use Prim.Native.Nat.{_≤_}
+use Prim.Native.Nat.{_≤_, _^_}
 use native.Mathlib.Omega.{arith}
 use Rattle.bench_second.specs.Inner.{leastBoth}
 use Rattle.bench_second.proofs.Least.{Walked, walked-by, room, walked-even, walked-odd, walked-all}
@@ -10,7 +10,7 @@ use Rattle.bench_second.proofs.form.least.Statement.{statement}
 use Rattle.bench_second.proofs.form.least.Tie as tie
 
 abbrev Inv-loop : tie.InvT-loop
-Inv-loop magnitude bit₀ here₀ next₀ bit here next = (bit ≤ 2147483648) × (Walked magnitude bit here next)
+Inv-loop magnitude bit₀ here₀ next₀ bit here next = (bit ≤ 2 ^ 31) × (Walked magnitude bit here next)
 
 abbrev μ-loop : tie.MeasureT-loop
 μ-loop magnitude bit₀ here₀ next₀ bit here next = bit

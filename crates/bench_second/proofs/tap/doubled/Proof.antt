@@ -1,4 +1,4 @@
--- `bench_second::tap::doubled` is safe and ends. Assumes nothing.
+-- `bench_second::tap::doubled` is safe and ends. The invariant: i is at most f. The measure is f - i. Assumes nothing.
 use borrow.Author.Needs.{needs}
 use Prim.Native.Nat.{_-_, _≤_}
 use Rattle.bench_second.proofs.tap.doubled.Statement.{statement}

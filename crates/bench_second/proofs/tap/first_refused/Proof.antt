@@ -1,4 +1,4 @@
--- `bench_second::tap::first_refused` meets its contract. Assumes nothing.
+-- `bench_second::tap::first_refused` meets its contract. The invariant: i is at most the number of taps. The measure is the number of taps left. Assumes nothing.
 use borrow.Author.Needs.{needs}
 use Prim.Native.Nat.{_-_, _≤_}
 use mathlib.Core.Path.{_≡_}

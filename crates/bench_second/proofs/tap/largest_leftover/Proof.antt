@@ -1,4 +1,4 @@
--- `bench_second::tap::largest_leftover` meets its contract. Assumes nothing.
+-- `bench_second::tap::largest_leftover` meets its contract. The invariant: where there are no taps, the largest leftover is +0. The measure is the number of taps left. Assumes nothing.
 use borrow.Author.Needs.{needs}
 use Prim.Native.Nat.{_-_, _≤_}
 use mathlib.Core.Path.{_≡_, ap}

@@ -1,4 +1,4 @@
--- `bench_second::tap::round` meets its contract. Assumes nothing.
+-- `bench_second::tap::round` meets its contract. Each return is a case of the relation: a refusal where its test is taken, and an N within the bounds where none is. Assumes nothing.
 use borrow.Author.Needs.{needs}
 use mathlib.Core.Path.{refl}
 use native.Mathlib.Omega.{arith}

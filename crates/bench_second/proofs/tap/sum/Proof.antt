@@ -1,4 +1,4 @@
--- `bench_second::tap::sum` meets its contract. The invariant: what is left of the taps, added to the sum so far, is the whole sum. Assumes nothing.
+-- `bench_second::tap::sum` meets its contract. The invariant: what is left of the taps, added to the sum so far, is the whole sum. The measure is the number of taps left. Assumes nothing.
 use borrow.Author.Needs.{needs}
 use mathlib.Core.Path.{_≡_, sym, ap, _∙_}
 use mathlib.Core.List.{List, foldl}

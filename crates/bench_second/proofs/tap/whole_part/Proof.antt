@@ -1,11 +1,11 @@
--- `bench_second::tap::whole_part` is safe and ends. Assumes nothing.
+-- `bench_second::tap::whole_part` is safe and ends. The invariant: the weight is at most 2^31. The measure is the weight, which is halved. Assumes nothing.
 use borrow.Author.Needs.{needs}
-use Prim.Native.Nat.{_≤_}
+use Prim.Native.Nat.{_≤_, _^_}
 use Rattle.bench_second.proofs.tap.whole_part.Statement.{statement}
 use Rattle.bench_second.proofs.tap.whole_part.Tie as tie
 
 abbrev Inv-loop : tie.InvT-loop
-Inv-loop x whole₀ rest₀ power₀ weight₀ whole rest power weight = weight ≤ 2147483648
+Inv-loop x whole₀ rest₀ power₀ weight₀ whole rest power weight = weight ≤ 2 ^ 31
 
 abbrev μ-loop : tie.MeasureT-loop
 μ-loop x whole₀ rest₀ power₀ weight₀ whole rest power weight = weight

@@ -1,4 +1,4 @@
--- `run_tables::width::used` meets its contract. Assumes nothing.
+-- `run_tables::width::used` meets its contract. The invariant: from w on, registers and coefficients are 0. Where both are 0 at w - 1 too, w falls by one. The measure is w. Assumes nothing.
 use Prim.Native.Nat.{suc, _≤_, _-_}
 use mathlib.Core.Path.{_≡_, sym, ap, subst, _∙_}
 use native.Mathlib.Omega.{arith}
@@ -7,20 +7,20 @@ use borrow.Author.Needs.{needs}
 use lib.IntN.{pos}
 use mir.Syntax.{w32}
 use mir.ValLaws.{toZ-ofZ}
-use Rattle.run_tables.specs.Inner.{Quiet}
-use Rattle.run_tables.proofs.Quiets.{quiet-end, quiet-less}
+use Rattle.run_tables.specs.Inner.{ZeroFrom}
+use Rattle.run_tables.proofs.ZeroFrom.{zero-from-end, zero-from-less}
 use mir.Val.{toZ}
 use Rattle.run_tables.proofs.width.used.Statement.{statement}
 use Rattle.run_tables.proofs.width.used.Tie as tie
 
 abbrev Inv-loop : tie.InvT-loop
-Inv-loop h registers w₀ w = (w ≤ 256) × (Quiet w h registers)
+Inv-loop h registers w₀ w = (w ≤ 256) × (ZeroFrom w h registers)
 
 abbrev μ-loop : tie.MeasureT-loop
 μ-loop h registers w₀ w = w
 
 loop-holds : tie.Need-loop-holds Inv-loop μ-loop
-loop-holds c = (search needs, quiet-end (c .args .h .now) (c .args .registers .now) (c .pre .0))
+loop-holds c = (search needs, zero-from-end (c .args .h .now) (c .args .registers .now) (c .pre .0))
 
 sub-if1 : tie.Need-sub-if1 Inv-loop μ-loop
 sub-if1 c = search needs
@@ -60,13 +60,13 @@ loop-again c =
     let r = at .before .args .registers .now in
     let e : w ≡ suc (w - 1) = omega arith in
     let z : getD h (w - 1) (pos 0) ≡ pos 0 = sym (toZ-ofZ w32 (getD h (w - 1) (pos 0)) (record { sfits = c .before .if22 .given })) ∙ ap (toZ w32) (c .if2 .left) in
-    (search needs, quiet-less h r (w - 1) (omega arith) (c .before .before .if1 .left) z (subst (λ k. Quiet k h r) e (at .loop .inv .1)))
+    (search needs, zero-from-less h r (w - 1) (omega arith) (c .before .before .if1 .left) z (subst (λ k. ZeroFrom k h r) e (at .loop .inv .1)))
 
 returns-3 : tie.Need-returns-3 Inv-loop μ-loop
 returns-3 c =
     let at = c .before in
     let e : at .loop .w ≡ 0 = omega arith in
-    (search needs, subst (λ k. Quiet k (at .before .args .h .now) (at .before .args .registers .now)) e (at .loop .inv .1))
+    (search needs, subst (λ k. ZeroFrom k (at .before .args .h .now) (at .before .args .registers .now)) e (at .loop .inv .1))
 
 pub used-spec : {M : Type 1} → statement M
 used-spec =

@@ -1,5 +1,5 @@
 // Reduction and trimming: functions for C, declared in include/fir.h.
-ghost use Rattle.fir_reduction.specs.Reduction.{ReducedToWord, TrimmedToWord};
+ghost use Rattle.fir_forms.specs.Reduction.{ReducedToWord, TrimmedToWord};
 use coefficient::Reduced;
 
 // The sign, the odd part and the shift of a coefficient; 0 each for zero.

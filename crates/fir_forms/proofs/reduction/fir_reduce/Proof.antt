@@ -1,4 +1,4 @@
--- `fir_reduction::fir_reduce` meets its contract. Assumes nothing.
+-- `fir_forms::reduction::fir_reduce` meets its contract. By the case of the answer, which settles the three numbers. Assumes nothing.
 use borrow.Author.Needs.{needs}
 use mathlib.Core.Path.{_≡_, refl, sym, ap, _∙_, subst}
 use mathlib.Core.Bool.{Bool, true, false}
@@ -8,9 +8,9 @@ use mir.Syntax.{w32}
 use mir.Val.{boolByte}
 use mir.ValLaws.{toZ-ofZ}
 use Rattle.coefficient.specs.Parts.{parts, partsIn, signIf, ReducedTo}
-use Rattle.fir_words.specs.Words.{negativeIn, oddPartIn, shiftIn}
-use Rattle.fir_reduction.proofs.fir_reduce.Statement.{statement}
-use Rattle.fir_reduction.proofs.fir_reduce.Tie as tie
+use Rattle.fir_forms.specs.Reduction.{negativeIn, oddPartIn, shiftIn}
+use Rattle.fir_forms.proofs.reduction.fir_reduce.Statement.{statement}
+use Rattle.fir_forms.proofs.reduction.fir_reduce.Tie as tie
 
 byte-of : (b : Bool) (x i : ℕ) → boolByte b ≡ negativeIn (parts (signIf b) x i)
 byte-of true x i = refl

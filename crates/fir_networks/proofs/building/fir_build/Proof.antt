@@ -1,12 +1,12 @@
--- `fir_build::fir_build` meets its contract. Assumes nothing.
+-- `fir_networks::building::fir_build` meets its contract. By the case of the answer, which settles the word and the row count; the tables are as `build` leaves them. Assumes nothing.
 use borrow.Author.Needs.{needs}
 use mathlib.Core.Path.{sym, ap, _∙_}
 use Prim.Native.Nat.{ℕ}
 use Rattle.refusal.specs.Answer.{Answer, stored}
 use Rattle.build_network.specs.Answer.{answerOf}
 use Rattle.fir_words.specs.Words.{refusalWord}
-use Rattle.fir_build.proofs.fir_build.Statement.{statement}
-use Rattle.fir_build.proofs.fir_build.Tie as tie
+use Rattle.fir_networks.proofs.building.fir_build.Statement.{statement}
+use Rattle.fir_networks.proofs.building.fir_build.Tie as tie
 
 -- the lent row count after an answer
 abbrev counted : ℕ → Answer ℕ → ℕ

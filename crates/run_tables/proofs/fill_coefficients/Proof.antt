@@ -1,4 +1,4 @@
--- `run_tables::offset_all` meets its contract. Assumes nothing.
+-- `run_tables::fill_coefficients` meets its contract. The invariant: the first k coefficients stand in the table from word 4 on, and every other word is 0 in offset binary (`Filled`). The measure is w - k. Assumes nothing.
 use Prim.Native.Nat.{_≤_, _-_}
 use mathlib.Core.Path.{_≡_, subst, _∙_}
 use native.Mathlib.Omega.{arith}
@@ -7,15 +7,15 @@ use borrow.Author.Needs.{needs}
 use lib.IntN.{pos}
 use mir.Syntax.{w32}
 use mir.ValLaws.{toZ-ofZ}
-use Rattle.run_tables.proofs.Filling.{Filled, filled-start, filled-next, filled-padded, filled-blank, filled-all}
-use Rattle.run_tables.proofs.offset_all.Statement.{statement}
-use Rattle.run_tables.proofs.offset_all.Tie as tie
+use Rattle.run_tables.proofs.Filling.{Filled, filled-start, filled-next, filled-padded, filled-zero-from, filled-all}
+use Rattle.run_tables.proofs.fill_coefficients.Statement.{statement}
+use Rattle.run_tables.proofs.fill_coefficients.Tie as tie
 
 abbrev Inv-loop : tie.InvT-loop
-Inv-loop h w c₀ k₀ c k = (k ≤ w) × (Filled h c k)
+Inv-loop h w stored₀ k₀ stored k = (k ≤ w) × (Filled h stored k)
 
 abbrev μ-loop : tie.MeasureT-loop
-μ-loop h w c₀ k₀ c k = w - k
+μ-loop h w stored₀ k₀ stored k = w - k
 
 loop-holds : tie.Need-loop-holds Inv-loop μ-loop
 loop-holds c = (search needs, filled-start _ _ (c .pre .1 .0))
@@ -29,14 +29,14 @@ element-copy-out-offset-coefficient c = search needs
 offset-coefficient-requires : tie.Need-offset-coefficient-requires Inv-loop μ-loop
 offset-coefficient-requires c κs = search needs
 
-add-c : tie.Need-add-c Inv-loop μ-loop
-add-c c = search needs
+add-stored : tie.Need-add-stored Inv-loop μ-loop
+add-stored c = search needs
 
-mul-c : tie.Need-mul-c Inv-loop μ-loop
-mul-c c = search needs
+mul-stored : tie.Need-mul-stored Inv-loop μ-loop
+mul-stored c = search needs
 
-element-write-c : tie.Need-element-write-c Inv-loop μ-loop
-element-write-c c = omega (arith, c .before .before .before .loop .inv .1 .size)
+element-write-stored : tie.Need-element-write-stored Inv-loop μ-loop
+element-write-stored c = omega (arith, c .before .before .before .loop .inv .1 .size)
 
 add-k : tie.Need-add-k Inv-loop μ-loop
 add-k c = search needs
@@ -50,7 +50,7 @@ loop-again c =
     let h = at .before .args .h .now in
     let k = at .loop .k in
     let u = toZ-ofZ w32 (getD h k (pos 0)) (record { sfits = c .before .offset-coefficient-arg .given }) in
-    (search needs, filled-next h (at .loop .c) k (c .offset-coefficient .result) (omega (arith, c .before .before .loop-test .taken)) (at .loop .inv .1) (c .offset-coefficient .ensures ∙ u))
+    (search needs, filled-next h (at .loop .stored) k (c .offset-coefficient .result) (omega (arith, c .before .before .loop-test .taken)) (at .loop .inv .1) (c .offset-coefficient .ensures ∙ u))
 
 returns : tie.Need-returns Inv-loop μ-loop
 returns c =
@@ -59,13 +59,13 @@ returns c =
     let st = at .before in
     let w = st .args .w in
     let e : at .loop .k ≡ w = omega (arith, at .loop .inv .0, c .loop-test .left) in
-    let f : Filled h (at .loop .c) w = subst (Filled h (at .loop .c)) e (at .loop .inv .1) in (
+    let f : Filled h (at .loop .stored) w = subst (Filled h (at .loop .stored)) e (at .loop .inv .1) in (
       filled-padded h _ w (st .pre .0 .1) (st .pre .0 .0) (st .pre .1 .1) f,
-      (filled-all h _ w (st .pre .0 .1) (st .pre .0 .0) (st .pre .1 .1) f, filled-blank h _ w (st .pre .0 .1) (st .pre .0 .0) (st .pre .1 .1) f),
+      (filled-all h _ w (st .pre .0 .1) (st .pre .0 .0) (st .pre .1 .1) f, filled-zero-from h _ w (st .pre .0 .1) (st .pre .0 .0) (st .pre .1 .1) f),
     )
 
-pub offset-all-spec : {M : Type 1} → statement M
-offset-all-spec =
+pub fill-coefficients-spec : {M : Type 1} → statement M
+fill-coefficients-spec =
     tie.close
     (tie.spec
     Inv-loop
@@ -74,9 +74,9 @@ offset-all-spec =
     mul-offset-coefficient
     element-copy-out-offset-coefficient
     offset-coefficient-requires
-    add-c
-    mul-c
-    element-write-c
+    add-stored
+    mul-stored
+    element-write-stored
     add-k
     loop-less
     loop-again

@@ -1,5 +1,5 @@
 // Building a network: a function for C, declared in include/fir.h.
-ghost use Rattle.fir_build.specs.Built.{BuiltWord};
+ghost use Rattle.fir_networks.specs.Built.{BuiltWord};
 use build_network::Built;
 use fir_words::refusal_word;
 
