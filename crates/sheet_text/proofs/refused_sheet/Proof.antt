@@ -4,6 +4,7 @@ use mathlib.Core.Path.{subst}
 use Rattle.refusal.specs.Table.{placeOf}
 use Rattle.sheet_kinds.specs.Text.{refusedText}
 use Rattle.text.specs.Inner.{Put}
+use Rattle.sheet_lines.specs.Inner.{areaBytes}
 use Rattle.sheet_text.proofs.refused_sheet.Statement.{statement}
 use Rattle.sheet_text.proofs.refused_sheet.Tie as tie
 
@@ -23,8 +24,8 @@ returns : tie.Need-returns
 returns c =
     let a = c .before .before .before .before .before .before .before .args in
     let p = c .before .before .refused-sheet in
-    subst (λ k. Put (a .out .now) 0 (refusedText k (placeOf (a .refusal))) 262144 (p .last .0) (p .result)) (c .before .before .before .before .number .ensures)
-    (subst (λ k. Put (a .out .now) 0 (refusedText (c .before .before .before .before .number .result) k) 262144 (p .last .0) (p .result)) (c .before .before .before .place .ensures) (p .ensures))
+    subst (λ k. Put (a .out .now) 0 (refusedText k (placeOf (a .refusal))) areaBytes (p .last .0) (p .result)) (c .before .before .before .before .number .ensures)
+    (subst (λ k. Put (a .out .now) 0 (refusedText (c .before .before .before .before .number .result) k) areaBytes (p .last .0) (p .result)) (c .before .before .before .place .ensures) (p .ensures))
 
 pub refused-sheet-spec : {M : Type 1} → statement M
 refused-sheet-spec =
