@@ -1,12 +1,14 @@
 // The two kinds of sheet, of a network and of a refusal, written at the start of a lent area.
 ghost use Prim.Native.Nat.{_+_, _≤_};
 ghost use lib.ListN.{length};
+ghost use Rattle.refusal.specs.Table.{numberOf, placeOf};
 ghost use Rattle.network.specs.Rows.{networkOf};
 ghost use Rattle.text.specs.Inner.{Put};
 ghost use Rattle.sheet_lines.specs.Lines.{totalLine, refusedLine};
 ghost use Rattle.sheet_lines.specs.Inner.{totalLineBytes, refusedLineBytes, areaBytes};
 ghost use Rattle.sheet_kinds.specs.Text.{networkText, refusedText};
 ghost use Rattle.sheet_kinds.specs.Inner.{NetworkIn};
+use refusal::Refusal;
 use sheet_lines::put_end;
 use sheet_lines::put_header;
 use sheet_lines::put_to_value;
@@ -53,10 +55,12 @@ pub fn network_sheet(
     total_line(out, c, (n - 1) as u32)
 }
 
-pub fn refused_sheet(out: &mut [u8], number: u32, place: u32) -> usize
+pub fn refused_sheet(out: &mut [u8], refusal: Refusal) -> usize
     requires { ⌜ areaBytes ≤ length (now out) ⌝ }
-    ensures { λ r. ⌜ Put (now (out .entry)) 0 (refusedText number place) areaBytes (now (out .exit)) r ⌝ }
+    ensures { λ r. ⌜ Put (now (out .entry)) 0 (refusedText (numberOf refusal) (placeOf refusal)) areaBytes (now (out .exit)) r ⌝ }
 {
+    let number = refusal::number(refusal);
+    let place = refusal::place(refusal);
     let a = put_header(out, 0);
     refused_line(out, a, number, place)
 }

@@ -1,10 +1,21 @@
 -- `sheet_kinds::refused_sheet` meets its contract. Assumes nothing.
 use borrow.Author.Needs.{needs}
+use mathlib.Core.Path.{subst}
+use Prim.Native.Nat.{ℕ}
 use lib.Dec.{lit≤}
+use Rattle.refusal.specs.Table.{placeOf}
+use Rattle.text.specs.Inner.{Put}
 use Rattle.text.proofs.Puts.{then, widen}
+use Rattle.sheet_lines.specs.Inner.{areaBytes}
 use Rattle.sheet_kinds.specs.Text.{refusedText}
 use Rattle.sheet_kinds.proofs.refused_sheet.Statement.{statement}
 use Rattle.sheet_kinds.proofs.refused_sheet.Tie as tie
+
+number-requires : tie.Need-number-requires
+number-requires c κs = search needs
+
+place-requires : tie.Need-place-requires
+place-requires c κs = search needs
 
 put-header-requires : tie.Need-put-header-requires
 put-header-requires c κs = search needs
@@ -18,12 +29,21 @@ same-length c = search needs
 returns : tie.Need-returns
 unfolding refusedText
 returns c =
-    widen (lit≤ tt) (then (c .before .before .before .before .before .before .put-header .ensures) (c .before .before .refused-line .ensures))
+    let after-header = c .before .before .before .before .before .before in
+    let after-place = after-header .before .before in
+    let number = after-place .before .number in
+    let start = after-place .before .before .before .args in
+    let line = c .before .before .refused-line in
+    subst (λ (n : ℕ). Put (start .out .now) 0 (refusedText n (placeOf (start .refusal))) areaBytes (line .last .0) (line .result)) (number .ensures)
+    (subst (λ (p : ℕ). Put (start .out .now) 0 (refusedText (number .result) p) areaBytes (line .last .0) (line .result)) (after-place .place .ensures)
+    (widen (lit≤ tt) (then (after-header .put-header .ensures) (line .ensures))))
 
 pub refused-sheet-spec : {M : Type 1} → statement M
 refused-sheet-spec =
     tie.close
     (tie.spec
+    number-requires
+    place-requires
     put-header-requires
     refused-line-requires
     same-length
