@@ -10,7 +10,7 @@ fn main() {
     // 257 taps: whatever follows them, the sheet is the same.
     let mut input = [0u8; 2056];
     let n = io::read_full(STDIN_FILENO, &mut input);
-    let mut out = [0u8; 262144];
+    let mut out = [0u8; sheet_text::AREA];
     let size = sheet_text::sheet(&mut out, &input[..n], given, &argument[..length]);
     if !io::write_all(STDOUT_FILENO, &out[..size]) {
         os::fail(b"sheet: standard output");

@@ -30,8 +30,7 @@ fn tap_at(input: &[u8], i: usize) -> f64
     tap::pattern::of_bits(low + 4294967296 * high)
 }
 
-// The whole taps of the input, at the start of the table. Internal: the crate above has a table for
-// 256.
+// The whole taps of the input, at the start of the table.
 pub fn read_taps(input: &[u8], taps: &mut [f64])
     requires { ⌜ wholeTaps (now input) ≤ length (now taps) ⌝ }
     ensures { λ r. ⌜ now (taps .exit) ≡ front (tapAt (now (input .entry))) (now (taps .entry)) (wholeTaps (now (input .entry))) ⌝ }

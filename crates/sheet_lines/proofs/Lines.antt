@@ -7,6 +7,7 @@ use native.Mathlib.Omega.{arith}
 use native.Mathlib.Numerals.{add-one}
 use lib.IntN.{ℤ}
 use lib.ListN.{length}
+use lib.Seq.{append-snoc}
 use Rattle.sequence.specs.UpTo.{upTo}
 use Rattle.sequence.proofs.UpTo.{length-upTo}
 use Rattle.network.specs.declared.Row.{Row}
@@ -15,30 +16,37 @@ use Rattle.text.specs.Ascii.{ascii}
 use Rattle.text.specs.Numbers.{decimalBy, decimal, integer}
 use Rattle.text.specs.Inner.{Put}
 use Rattle.text.proofs.Puts.{then}
-use Rattle.sheet_lines.specs.Lines.{line, columns, nodeLine, laterLine, tapLine, emptyTapLine, productLine, linesFrom}
-use Rattle.sheet_lines.specs.Inner.{shared}
+use Rattle.sheet_lines.specs.Lines.{line, columns, nodeLine, laterLine, tapLine, emptyTapLine, productLine, totalLine, refusedLine, linesFrom}
+use Rattle.sheet_lines.specs.Inner.{toSign, toValue, afterValue}
 
--- the shared fields, and what comes after them
-shared-append : (i left shift sign : ℕ) (b : List ℕ) → shared i left shift sign [] ++ b ≡ shared i left shift sign b
-shared-append i left shift sign b = simp append-assoc
+-- ---- parts of a line
+-- a field after what ends in a comma
+pub comma : (a : List ℕ) {l e f : List ℕ} {at r s m n : ℕ} {b : List ℕ} → Put l at (a ++ (44 ∷ [])) m e r → Put e r b n f s → Put l at (a ++ (44 ∷ b)) (m + n) f s
+comma a {l} {e} {f} {at} {r} {s} {m} {n} {b} p q = rw append-snoc at (then p q)
 
-pub after-shared : {l e f : List ℕ} {at r s m n : ℕ} {b : List ℕ} (i left shift sign : ℕ) → Put l at (shared i left shift sign []) m e r → Put e r b n f s
-    → Put l at (shared i left shift sign b) (m + n) f s
-after-shared {b = b} i left shift sign p q = rw (shared-append i left shift sign b) at (then p q)
+-- the fields up to the sign, and what comes after them
+to-sign-append : (i left shift sign : ℕ) (b : List ℕ) → toSign i left shift sign [] ++ b ≡ toSign i left shift sign b
+to-sign-append i left shift sign b = simp append-assoc
 
-pub later-shared : (i : ℕ) (r : Row) → laterLine i r ≡ ascii "node," ++ shared i (r .left) (r .shift) (r .sign) (decimal (r .right) ++ (44 ∷ (decimal (r .value) ++ (13 ∷ 10 ∷ []))))
-unfolding columns line
-later-shared i r = refl
+pub after-sign : {l e f : List ℕ} {at r s m n : ℕ} {b : List ℕ} (i left shift sign : ℕ) → Put l at (toSign i left shift sign []) m e r → Put e r b n f s
+    → Put l at (toSign i left shift sign b) (m + n) f s
+after-sign {b = b} i left shift sign p q = rw (to-sign-append i left shift sign b) at (then p q)
 
-pub product-shared : (i : ℕ) (t : TapRow) (v : ℤ) → productLine i t v ≡ ascii "tap," ++ shared i (t .row) (t .shift) (t .sign) (44 ∷ (integer v ++ (13 ∷ 10 ∷ [])))
-unfolding columns line
-product-shared i t v = refl
+-- the empty fields up to the value, and what comes after them
+to-value-append : (i : ℕ) (b : List ℕ) → toValue i [] ++ b ≡ toValue i b
+to-value-append i b = simp append-assoc
+
+pub value-after : {l e f : List ℕ} {at r s m n : ℕ} {b : List ℕ} (i : ℕ) → Put l at (toValue i []) m e r → Put e r b n f s → Put l at (toValue i b) (m + n) f s
+value-after {b = b} i p q = rw (to-value-append i b) at (then p q)
 
 -- ---- the kinds of line
-pub node-first : (i : ℕ) (r : Row) → i ≡ 0 → nodeLine i r ≡ ascii "node,0,,,,," ++ (decimal (r .value) ++ (13 ∷ 10 ∷ []))
-unfolding nodeLine columns line decimal decimalBy
-node-first zero r h = refl
-node-first (suc k) r h = absurd (omega arith)
+pub node-first : (r : Row) → nodeLine 0 r ≡ ascii "node," ++ toValue 0 (decimal (r .value) ++ afterValue)
+unfolding nodeLine columns line
+node-first r = refl
+
+pub later-parts : (i : ℕ) (r : Row) → laterLine i r ≡ ascii "node," ++ toSign i (r .left) (r .shift) (r .sign) (decimal (r .right) ++ (44 ∷ (decimal (r .value) ++ afterValue)))
+unfolding columns line
+later-parts i r = refl
 
 pub node-later : (i : ℕ) (r : Row) → (i ≡ 0 → ⊥) → nodeLine i r ≡ laterLine i r
 unfolding nodeLine
@@ -52,6 +60,22 @@ tap-none i t v h = rw (eq-eqb (t .sign) 0 h)
 pub tap-some : (i : ℕ) (t : TapRow) (v : ℤ) → (t .sign ≡ 0 → ⊥) → tapLine i t v ≡ productLine i t v
 unfolding tapLine
 tap-some i t v h = rw (ne-eqb (t .sign) 0 h)
+
+pub empty-parts : (i : ℕ) → emptyTapLine i ≡ ascii "tap," ++ toValue i (48 ∷ afterValue)
+unfolding columns line decimal decimalBy
+empty-parts i = refl
+
+pub product-parts : (i : ℕ) (t : TapRow) (v : ℤ) → productLine i t v ≡ ascii "tap," ++ toSign i (t .row) (t .shift) (t .sign) (44 ∷ (integer v ++ afterValue))
+unfolding columns line
+product-parts i t v = refl
+
+pub total-parts : (total : ℕ) → totalLine total ≡ ascii "total," ++ toValue total afterValue
+unfolding totalLine columns line
+total-parts total = refl
+
+pub refused-parts : (number place : ℕ) → refusedLine number place ≡ ascii "refused," ++ toValue number (decimal place ++ afterValue)
+unfolding refusedLine columns line
+refused-parts number place = refl
 
 -- ---- lines by number
 module _ {A : Type 0} (lineOf : ℕ → A → List ℕ) where

@@ -1,4 +1,4 @@
--- What the internal writers ask of a table of tap rows, and give of it. Definitions only.
+-- What the writer of tap lines asks of a table of tap rows, and gives of it. Definitions only.
 use mathlib.Core.List.{List}
 use Prim.Native.Nat.{ℕ, _*_, _≤_, _<_}
 use lib.IntN.{ℤ, pos}

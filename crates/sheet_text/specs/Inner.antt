@@ -1,4 +1,4 @@
--- What an internal function asks of its coefficients. Definitions only.
+-- What the sheet of coefficients asks of them. Definitions only.
 use mathlib.Core.List.{List}
 use Prim.Native.Nat.{ℕ, _≤_, _<_}
 use lib.IntN.{ℤ, pos}

@@ -1,30 +1,23 @@
 // The sheet of the taps in some bytes.
+pub use sheet_lines::AREA;
 ghost use Prim.Native.Nat.{_≤_};
 ghost use lib.ListN.{length};
-ghost use Rattle.refusal.specs.Table.{numberOf, placeOf};
 ghost use Rattle.build_steps.specs.TapRows.{built};
 ghost use Rattle.text.specs.Inner.{Put};
-ghost use Rattle.sheet_kinds.specs.Text.{networkText, refusedText};
+ghost use Rattle.sheet_lines.specs.Inner.{areaBytes};
+ghost use Rattle.sheet_kinds.specs.Text.{networkText};
 ghost use Rattle.sheet_input.specs.Argument.{argumentOf};
 ghost use Rattle.sheet_input.specs.Taps.{wholeTaps, tapsOf};
 ghost use Rattle.sheet_text.specs.Sheet.{choices, tapsAnswer, textOf, SheetWritten};
 ghost use Rattle.sheet_text.specs.Inner.{Coefficients};
 use build_network::Built;
-use refusal::Refusal;
 use sheet_input::Fraction;
 use tap_set::RoundedTaps;
 
-fn refused_sheet(out: &mut [u8], refusal: Refusal) -> usize
-    requires { ⌜ 262144 ≤ length (now out) ⌝ }
-    ensures { λ r. ⌜ Put (now (out .entry)) 0 (refusedText (numberOf refusal) (placeOf refusal)) 262144 (now (out .exit)) r ⌝ }
-{
-    sheet_kinds::refused_sheet(out, refusal::number(refusal), refusal::place(refusal))
-}
-
 // The sheet of coefficients, all choices 0. Nothing is turned down here.
 fn coefficient_sheet(out: &mut [u8], coefficients: &[i32]) -> usize
-    requires { ⌜ Coefficients (now coefficients) × (262144 ≤ length (now out)) ⌝ }
-    ensures { λ r. ⌜ Put (now (out .entry)) 0 (networkText (built (now (coefficients .entry)) choices)) 262144 (now (out .exit)) r ⌝ }
+    requires { ⌜ Coefficients (now coefficients) × (areaBytes ≤ length (now out)) ⌝ }
+    ensures { λ r. ⌜ Put (now (out .entry)) 0 (networkText (built (now (coefficients .entry)) choices)) areaBytes (now (out .exit)) r ⌝ }
 {
     let choices = [0u32; 256];
     let mut rows = [0u32; network::ROW_TABLE];
@@ -32,14 +25,14 @@ fn coefficient_sheet(out: &mut [u8], coefficients: &[i32]) -> usize
     let answer = build_network::build(coefficients, &choices, &mut rows, &mut taps);
     match answer {
         Built::Rows(n) => sheet_kinds::network_sheet(out, &rows, n as usize, &taps, coefficients),
-        Built::Refused(refusal) => refused_sheet(out, refusal),
+        Built::Refused(refusal) => sheet_kinds::refused_sheet(out, refusal),
     }
 }
 
 // The sheet of the whole taps of the input.
 fn tap_sheet(out: &mut [u8], input: &[u8], fraction_bits: u32) -> usize
-    requires { ⌜ (wholeTaps (now input) ≤ 256) × (262144 ≤ length (now out)) ⌝ }
-    ensures { λ r. ⌜ Put (now (out .entry)) 0 (textOf (tapsAnswer «fraction_bits» (tapsOf (now (input .entry))))) 262144 (now (out .exit)) r ⌝ }
+    requires { ⌜ (wholeTaps (now input) ≤ 256) × (areaBytes ≤ length (now out)) ⌝ }
+    ensures { λ r. ⌜ Put (now (out .entry)) 0 (textOf (tapsAnswer «fraction_bits» (tapsOf (now (input .entry))))) areaBytes (now (out .exit)) r ⌝ }
 {
     let n = input.len() / 8;
     let mut taps = [0.0f64; 256];
@@ -48,18 +41,18 @@ fn tap_sheet(out: &mut [u8], input: &[u8], fraction_bits: u32) -> usize
     let answer = tap_set::round_taps(&taps[..n], fraction_bits, false, &mut coefficients);
     match answer {
         RoundedTaps::Given(_) => coefficient_sheet(out, &coefficients[..n]),
-        RoundedTaps::Refused(refusal) => refused_sheet(out, refusal),
+        RoundedTaps::Refused(refusal) => sheet_kinds::refused_sheet(out, refusal),
     }
 }
 
 // The sheet of an input and the program's first argument, at the start of the area, and its length.
 // Whether there is an argument is said by `given`.
-pub fn sheet(out: &mut [u8; 262144], input: &[u8], given: bool, argument: &[u8]) -> usize
+pub fn sheet(out: &mut [u8; AREA], input: &[u8], given: bool, argument: &[u8]) -> usize
     ensures { λ r. ⌜ SheetWritten (now (input .entry)) (argumentOf given (now (argument .entry))) (now (out .entry)) r (now (out .exit)) ⌝ }
 {
     let fraction = sheet_input::fraction_bits(input, given, argument);
     match fraction {
         Fraction::Bits(f) => tap_sheet(out, input, f),
-        Fraction::Refused(refusal) => refused_sheet(out, refusal),
+        Fraction::Refused(refusal) => sheet_kinds::refused_sheet(out, refusal),
     }
 }

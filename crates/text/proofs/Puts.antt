@@ -5,7 +5,7 @@ use Prim.Native.Nat.{ℕ, suc, _+_, _≤_, _<_}
 use native.Mathlib.Numerals.{add-one}
 use native.Mathlib.Omega.{arith}
 use lib.ListN.{length, take, getD, set, length-append}
-use lib.Seq.{sets, take-suc, length-take-le, append-snoc}
+use lib.Seq.{sets, take-suc, length-take-le}
 use Rattle.text.specs.Inner.{Put}
 
 -- a run after a run is the run of both
@@ -30,10 +30,6 @@ then {l} {e} {f} {at} {r} {s} {m} {n} {a} {b} p q =
       text = q .text ∙ ap (λ k. sets e k b) (p .next) ∙ ap (λ x. sets x (at + length a) b) (p .text) ∙ sets-append a b l at;
       within = omega (arith, p .within, q .within);
     }
-
--- the same, after what ends in a comma
-pub comma : (a : List ℕ) {l e f : List ℕ} {at r s m n : ℕ} {b : List ℕ} → Put l at (a ++ (44 ∷ [])) m e r → Put e r b n f s → Put l at (a ++ (44 ∷ b)) (m + n) f s
-comma a {l} {e} {f} {at} {r} {s} {m} {n} {b} p q = rw append-snoc at (then p q)
 
 -- a wider bound
 pub widen : {l e : List ℕ} {at r m n : ℕ} {a : List ℕ} → m ≤ n → Put l at a m e r → Put l at a n e r

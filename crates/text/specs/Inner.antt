@@ -1,4 +1,4 @@
--- What the internal writers give. Definitions only.
+-- What a writer into a lent area gives, and the most bytes of a number. Definitions only.
 use mathlib.Core.Path.{_≡_}
 use mathlib.Core.List.{List}
 use Prim.Native.Nat.{ℕ, _+_, _≤_}
@@ -10,3 +10,10 @@ pub record Put (l : List ℕ) (at : ℕ) (bytes : List ℕ) (most : ℕ) (e : Li
   pub next : r ≡ at + length bytes
   pub text : e ≡ sets l at bytes
   pub within : r ≤ at + most
+
+-- the most digits of a number of 32 bits, and the most bytes of a signed one
+abbrev pub numberBytes : ℕ
+numberBytes = 10
+
+abbrev pub integerBytes : ℕ
+integerBytes = 1 + numberBytes

@@ -1,12 +1,11 @@
-// Fields of a line of text, written one after the other into a lent area. Internal: the crates
-// above have room for them.
-ghost use mathlib.Core.List.{_++_, _∷_, []};
+// A writer of text into a lent area: each function puts some bytes at index `at`, and answers the index
+// past them.
+ghost use mathlib.Core.List.{_∷_, []};
 ghost use Prim.Native.Nat.{_+_, _≤_};
 ghost use lib.ListN.{length};
 ghost use Rattle.text.specs.Numbers.{decimal, integer};
-ghost use Rattle.text.specs.Inner.{Put};
+ghost use Rattle.text.specs.Inner.{Put, numberBytes, integerBytes};
 
-// Puts the bytes of text at index `at`, and answers the index past them. So do the writers below.
 pub fn put(out: &mut [u8], at: usize, text: &[u8]) -> usize
     requires { ⌜ at + length (now text) ≤ length (now out) ⌝ }
     ensures { λ r. ⌜ Put (now (out .entry)) at (now (text .entry)) (length (now (text .entry))) (now (out .exit)) r ⌝ }
@@ -29,8 +28,8 @@ pub fn put_byte(out: &mut [u8], at: usize, b: u8) -> usize
 
 // n in decimal.
 pub fn put_number(out: &mut [u8], at: usize, n: u32) -> usize
-    requires { ⌜ at + 10 ≤ length (now out) ⌝ }
-    ensures { λ r. ⌜ Put (now (out .entry)) at (decimal n) 10 (now (out .exit)) r ⌝ }
+    requires { ⌜ at + numberBytes ≤ length (now out) ⌝ }
+    ensures { λ r. ⌜ Put (now (out .entry)) at (decimal n) numberBytes (now (out .exit)) r ⌝ }
 {
     let mut text = [0u8; 20];
     let k = io::decimal(n as u64, &mut text);
@@ -39,8 +38,8 @@ pub fn put_number(out: &mut [u8], at: usize, n: u32) -> usize
 
 // n in decimal, after `-` where it is negative.
 pub fn put_integer(out: &mut [u8], at: usize, n: i32) -> usize
-    requires { ⌜ at + 11 ≤ length (now out) ⌝ }
-    ensures { λ r. ⌜ Put (now (out .entry)) at (integer n) 11 (now (out .exit)) r ⌝ }
+    requires { ⌜ at + integerBytes ≤ length (now out) ⌝ }
+    ensures { λ r. ⌜ Put (now (out .entry)) at (integer n) integerBytes (now (out .exit)) r ⌝ }
 {
     let size = word::magnitude(n);
     if n < 0 {
@@ -48,22 +47,4 @@ pub fn put_integer(out: &mut [u8], at: usize, n: i32) -> usize
         return put_number(out, a, size);
     }
     put_number(out, at, size)
-}
-
-// n in decimal, and a comma.
-pub fn put_field(out: &mut [u8], at: usize, n: u32) -> usize
-    requires { ⌜ at + 11 ≤ length (now out) ⌝ }
-    ensures { λ r. ⌜ Put (now (out .entry)) at (decimal n ++ (44 ∷ [])) 11 (now (out .exit)) r ⌝ }
-{
-    let a = put_number(out, at, n);
-    put_byte(out, a, b',')
-}
-
-// n in decimal, and the end of the line.
-pub fn put_last(out: &mut [u8], at: usize, n: u32) -> usize
-    requires { ⌜ at + 12 ≤ length (now out) ⌝ }
-    ensures { λ r. ⌜ Put (now (out .entry)) at (decimal n ++ (13 ∷ 10 ∷ [])) 12 (now (out .exit)) r ⌝ }
-{
-    let a = put_number(out, at, n);
-    put(out, a, b"\r\n")
 }

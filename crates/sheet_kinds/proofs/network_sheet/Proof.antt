@@ -1,4 +1,5 @@
--- `sheet_kinds::network_sheet` meets its contract. Assumes nothing.
+-- `sheet_kinds::network_sheet` meets its contract: the header and the lines stand one after the other, and the most bytes that they can take are within the area's.
+-- Assumes nothing.
 use borrow.Author.Needs.{needs}
 use mathlib.Core.List.{List}
 use mathlib.Core.Path.{subst}
@@ -6,6 +7,7 @@ use Prim.Native.Nat.{ℕ}
 use native.Mathlib.Omega.{arith}
 use Rattle.text.proofs.Puts.{then, widen}
 use Rattle.text.specs.Inner.{Put}
+use Rattle.sheet_lines.specs.Inner.{areaBytes}
 use Rattle.sheet_kinds.proofs.Values.{network-written}
 use Rattle.sheet_kinds.proofs.network_sheet.Statement.{statement}
 use Rattle.sheet_kinds.proofs.network_sheet.Tie as tie
@@ -37,7 +39,7 @@ returns c =
     let a = s .args in
     let q = s .pre .0 in
     let p = c .before .before .total-line in
-    subst (λ (t : List ℕ). Put (a .out .now) 0 t 262144 (p .last .0) (p .result)) (network-written (a .rows .now) (a .n) (a .tap-rows .now) (a .coefficients .now) q)
+    subst (λ (t : List ℕ). Put (a .out .now) 0 t areaBytes (p .last .0) (p .result)) (network-written (a .rows .now) (a .n) (a .tap-rows .now) (a .coefficients .now) q)
     (widen (omega (arith, q .rows-in .few, q .taps-in .few))
     (then (c .before .before .before .before .before .before .before .before .before .before .before .before .before .before .put-header .ensures)
     (then (c .before .before .before .before .before .before .before .before .before .before .node-lines .ensures)

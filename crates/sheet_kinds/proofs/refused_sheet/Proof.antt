@@ -1,55 +1,50 @@
 -- `sheet_kinds::refused_sheet` meets its contract. Assumes nothing.
 use borrow.Author.Needs.{needs}
+use mathlib.Core.Path.{subst}
+use Prim.Native.Nat.{ℕ}
 use lib.Dec.{lit≤}
+use Rattle.refusal.specs.Table.{placeOf}
+use Rattle.text.specs.Inner.{Put}
 use Rattle.text.proofs.Puts.{then, widen}
+use Rattle.sheet_lines.specs.Inner.{areaBytes}
 use Rattle.sheet_kinds.specs.Text.{refusedText}
-use Rattle.sheet_lines.specs.Lines.{line, columns, refusedLine}
 use Rattle.sheet_kinds.proofs.refused_sheet.Statement.{statement}
 use Rattle.sheet_kinds.proofs.refused_sheet.Tie as tie
+
+number-requires : tie.Need-number-requires
+number-requires c κs = search needs
+
+place-requires : tie.Need-place-requires
+place-requires c κs = search needs
 
 put-header-requires : tie.Need-put-header-requires
 put-header-requires c κs = search needs
 
-slice-aggregate-put : tie.Need-slice-aggregate-put
-slice-aggregate-put c = search needs
-
-put-requires : tie.Need-put-requires
-put-requires c κs = search needs
-
-put-number-requires : tie.Need-put-number-requires
-put-number-requires c κs = search needs
-
-slice-aggregate-put-2 : tie.Need-slice-aggregate-put-2
-slice-aggregate-put-2 c = search needs
-
-put-requires-2 : tie.Need-put-requires-2
-put-requires-2 c κs = search needs
-
-put-last-requires : tie.Need-put-last-requires
-put-last-requires c κs = search needs
+refused-line-requires : tie.Need-refused-line-requires
+refused-line-requires c κs = search needs
 
 same-length : tie.Need-same-length
 same-length c = search needs
 
 returns : tie.Need-returns
-unfolding line columns refusedLine refusedText
+unfolding refusedText
 returns c =
-    widen (lit≤ tt)
-    (then (c .before .before .before .before .before .before .before .before .before .before .before .before .before .before .before .before .before .before .before .before .put-header .ensures)
-    (then (c .before .before .before .before .before .before .before .before .before .before .before .before .before .before .before .put .ensures)
-    (then (c .before .before .before .before .before .before .before .before .before .before .before .put-number .ensures)
-    (then (c .before .before .before .before .before .before .put2 .ensures) (c .before .before .put-last .ensures)))))
+    let after-header = c .before .before .before .before .before .before in
+    let after-place = after-header .before .before in
+    let number = after-place .before .number in
+    let start = after-place .before .before .before .args in
+    let line = c .before .before .refused-line in
+    subst (λ (n : ℕ). Put (start .out .now) 0 (refusedText n (placeOf (start .refusal))) areaBytes (line .last .0) (line .result)) (number .ensures)
+    (subst (λ (p : ℕ). Put (start .out .now) 0 (refusedText (number .result) p) areaBytes (line .last .0) (line .result)) (after-place .place .ensures)
+    (widen (lit≤ tt) (then (after-header .put-header .ensures) (line .ensures))))
 
 pub refused-sheet-spec : {M : Type 1} → statement M
 refused-sheet-spec =
     tie.close
     (tie.spec
+    number-requires
+    place-requires
     put-header-requires
-    slice-aggregate-put
-    put-requires
-    put-number-requires
-    slice-aggregate-put-2
-    put-requires-2
-    put-last-requires
+    refused-line-requires
     same-length
     returns)

@@ -1,7 +1,7 @@
 -- `sheet_kinds::total_line` meets its contract. Assumes nothing.
 use borrow.Author.Needs.{needs}
 use Rattle.text.proofs.Puts.{then}
-use Rattle.sheet_lines.specs.Lines.{line, columns, totalLine}
+use Rattle.sheet_lines.proofs.Lines.{value-after, total-parts}
 use Rattle.sheet_kinds.proofs.total_line.Statement.{statement}
 use Rattle.sheet_kinds.proofs.total_line.Tie as tie
 
@@ -11,22 +11,20 @@ slice-aggregate-put c = search needs
 put-requires : tie.Need-put-requires
 put-requires c κs = search needs
 
-put-number-requires : tie.Need-put-number-requires
-put-number-requires c κs = search needs
+put-to-value-requires : tie.Need-put-to-value-requires
+put-to-value-requires c κs = search needs
 
-slice-aggregate-put-2 : tie.Need-slice-aggregate-put-2
-slice-aggregate-put-2 c = search needs
-
-put-requires-2 : tie.Need-put-requires-2
-put-requires-2 c κs = search needs
+put-end-requires : tie.Need-put-end-requires
+put-end-requires c κs = search needs
 
 same-length : tie.Need-same-length
 same-length c = search needs
 
 returns : tie.Need-returns
-unfolding line columns totalLine
 returns c =
-    then (c .before .before .before .before .before .before .before .before .before .before .before .put .ensures) (then (c .before .before .before .before .before .before .before .put-number .ensures) (c .before .before .put2 .ensures))
+    let total = c .before .before .before .before .before .before .before .before .before .before .before .before .before .before .args .adders in
+    rw (total-parts total)
+    (then (c .before .before .before .before .before .before .before .before .before .before .put .ensures) (value-after total (c .before .before .before .before .before .before .put-to-value .ensures) (c .before .before .put-end .ensures)))
 
 pub total-line-spec : {M : Type 1} → statement M
 total-line-spec =
@@ -34,8 +32,7 @@ total-line-spec =
     (tie.spec
     slice-aggregate-put
     put-requires
-    put-number-requires
-    slice-aggregate-put-2
-    put-requires-2
+    put-to-value-requires
+    put-end-requires
     same-length
     returns)

@@ -1,19 +1,22 @@
--- `sheet_nodes::node_lines` meets its contract. Assumes nothing.
+-- `sheet_nodes::node_lines` meets its contract. The invariant of its loop: the lines of the first i rows stand from `at` to `to`, and each took no more than its bytes. The measure is the number of rows left.
+-- Assumes nothing.
 use borrow.Author.Needs.{needs}
-use mathlib.Core.Path.{_≡_, refl, subst, _∙_}
-use Prim.Native.Nat.{_≤_, _-_, _*_}
+use mathlib.Core.Path.{_≡_, refl, ap, subst, _∙_}
+use Prim.Native.Nat.{ℕ, _≤_, _-_, _*_}
 use native.Mathlib.Omega.{arith}
 use lib.ListN.{length}
+use Rattle.network.specs.declared.Row.{Row}
 use Rattle.network.specs.Rows.{rowAt, rowsOf}
 use Rattle.text.proofs.Puts.{then, widen}
 use Rattle.text.specs.Inner.{Put}
 use Rattle.sheet_lines.specs.Lines.{nodeLine, linesFrom}
+use Rattle.sheet_lines.specs.Inner.{nodeLineBytes}
 use Rattle.sheet_lines.proofs.Lines.{lines-next, nothing-put}
 use Rattle.sheet_nodes.proofs.node_lines.Statement.{statement}
 use Rattle.sheet_nodes.proofs.node_lines.Tie as tie
 
 abbrev Inv-loop : tie.InvT-loop
-Inv-loop out₀ at rows n to₀ i₀ out to i = (i ≤ n) × (Put out₀ at (linesFrom nodeLine 0 (rowsOf rows i)) (63 * i) out to × (length out ≡ length out₀))
+Inv-loop out₀ at rows n to₀ i₀ out to i = (i ≤ n) × (Put out₀ at (linesFrom nodeLine 0 (rowsOf rows i)) (nodeLineBytes * i) out to × (length out ≡ length out₀))
 
 abbrev μ-loop : tie.MeasureT-loop
 μ-loop out₀ at rows n to₀ i₀ out to i = n - i
@@ -22,14 +25,21 @@ loop-holds : tie.Need-loop-holds Inv-loop μ-loop
 loop-holds c =
     (search needs, (nothing-put nodeLine (rowAt (c .before .before .args .rows .now)) _ _, refl))
 
+read-row-requires : tie.Need-read-row-requires Inv-loop μ-loop
+read-row-requires c κs = search needs
+
+cast-node-line : tie.Need-cast-node-line Inv-loop μ-loop
+cast-node-line c = search needs
+
 node-line-requires : tie.Need-node-line-requires Inv-loop μ-loop
 node-line-requires c κs =
-    let l = c .before .before in
-    let s = c .before .before .before .before .before in
-    let q = s .pre in
-    let t = c .before .loop-test .taken in
-    let i = l .loop .i in
-    ((omega (arith, q .0 .room, t), q .0 .signs i t, omega (arith, q .0 .few, t)), omega (arith, q .1, t, l .loop .inv .1 .0 .within, l .loop .inv .1 .1))
+    let at-test = c .before .before in
+    let at-loop = at-test .before in
+    let at-start = at-loop .before .before .before in
+    let sign = ap (λ (r : Row). r .sign) (c .before .read-row .ensures) in (
+      omega (arith, sign, at-start .pre .0 .signs (at-loop .loop .i) (at-test .loop-test .taken)),
+      omega (arith, at-start .pre .1, at-test .loop-test .taken, at-loop .loop .inv .1 .0 .within, at-loop .loop .inv .1 .1),
+    )
 
 add-i : tie.Need-add-i Inv-loop μ-loop
 add-i c = search needs
@@ -39,13 +49,18 @@ loop-less c = search needs
 
 loop-again : tie.Need-loop-again Inv-loop μ-loop
 loop-again c =
-    let d = c .before .before in
-    let l = c .before .before .before .before .before in
-    let s = c .before .before .before .before .before .before .before .before in (
+    let after-line = c .before .before in
+    let after-read = after-line .before .before in
+    let at-loop = after-read .before .before in
+    let rows = at-loop .before .before .before .args .rows .now in
+    let line = after-line .node-line in
+    let i = at-loop .loop .i in
+    let put : Put (at-loop .loop .out) (at-loop .loop .to) (nodeLine i (rowAt rows i)) nodeLineBytes (line .last .0) (line .result)
+    = subst (λ (r : Row). Put (at-loop .loop .out) (at-loop .loop .to) (nodeLine i r) nodeLineBytes (line .last .0) (line .result)) (after-read .read-row .ensures) (line .ensures) in (
       search needs,
       (
-        rw (lines-next nodeLine (rowAt (s .args .rows .now)) (l .loop .i)) (widen (omega arith) (then (l .loop .inv .1 .0) (d .node-line .ensures))),
-        d .node-line .kept .0 ∙ l .loop .inv .1 .1,
+        rw (lines-next nodeLine (rowAt rows) i) (widen (omega arith) (then (at-loop .loop .inv .1 .0) put)),
+        line .kept .0 ∙ at-loop .loop .inv .1 .1,
       ),
     )
 
@@ -54,10 +69,10 @@ same-length c = search needs
 
 returns : tie.Need-returns Inv-loop μ-loop
 returns c =
-    let l = c .before in
-    let s = c .before .before .before .before in
-    let e : l .loop .i ≡ s .args .n = omega (arith, c .loop-test .left, l .loop .inv .0) in
-    subst (λ k. Put (s .args .out .now) (s .args .at) (linesFrom nodeLine 0 (rowsOf (s .args .rows .now) k)) (63 * k) (l .loop .out) (l .loop .to)) e (l .loop .inv .1 .0)
+    let at-loop = c .before in
+    let start = at-loop .before .before .before .args in
+    let all : at-loop .loop .i ≡ start .n = omega (arith, c .loop-test .left, at-loop .loop .inv .0) in
+    subst (λ (k : ℕ). Put (start .out .now) (start .at) (linesFrom nodeLine 0 (rowsOf (start .rows .now) k)) (nodeLineBytes * k) (at-loop .loop .out) (at-loop .loop .to)) all (at-loop .loop .inv .1 .0)
 
 pub node-lines-spec : {M : Type 1} → statement M
 node-lines-spec =
@@ -66,6 +81,8 @@ node-lines-spec =
     Inv-loop
     μ-loop
     loop-holds
+    read-row-requires
+    cast-node-line
     node-line-requires
     add-i
     loop-less

@@ -6,6 +6,7 @@ use mir.Syntax.{w32}
 use mir.ValLaws.{toZ-ofZ}
 use Rattle.text.specs.Inner.{Put}
 use Rattle.sheet_lines.specs.Lines.{productLine}
+use Rattle.sheet_lines.specs.Inner.{tapLineBytes}
 use Rattle.sheet_lines.proofs.Lines.{tap-none, tap-some}
 use Rattle.sheet_taps.proofs.tap_line.Statement.{statement}
 use Rattle.sheet_taps.proofs.tap_line.Tie as tie
@@ -33,7 +34,7 @@ returns-2 c =
     let x = s .args in
     let p = c .before .before .product-line in
     rw (tap-some (x .i) (x .tap) (x .value) (c .before .before .before .before .if1 .left))
-    (subst (λ (z : ℤ). Put (x .out .now) (x .at) (productLine (x .i) (x .tap) z) 53 (p .last .0) (p .result)) (toZ-ofZ w32 (x .value) (s .fits .value)) (p .ensures))
+    (subst (λ (z : ℤ). Put (x .out .now) (x .at) (productLine (x .i) (x .tap) z) tapLineBytes (p .last .0) (p .result)) (toZ-ofZ w32 (x .value) (s .fits .value)) (p .ensures))
 
 pub tap-line-spec : {M : Type 1} → statement M
 tap-line-spec =

@@ -1,4 +1,5 @@
--- `sheet_taps::tap_lines` meets its contract. Assumes nothing.
+-- `sheet_taps::tap_lines` meets its contract. The invariant of its loop: the lines of the first j tap rows stand from `at` to `to`, and each took no more than its bytes. The measure is the number of taps left.
+-- Assumes nothing.
 use borrow.Author.Needs.{needs}
 use mathlib.Core.Path.{_≡_, refl, ap, subst, _∙_}
 use Prim.Native.Nat.{_≤_, _-_, _*_}
@@ -13,13 +14,14 @@ use Rattle.text.proofs.Puts.{then, widen}
 use Rattle.text.specs.Inner.{Put}
 use Rattle.sheet_taps.specs.Inner.{tapLineOf}
 use Rattle.sheet_lines.specs.Lines.{tapLine, linesFrom}
+use Rattle.sheet_lines.specs.Inner.{tapLineBytes}
 use Rattle.sheet_lines.proofs.Lines.{lines-next, nothing-put}
 use Rattle.sheet_taps.proofs.tap_lines.Statement.{statement}
 use Rattle.sheet_taps.proofs.tap_lines.Tie as tie
 
 abbrev Inv-loop : tie.InvT-loop
 Inv-loop out₀ at tap-rows coefficients to₀ j₀ out to j =
-    (j ≤ length coefficients) × (Put out₀ at (linesFrom (tapLineOf coefficients) 0 (tapRowsOf tap-rows j)) (53 * j) out to × (length out ≡ length out₀))
+    (j ≤ length coefficients) × (Put out₀ at (linesFrom (tapLineOf coefficients) 0 (tapRowsOf tap-rows j)) (tapLineBytes * j) out to × (length out ≡ length out₀))
 
 abbrev μ-loop : tie.MeasureT-loop
 μ-loop out₀ at tap-rows coefficients to₀ j₀ out to j = length coefficients - j
@@ -66,9 +68,9 @@ loop-again c =
     let j = l .loop .j in
     let z = getD (a .coefficients .now) j (pos 0) in
     let e = toZ-ofZ w32 z (record { sfits = c .before .before .before .tap-line-arg2 .given }) in
-    let p : Put (l .loop .out) (l .loop .to) (tapLine j (tapRowAt (a .tap-rows .now) j) z) 53 (d .last .0) (d .result)
-    = subst (λ (t : TapRow). Put (l .loop .out) (l .loop .to) (tapLine j t z) 53 (d .last .0) (d .result)) (c .before .before .before .before .before .read-tap-row .ensures)
-    (subst (λ (v : ℤ). Put (l .loop .out) (l .loop .to) (tapLine j (c .before .before .before .before .before .read-tap-row .result) v) 53 (d .last .0) (d .result)) e (d .ensures)) in (
+    let p : Put (l .loop .out) (l .loop .to) (tapLine j (tapRowAt (a .tap-rows .now) j) z) tapLineBytes (d .last .0) (d .result)
+    = subst (λ (t : TapRow). Put (l .loop .out) (l .loop .to) (tapLine j t z) tapLineBytes (d .last .0) (d .result)) (c .before .before .before .before .before .read-tap-row .ensures)
+    (subst (λ (v : ℤ). Put (l .loop .out) (l .loop .to) (tapLine j (c .before .before .before .before .before .read-tap-row .result) v) tapLineBytes (d .last .0) (d .result)) e (d .ensures)) in (
       search needs,
       (
         rw (lines-next (tapLineOf (a .coefficients .now)) (tapRowAt (a .tap-rows .now)) j) (widen (omega arith) (then (l .loop .inv .1 .0) p)),
@@ -85,7 +87,7 @@ returns c =
     let s = c .before .before .before .before in
     let a = s .args in
     let e : l .loop .j ≡ length (a .coefficients .now) = omega (arith, c .loop-test .left, l .loop .inv .0) in
-    subst (λ k. Put (a .out .now) (a .at) (linesFrom (tapLineOf (a .coefficients .now)) 0 (tapRowsOf (a .tap-rows .now) k)) (53 * k) (l .loop .out) (l .loop .to)) e (l .loop .inv .1 .0)
+    subst (λ k. Put (a .out .now) (a .at) (linesFrom (tapLineOf (a .coefficients .now)) 0 (tapRowsOf (a .tap-rows .now) k)) (tapLineBytes * k) (l .loop .out) (l .loop .to)) e (l .loop .inv .1 .0)
 
 pub tap-lines-spec : {M : Type 1} → statement M
 tap-lines-spec =

@@ -1,10 +1,12 @@
--- `sheet_text::coefficient_sheet` meets its contract. Assumes nothing.
+-- `sheet_text::coefficient_sheet` meets its contract: building turns no such coefficients down (`never-refused`), and leaves tables that hold the network of the definitions (`printable`), so that the sheet of the tables is the sheet of the network.
+-- Assumes nothing.
 use borrow.Author.Needs.{needs}
 use mathlib.Core.Path.{sym, ap, subst, _∙_}
 use Rattle.build_network.specs.Answer.{answerOf}
 use Rattle.sheet_kinds.specs.Text.{networkText}
 use Rattle.text.specs.Inner.{Put}
 use Rattle.network.specs.Rows.{Network}
+use Rattle.sheet_lines.specs.Inner.{areaBytes}
 use Rattle.sheet_text.specs.Sheet.{choices}
 use Rattle.sheet_text.proofs.Building.{zeros, room, Printable, printable, never-refused}
 use Rattle.sheet_text.proofs.coefficient_sheet.Statement.{statement}
@@ -63,7 +65,7 @@ returns c =
     let s = c .before .before .before .before .before .before .before .before .before .before .before .before .before .before .before .before in
     let a = s .args in
     let p = c .before .before .network-sheet in
-    subst (λ (q : Network). Put (a .out .now) 0 (networkText q) 262144 (p .last .0) (p .result)) (printed (c .before .before .before .before .before .before .before) .network) (p .ensures)
+    subst (λ (q : Network). Put (a .out .now) 0 (networkText q) areaBytes (p .last .0) (p .result)) (printed (c .before .before .before .before .before .before .before) .network) (p .ensures)
 
 same-length-2 : tie.Need-same-length-2
 same-length-2 c = search needs

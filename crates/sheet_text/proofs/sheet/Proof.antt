@@ -6,6 +6,7 @@ use lib.ListN.{length}
 use Rattle.sheet_input.proofs.Answers.{at-most-256}
 use Rattle.sheet_input.specs.Input.{answerOf}
 use Rattle.sheet_input.specs.Argument.{argumentOf}
+use Rattle.sheet_lines.specs.Inner.{areaBytes}
 use Rattle.sheet_text.proofs.Sheets.{sheet-given, sheet-refused, put-sheet}
 use Rattle.sheet_text.proofs.sheet.Statement.{statement}
 use Rattle.sheet_text.proofs.sheet.Tie as tie
@@ -32,14 +33,14 @@ returns : tie.Need-returns
 returns c =
     let a = c .before .before .before .before .before .before .before .before .args in
     let e = sym (c .before .before .before .before .before .fraction-bits .ensures) ∙ ap answerOf (c .before .before .before .fraction .given .1) in
-    let k : 262144 ≤ length (a .out .now) = search needs in
+    let k : areaBytes ≤ length (a .out .now) = search needs in
     put-sheet (a .input .now) (argumentOf (a .given) (a .argument .now)) (sheet-given (a .input .now) (argumentOf (a .given) (a .argument .now)) _ e) (c .tap-sheet .ensures) k
 
 returns-2 : tie.Need-returns-2
 returns-2 c =
     let a = c .before .before .before .before .before .before .before .before .args in
     let e = sym (c .before .before .before .before .before .fraction-bits .ensures) ∙ ap answerOf (c .before .before .before .fraction2 .given .1) in
-    let k : 262144 ≤ length (a .out .now) = search needs in
+    let k : areaBytes ≤ length (a .out .now) = search needs in
     put-sheet (a .input .now) (argumentOf (a .given) (a .argument .now)) (sheet-refused (a .input .now) (argumentOf (a .given) (a .argument .now)) _ _ e) (c .refused-sheet .ensures) k
 
 pub sheet-spec : {M : Type 1} → statement M

@@ -1,4 +1,5 @@
--- `sheet_text::tap_sheet` meets its contract. Assumes nothing.
+-- `sheet_text::tap_sheet` meets its contract: the table holds the input's taps (`held`), so that the answer of the rounding is the answer to these (`rounded`), and where it is given the table of coefficients holds theirs (`coefficients`), which are within the bounds.
+-- Assumes nothing.
 use borrow.Author.Needs.{needs}
 use mathlib.Core.List.{List}
 use mathlib.Core.Bool.{false}
@@ -16,6 +17,7 @@ use Rattle.sequence.proofs.UpTo.{length-upTo}
 use Rattle.tap_set.specs.Set.{roundedTaps, coefficientsOf, answerOf}
 use Rattle.build_steps.specs.TapRows.{built}
 use Rattle.refusal.specs.Answer.{given}
+use Rattle.sheet_lines.specs.Inner.{areaBytes}
 use Rattle.sheet_text.specs.Inner.{Coefficients}
 use Rattle.sheet_text.specs.Sheet.{choices}
 use Rattle.sheet_text.proofs.Sheets.{taps-held, length-held, answer-held, coefficients-held, taps-given, taps-refused}
@@ -92,7 +94,7 @@ returns : tie.Need-returns
 returns c =
     let a = c .before .before .before .before .before .before .before .before .before .before .before .before .before .before .before .before .args in
     let p = c .before .before .coefficient-sheet in
-    subst (λ (t : List ℕ). Put (a .out .now) 0 t 262144 (p .last .0) (p .result))
+    subst (λ (t : List ℕ). Put (a .out .now) 0 t areaBytes (p .last .0) (p .result))
     (ap (λ (h : List ℤ). networkText (built h choices)) (coefficients (c .before .before .before .before .before)) ∙ sym (taps-given (a .fraction-bits) (tapsOf (a .input .now)) _ (accepted (c .before .before .before .before .before))))
     (p .ensures)
 
@@ -104,7 +106,7 @@ returns-2 c =
     let a = c .before .before .before .before .before .before .before .before .before .before .before .before .before .before .before .before .args in
     let p = c .before .before .refused-sheet in
     let e = sym (rounded (c .before .before .before .before .before .before .before .before)) ∙ ap answerOf (c .before .before .before .before .before .answer .given .1) in
-    subst (λ (t : List ℕ). Put (a .out .now) 0 t 262144 (p .last .0) (p .result)) (sym (taps-refused (a .fraction-bits) (tapsOf (a .input .now)) _ _ e)) (p .ensures)
+    subst (λ (t : List ℕ). Put (a .out .now) 0 t areaBytes (p .last .0) (p .result)) (sym (taps-refused (a .fraction-bits) (tapsOf (a .input .now)) _ _ e)) (p .ensures)
 
 pub tap-sheet-spec : {M : Type 1} → statement M
 tap-sheet-spec =

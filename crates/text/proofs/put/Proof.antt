@@ -1,4 +1,5 @@
--- `text::put` meets its contract. Assumes nothing.
+-- `text::put` meets its contract. The invariant of its loop: the area is as it was but for the first i bytes of the text, which stand from index `at` on. The measure is the number of bytes left.
+-- Assumes nothing.
 use borrow.Author.Needs.{needs}
 use mathlib.Core.Path.{_≡_, refl, ap, _∙_}
 use Prim.Native.Nat.{_≤_, _-_, _+_}

@@ -1,4 +1,4 @@
--- `text::put_integer` meets its contract. Assumes nothing.
+-- `text::put_integer` meets its contract: by the sign, what is written is `-` and the magnitude, or the magnitude alone. Assumes nothing.
 use borrow.Author.Needs.{needs}
 use mathlib.Core.List.{_∷_}
 use mathlib.Core.Path.{ap, subst, _∙_}
@@ -7,7 +7,7 @@ use lib.Dec.{lit≤}
 use mir.ValLaws.{toZ-ofZ}
 use mir.Syntax.{w32}
 use Rattle.word.proofs.Signed.{low, high}
-use Rattle.text.specs.Inner.{Put}
+use Rattle.text.specs.Inner.{Put, integerBytes}
 use Rattle.text.specs.Numbers.{decimal}
 use Rattle.text.proofs.Integers.{negative, not-negative}
 use Rattle.text.proofs.Puts.{then, widen}
@@ -35,7 +35,7 @@ returns c =
     let s = t .before .before .before in
     let a = s .args in
     let e = negative (a .n) (low w32 w32 (a .n) (s .fits .n) (lit≤ tt) (t .if1 .taken)) in
-    rw e (subst (λ k. Put (a .out .now) (a .at) (45 ∷ decimal k) 11 (d .put-number .last .0) (d .put-number .result)) (m .ensures ∙ ap natAbs (toZ-ofZ w32 (a .n) (s .fits .n)))
+    rw e (subst (λ k. Put (a .out .now) (a .at) (45 ∷ decimal k) integerBytes (d .put-number .last .0) (d .put-number .result)) (m .ensures ∙ ap natAbs (toZ-ofZ w32 (a .n) (s .fits .n)))
     (then (b .put-byte .ensures) (d .put-number .ensures)))
 
 put-number-requires-2 : tie.Need-put-number-requires-2
@@ -52,7 +52,7 @@ returns-2 c =
     let s = t .before .before .before in
     let a = s .args in
     let e = not-negative (a .n) (high w32 w32 (a .n) (s .fits .n) (lit≤ tt) (t .if1 .left)) in
-    rw e (subst (λ k. Put (a .out .now) (a .at) (decimal k) 11 (d .put-number2 .last .0) (d .put-number2 .result)) (m .ensures ∙ ap natAbs (toZ-ofZ w32 (a .n) (s .fits .n)))
+    rw e (subst (λ k. Put (a .out .now) (a .at) (decimal k) integerBytes (d .put-number2 .last .0) (d .put-number2 .result)) (m .ensures ∙ ap natAbs (toZ-ofZ w32 (a .n) (s .fits .n)))
     (widen (lit≤ tt) (d .put-number2 .ensures)))
 
 pub put-integer-spec : {M : Type 1} → statement M

@@ -4,7 +4,7 @@ use mathlib.Core.Path.{subst, _∙_}
 use native.Mathlib.Omega.{arith}
 use lib.Dec.{lit≤}
 use lib.ListN.{length}
-use Rattle.text.specs.Inner.{Put}
+use Rattle.text.specs.Inner.{Put, numberBytes}
 use Rattle.text.proofs.Decimals.{digits-decimal, decimal-le}
 use Rattle.text.proofs.Puts.{widen}
 use Rattle.text.proofs.put_number.Statement.{statement}
@@ -24,7 +24,7 @@ put-requires c κs =
     let d = c .before .before in
     let s = d .before .before .before in
     let e = d .decimal .ensures .1 .1 ∙ digits-decimal (d .decimal .result) (s .args .n) (d .decimal .ensures .1 .0) in
-    rw e (omega (arith, s .pre, decimal-le 10 (s .args .n) (lit≤ tt) (omega (arith, s .fits .n))))
+    rw e (omega (arith, s .pre, decimal-le numberBytes (s .args .n) (lit≤ tt) (omega (arith, s .fits .n))))
 
 same-length : tie.Need-same-length
 same-length c = search needs
@@ -36,7 +36,7 @@ returns c =
     let a = s .args in
     let e = d .decimal .ensures .1 .1 ∙ digits-decimal (d .decimal .result) (a .n) (d .decimal .ensures .1 .0) in
     let p = c .before .before .put in
-    widen (decimal-le 10 (a .n) (lit≤ tt) (omega (arith, s .fits .n)))
+    widen (decimal-le numberBytes (a .n) (lit≤ tt) (omega (arith, s .fits .n)))
     (subst (λ t. Put (a .out .now) (a .at) t (length t) (p .last .0) (p .result)) e (p .ensures))
 
 pub put-number-spec : {M : Type 1} → statement M

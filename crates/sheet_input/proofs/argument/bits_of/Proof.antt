@@ -1,4 +1,5 @@
--- `sheet_input::argument::bits_of` meets its contract. Assumes nothing.
+-- `sheet_input::argument::bits_of` meets its contract. The invariant of its loop: the argument is all digits where its bytes from i on are, and its number is the one that these make after f, which is at most 31. A number above 31 only grows with further digits, so the loop may be left there. The measure is the number of bytes left.
+-- Assumes nothing.
 use borrow.Author.Needs.{needs}
 use mathlib.Core.Path.{_≡_, refl, sym, ap, _∙_}
 use Prim.Native.Nat.{_≤_, _-_, _+_, _*_, _<_}

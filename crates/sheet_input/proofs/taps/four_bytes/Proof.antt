@@ -1,4 +1,5 @@
--- `sheet_input::taps::four_bytes` meets its contract. Assumes nothing.
+-- `sheet_input::taps::four_bytes` meets its contract: each byte is below 256, so that no sum is too large, and `low-four` says what number four bytes make.
+-- Assumes nothing.
 use borrow.Author.Needs.{needs}
 use native.Mathlib.Omega.{arith}
 use Rattle.sheet_input.proofs.Bytes.{low-four}

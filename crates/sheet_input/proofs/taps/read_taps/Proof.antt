@@ -1,4 +1,5 @@
--- `sheet_input::taps::read_taps` meets its contract. Assumes nothing.
+-- `sheet_input::taps::read_taps` meets its contract. The invariant of its loop: the first i elements of the table are the input's first i taps, and the others are as they were. The measure is the number of taps left.
+-- Assumes nothing.
 use borrow.Author.Needs.{needs}
 use mathlib.Core.Path.{_≡_, refl, sym, ap, _∙_}
 use Prim.Native.Nat.{_/_, _≤_, _-_}

@@ -1,9 +1,10 @@
--- `sheet_lines::put_shared` meets its contract. Assumes nothing.
+-- `sheet_lines::put_to_sign` meets its contract. Assumes nothing.
 use borrow.Author.Needs.{needs}
-use Rattle.text.proofs.Puts.{then, comma}
+use Rattle.text.proofs.Puts.{then}
 use Rattle.text.specs.Numbers.{decimal}
-use Rattle.sheet_lines.proofs.put_shared.Statement.{statement}
-use Rattle.sheet_lines.proofs.put_shared.Tie as tie
+use Rattle.sheet_lines.proofs.Lines.{comma}
+use Rattle.sheet_lines.proofs.put_to_sign.Statement.{statement}
+use Rattle.sheet_lines.proofs.put_to_sign.Tie as tie
 
 put-field-requires : tie.Need-put-field-requires
 put-field-requires c κs = search needs
@@ -34,8 +35,8 @@ returns c =
     (comma (decimal (x .shift)) (c .before .before .before .before .before .before .before .before .before .before .put-field3 .ensures)
     (then (c .before .before .before .before .before .before .put-byte .ensures) (c .before .before .put-byte2 .ensures))))
 
-pub put-shared-spec : {M : Type 1} → statement M
-put-shared-spec =
+pub put-to-sign-spec : {M : Type 1} → statement M
+put-to-sign-spec =
     tie.close
     (tie.spec
     put-field-requires

@@ -1,8 +1,8 @@
--- `sheet_kinds::put_header` meets its contract. Assumes nothing.
+-- `sheet_lines::put_header` meets its contract. Assumes nothing.
 use borrow.Author.Needs.{needs}
 use Rattle.sheet_lines.specs.Lines.{line, columns, header}
-use Rattle.sheet_kinds.proofs.put_header.Statement.{statement}
-use Rattle.sheet_kinds.proofs.put_header.Tie as tie
+use Rattle.sheet_lines.proofs.put_header.Statement.{statement}
+use Rattle.sheet_lines.proofs.put_header.Tie as tie
 
 slice-aggregate-put : tie.Need-slice-aggregate-put
 slice-aggregate-put c = search needs

@@ -1,8 +1,8 @@
--- `text::put_last` meets its contract. Assumes nothing.
+-- `sheet_lines::put_to_value` meets its contract. Assumes nothing.
 use borrow.Author.Needs.{needs}
 use Rattle.text.proofs.Puts.{then}
-use Rattle.text.proofs.put_last.Statement.{statement}
-use Rattle.text.proofs.put_last.Tie as tie
+use Rattle.sheet_lines.proofs.put_to_value.Statement.{statement}
+use Rattle.sheet_lines.proofs.put_to_value.Tie as tie
 
 put-number-requires : tie.Need-put-number-requires
 put-number-requires c κs = search needs
@@ -20,6 +20,6 @@ returns : tie.Need-returns
 returns c =
     then (c .before .before .before .before .before .before .before .put-number .ensures) (c .before .before .put .ensures)
 
-pub put-last-spec : {M : Type 1} → statement M
-put-last-spec =
+pub put-to-value-spec : {M : Type 1} → statement M
+put-to-value-spec =
     tie.close (tie.spec put-number-requires slice-aggregate-put put-requires same-length returns)

@@ -1,8 +1,8 @@
--- `text::put_field` meets its contract. Assumes nothing.
+-- `sheet_lines::put_field` meets its contract. Assumes nothing.
 use borrow.Author.Needs.{needs}
 use Rattle.text.proofs.Puts.{then}
-use Rattle.text.proofs.put_field.Statement.{statement}
-use Rattle.text.proofs.put_field.Tie as tie
+use Rattle.sheet_lines.proofs.put_field.Statement.{statement}
+use Rattle.sheet_lines.proofs.put_field.Tie as tie
 
 put-number-requires : tie.Need-put-number-requires
 put-number-requires c κs = search needs
