@@ -1,5 +1,9 @@
--- `build_pair::first_fit` meets its contract. The invariants: nothing fits with the left rows passed, and with this one at the shifts passed.
--- Assumes nothing.
+-- `build_pair::first_fit` meets its contract. The search is two loops, one in the other, each with its part of document 01's order. The
+-- invariant of the outer one: nothing fits with a left row below i, at any shift and sign. `lowest_left` says so of the row at which it starts. The
+-- invariant of the inner one (`Trying`): a is 2^s times the left row's value, and nothing fits with this row at the shifts from 1 to s - 1. A fit at
+-- shift s is then the first of all (`left-first`, `fit-first`), since `at_shift` takes the signs in their order. Where a passes v + most, no sign
+-- can make v with a row's value, at this shift or a larger one (`shift-past`), so that the left row has no fit (`left-none`). The measures are the
+-- rows still to be tried, n - i, and the shifts, 33 - s: while a is below 2^32, s is below 32, for no row's value is 0. Assumes nothing.
 use mathlib.Core.Path.{_≡_, sym, ap, _∙_}
 use Prim.Native.Nat.{ℕ, _-_, _*_, _^_, _≤_, _<_}
 use native.Mathlib.Omega.{arith}
