@@ -46,6 +46,12 @@ withRow table n r =
     set (set (set (set (set table (rowWords * n) (r .left)) (rowWords * n + 1) (r .right)) (rowWords * n + 2) (r .shift)) (rowWords * n + 3) (r .sign)) (rowWords * n + 4)
     (r .value)
 
+-- table and index have room for k rows
+pub record HasRoom (table links : List ℕ) (k : ℕ) : Type 0 where
+  pub few : k ≤ 4096
+  pub words : rowWords * k ≤ length table
+  pub linked : k ≤ length links
+
 -- a table has become table′: it holds n′ rows, which are these, with their index, and is untouched past them
 pub record Grown (table table′ heads′ links′ : List ℕ) (n′ : ℕ) (rows′ : List Row) : Type 0 where
   pub rows-are : rowsOf table′ n′ ≡ rows′

@@ -1,4 +1,4 @@
--- What is known before the network is written, and what is left in the tables. For the contracts of internal functions. Definitions only.
+-- What is known once every check is passed, and what is left in the tables. For the contracts of internal functions. Definitions only.
 use mathlib.Core.Path.{_≡_}
 use mathlib.Core.List.{List}
 use Prim.Native.Nat.{ℕ, _*_, _≤_}
@@ -10,10 +10,6 @@ use Rattle.build_steps.specs.Steps.{builtRows}
 use Rattle.build_steps.specs.TapRows.{built}
 use Rattle.build_steps.specs.Tables.{wordsOfRows, wordsOfTapRows}
 use Rattle.build_steps.specs.Answer.{missingForm}
-use Rattle.build_steps.specs.CanBuild.{CanBuild}
-use Rattle.build_odd_parts.specs.Inner.{Ordered}
-use Rattle.build_index.specs.Inner.{Indexed}
-use Rattle.build_chain.specs.Inner.{HasRoom}
 use Rattle.build_tap_rows.specs.Inner.{over}
 
 -- every check is passed
@@ -23,19 +19,6 @@ pub record Accepted (coefficients : List ℤ) (choices rows taps : List ℕ) : T
   pub forms : missingForm coefficients choices ≡ nowhere
   pub rows-long : 4096 * rowWords ≤ length rows
   pub taps-long : 256 * tapWords ≤ length taps
-
--- and the odd parts are in order
-pub record Planned (coefficients : List ℤ) (choices keys : List ℕ) (m : ℕ) (rows taps : List ℕ) : Type 0 where
-  pub can-build : CanBuild coefficients choices
-  pub ordered : Ordered coefficients keys m
-  pub keyed : m ≤ length keys
-  pub rows-long : 4096 * rowWords ≤ length rows
-  pub taps-long : 256 * tapWords ≤ length taps
-
--- an empty index with room for all rows
-pub record WithIndex (coefficients : List ℤ) (choices rows heads links : List ℕ) : Type 0 where
-  pub index : Indexed rows heads links 0
-  pub room : HasRoom rows links (length (builtRows coefficients choices))
 
 -- the two tables afterwards, and the number of rows
 pub record Written (coefficients : List ℤ) (choices rows taps rows′ taps′ : List ℕ) (n : ℕ) : Type 0 where

@@ -1,4 +1,5 @@
--- `build_network::build` meets its contract. Assumes nothing.
+-- `build_network::build` meets its contract. Each test of the code is one check of `buildAnswer`, in the order of document 01's table; a refusal leaves both tables
+-- as they were. Past the last test every check is passed, and `build_accepted` writes the network. Assumes nothing.
 use borrow.Author.Needs.{needs}
 use mathlib.Core.Path.{_≡_, sym, ap, _∙_}
 use mathlib.Core.Bool.{Bool, false}

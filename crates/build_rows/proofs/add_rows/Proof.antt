@@ -1,14 +1,23 @@
--- `build_rows::add_rows` meets its contract. The invariant: the parts still to come give the rows of all parts. Assumes nothing.
+-- `build_rows::add_rows` meets its contract. The invariant of its loop (`Round`): the n rows that are there keep the row rule, none has a value above `most`,
+-- the table is untouched past them, and the steps of the odd parts still to come, over these rows, give the rows of all odd parts. It holds once
+-- row 0 is there, with which document 01 begins. One turn takes the next odd part off that list: `add_part` does its step, and no row that an odd part
+-- brings has a larger value than the part itself, so that `most` stays a bound. There is room for each step, since no step takes a row away and all
+-- rows together have room. The measure is the number of odd parts still to come, m - i; at 0 the list is empty, and the rows are all rows.
+-- Assumes nothing.
 use borrow.Author.Needs.{needs}
-use mathlib.Core.Path.{_≡_, refl, ap, _∙_}
+use mathlib.Core.Path.{_≡_, refl, sym, ap, ap₂, subst, _∙_}
 use mathlib.Core.List.{[], _∷_, map}
-use Prim.Native.Nat.{ℕ, _-_, _≤_, max}
+use Prim.Native.Nat.{ℕ, _-_, _≤_, _<_, max}
 use native.Mathlib.Omega.{arith}
-use lib.ListN.{length, take}
-use Rattle.build_steps.specs.Steps.{firstRow, steps}
+use lib.ListN.{length, getD, take}
+use Rattle.network.specs.Rows.{rowsOf}
+use Rattle.build_steps.specs.Parts.{Part}
+use Rattle.build_steps.specs.Steps.{firstRow, step, steps}
 use Rattle.build_odd_parts.specs.Inner.{partIn}
-use Rattle.build_chain.proofs.Turns.{less-room, same-room}
-use Rattle.build_rows.proofs.Rounds.{Round, round-start, round-end, round-next, some-rows, ready, step-room}
+use Rattle.build_index.specs.Inner.{Grown}
+use Rattle.build_index.proofs.Room.{less-room, same-room}
+use Rattle.build_rows.specs.Inner.{partOf, Ready}
+use Rattle.build_rows.proofs.Rounds.{Round, round-start, round-end, round-next, some-rows, ready}
 use Rattle.build_rows.proofs.add_rows.Statement.{statement}
 use Rattle.build_rows.proofs.add_rows.Tie as tie
 
@@ -47,55 +56,78 @@ mul-key c = let s = start (first (c .before)) in omega (arith, s .pre .keyed, s 
 shared-slice-read-key : tie.Need-shared-slice-read-key Inv-loop μ-loop
 shared-slice-read-key c = let s = start (first (c .before .before)) in omega (arith, s .pre .keyed)
 
-add-key-requires : tie.Need-add-key-requires Inv-loop μ-loop
-add-key-requires c κs =
-    let t = c .before .before .before .before in
+value-of-requires : tie.Need-value-of-requires Inv-loop μ-loop
+value-of-requires c κs = search needs
+
+tap-of-requires : tie.Need-tap-of-requires Inv-loop μ-loop
+tap-of-requires c κs = search needs
+
+-- the tap of the key is one of those that have a choice
+tap-within : (c : tie.After-tap-of Inv-loop μ-loop) → c .tap-of .result < length (start (first (c .before .before .before .before)) .args .choices .now)
+tap-within c =
+    let t = c .before .before .before in
+    let l = t .before in
+    omega (arith, c .tap-of .ensures, start (first l) .pre .taps (l .loop .i) (t .loop-test .taken))
+
+mul-choice : tie.Need-mul-choice Inv-loop μ-loop
+mul-choice c = omega (arith, tap-within c, start (first (c .before .before .before .before)) .good)
+
+shared-slice-read-choice : tie.Need-shared-slice-read-choice Inv-loop μ-loop
+shared-slice-read-choice c = tap-within (c .before)
+
+-- the part that is handed on is that of the key
+part-is : (c : tie.After-tap-of Inv-loop μ-loop)
+    → partIn (start (first (c .before .before .before .before)) .args .choices .now) (getD (start (first (c .before .before .before .before)) .args .keys .now) (c .before .before .before .before .loop .i) 0)
+    ≡ partOf (c .before .value-of .result) (getD (start (first (c .before .before .before .before)) .args .choices .now) (c .tap-of .result) 0)
+part-is c =
+    let a = start (first (c .before .before .before .before)) .args in
+    sym (ap₂ (λ (v k : ℕ). partOf v (getD (a .choices .now) k 0)) (c .before .value-of .ensures) (c .tap-of .ensures))
+
+add-part-requires : tie.Need-add-part-requires Inv-loop μ-loop
+add-part-requires c κs =
+    let v = c .before .before .before .before in
+    let t = v .before .before .before in
     let l = t .before in
     let o = l .loop in
     let f = first l in
     let s = start f in
     let a = s .args in
     let k = f .add-first .kept in
-    let i = o .i in
-    let h = t .loop-test .taken in
     let r = same-room (a .table .now) (a .links .now) (o .table) (o .links) _ (o .inv .1 ∙ k .0) (o .inv .3 ∙ k .1 .1 .0) (s .pre .room) in
-    let b = s .pre .parts i h in (
-      (ready (a .keys .now) (a .m) (a .choices .now) (f .add-first .last .0) (o .table) (o .heads) (o .links) (o .n) (o .most) i h (s .pre .keyed) (o .inv .4) b, s .pre .taps i h),
-      less-room (o .table) (o .links) _ _ (step-room (a .keys .now) (a .m) (a .choices .now) (f .add-first .last .0) (o .table) (o .heads) (o .links) (o .n) (o .most) i h (s .pre .keyed) (o .inv .4) b) r,
-    )
-
-value-of-requires : tie.Need-value-of-requires Inv-loop μ-loop
-value-of-requires c κs = search needs
+    subst (Ready (o .table) (o .heads) (o .links) (o .n) (o .most)) (part-is v)
+    (ready (a .keys .now) (a .m) (a .choices .now) (f .add-first .last .0) (o .table) (o .heads) (o .links) (o .n) (o .most) (o .i) (t .loop-test .taken) (s .pre .keyed) (o .inv .4) (s .pre .parts (o .i) (t .loop-test .taken)) r)
 
 larger-requires : tie.Need-larger-requires Inv-loop μ-loop
 larger-requires c κs = search needs
 
 add-i : tie.Need-add-i Inv-loop μ-loop
-add-i c = let l = c .before .before .before .before .before .before .before .before .before .before .before .before .before .before in omega (arith, l .loop .inv .0, c .before .before .before .before .before .before .before .before .before .before .before .before .before .loop-test .taken, start (first l) .fits .m)
+add-i c =
+    let t = c .before .before .before .before .before .before .before .before .before .before .before .before .before .before .before in
+    omega (arith, t .before .loop .inv .0, t .loop-test .taken, start (first (t .before)) .fits .m)
 
 loop-less : tie.Need-loop-less Inv-loop μ-loop
-loop-less c = omega (arith, c .before .before .before .before .before .before .before .before .before .before .before .before .before .loop-test .taken)
+loop-less c = omega (arith, c .before .before .before .before .before .before .before .before .before .before .before .before .before .before .before .loop-test .taken)
 
 loop-again : tie.Need-loop-again Inv-loop μ-loop
 loop-again c =
-    let v = c .before in
-    let g = v .before .before .before .before .before .before .before in
-    let t = g .before .before .before .before .before in
+    let g = c .before .before .before .before .before .before .before in
+    let v = g .before .before .before .before .before in
+    let t = v .before .before .before in
     let l = t .before in
     let o = l .loop in
     let f = first l in
     let s = start f in
     let a = s .args in
-    let k = g .add-key .kept in
-    let i = o .i in
+    let k = g .add-part .kept in
     let h = t .loop-test .taken in
-    let e = c .larger .ensures ∙ ap (λ (x : ℕ). max (o .most) x) (v .value-of .ensures) in (
+    let e = c .larger .ensures ∙ ap (λ (x : ℕ). max (o .most) x) (v .before .value-of .ensures) in
+    let w = subst (λ (p : Part). Grown (o .table) (g .add-part .last .0) (g .add-part .last .1 .0) (g .add-part .last .1 .1 .0) (g .add-part .result) (step (rowsOf (o .table) (o .n)) p)) (sym (part-is v)) (g .add-part .ensures) in (
       omega (arith, h),
-      k .1 .1 .0 ∙ o .inv .1,
-      k .1 .1 .1 .0 ∙ o .inv .2,
-      k .1 .1 .1 .1 .0 ∙ o .inv .3,
-      round-next (a .keys .now) (a .m) (a .choices .now) (f .add-first .last .0) (o .table) (o .heads) (o .links) (o .n) (o .most) i h (s .pre .keyed) (o .inv .4) (s .pre .parts i h)
-          (g .add-key .last .1 .1 .0) (g .add-key .last .1 .1 .1 .0) (g .add-key .last .1 .1 .1 .1 .0) (g .add-key .result) (c .larger .result) e (g .add-key .ensures),
+      k .0 ∙ o .inv .1,
+      k .1 .0 ∙ o .inv .2,
+      k .1 .1 .0 ∙ o .inv .3,
+      round-next (a .keys .now) (a .m) (a .choices .now) (f .add-first .last .0) (o .table) (o .heads) (o .links) (o .n) (o .most) (o .i) h (s .pre .keyed) (o .inv .4) (s .pre .parts (o .i) h)
+          (g .add-part .last .0) (g .add-part .last .1 .0) (g .add-part .last .1 .1 .0) (g .add-part .result) (c .larger .result) e w,
     )
 
 same-length : tie.Need-same-length Inv-loop μ-loop
@@ -126,8 +158,11 @@ add-rows-spec =
     loop-holds
     mul-key
     shared-slice-read-key
-    add-key-requires
     value-of-requires
+    tap-of-requires
+    mul-choice
+    shared-slice-read-choice
+    add-part-requires
     larger-requires
     add-i
     loop-less

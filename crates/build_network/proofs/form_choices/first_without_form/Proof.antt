@@ -1,4 +1,5 @@
--- `build_network::form_choices::first_without_form` meets its contract. The invariant: every tap passed has its form. Assumes nothing.
+-- `build_network::form_choices::first_without_form` meets its contract. The invariant of its loop: every tap that was passed has its form, so that the lowest tap
+-- without one, counted from i on, is the lowest of all. The measure is the number of taps still to be looked at. Assumes nothing.
 use borrow.Author.Needs.{needs}
 use borrow.Author.Tests.{not-true, not-false}
 use mathlib.Core.Path.{_≡_, refl, sym, ap, _∙_}
