@@ -6,7 +6,7 @@ ghost use lib.ListN.{take};
 ghost use Rattle.network.specs.Rows.{rowsOf};
 ghost use Rattle.build_steps.specs.Steps.{firstRow, step, steps};
 ghost use Rattle.build_odd_parts.specs.Inner.{partIn};
-ghost use Rattle.build_index.specs.Inner.{Indexed, HasRoom, Grown};
+ghost use Rattle.build_index.specs.Inner.{Grown};
 ghost use Rattle.build_rows.specs.Inner.{partOf, Ready, CanStart};
 use build_index::Found;
 use build_pair::NewRow;
@@ -48,20 +48,6 @@ fn add_part(
     }
 }
 
-fn add_first(table: &mut [u32], heads: &mut [u16], links: &mut [u16])
-    requires { ⌜ Indexed (now table) (now heads) (now links) 0 × HasRoom (now table) (now links) 1 ⌝ }
-    ensures { λ r. ⌜ Grown (now (table .entry)) (now (table .exit)) (now (heads .exit)) (now (links .exit)) 1 (firstRow ∷ []) ⌝ }
-{
-    let row = Row {
-        left: 0,
-        right: 0,
-        shift: 0,
-        sign: network::PLUS,
-        value: 1,
-    };
-    build_index::put(table, heads, links, 0, row);
-}
-
 // Row 0 and the rows of the odd parts, in order, and their number. The largest value is kept on the way.
 pub fn add_rows(
     keys: &[u64],
@@ -75,7 +61,14 @@ pub fn add_rows(
     ensures { λ r. ⌜ Grown (now (table .entry)) (now (table .exit)) (now (heads .exit)) (now (links .exit)) r
         (steps (firstRow ∷ []) (map (partIn (now (choices .entry))) (take m (now (keys .entry))))) ⌝ }
 {
-    add_first(table, heads, links);
+    let first = Row {
+        left: 0,
+        right: 0,
+        shift: 0,
+        sign: network::PLUS,
+        value: 1,
+    };
+    build_index::put(table, heads, links, 0, first);
     let mut n: usize = 1;
     let mut most: u32 = 1;
     let mut i: usize = 0;

@@ -10,8 +10,11 @@ use mathlib.Core.List.{[], _∷_, map}
 use Prim.Native.Nat.{ℕ, _-_, _≤_, _<_, max}
 use native.Mathlib.Omega.{arith}
 use lib.ListN.{length, getD, take}
+use Rattle.refusal.specs.Answer.{lowestFrom}
+use Rattle.sequence.specs.UpTo.{upTo}
 use Rattle.network.specs.Rows.{rowsOf}
 use Rattle.build_steps.specs.Parts.{Part}
+use Rattle.build_steps.specs.Search.{rowWith}
 use Rattle.build_steps.specs.Steps.{firstRow, step, steps}
 use Rattle.build_odd_parts.specs.Inner.{partIn}
 use Rattle.build_index.specs.Inner.{Grown}
@@ -32,23 +35,30 @@ Inv-loop keys m choices table₀ heads₀ links₀ n₀ most₀ i₀ table heads
 abbrev μ-loop : tie.MeasureT-loop
 μ-loop keys m choices table₀ heads₀ links₀ n₀ most₀ i₀ table heads links n most i = m - i
 
-abbrev start : tie.After-add-first Inv-loop μ-loop → tie.Start Inv-loop μ-loop
+abbrev start : tie.After-put Inv-loop μ-loop → tie.Start Inv-loop μ-loop
 start c = c .before .before .before .before .before .before .before .before .before
 
-abbrev first : tie.At-loop Inv-loop μ-loop → tie.After-add-first Inv-loop μ-loop
+abbrev first : tie.At-loop Inv-loop μ-loop → tie.After-put Inv-loop μ-loop
 first c = c .before .before .before .before .before .before .before
 
-add-first-requires : tie.Need-add-first-requires Inv-loop μ-loop
-add-first-requires c κs =
+put-requires : tie.Need-put-requires Inv-loop μ-loop
+unfolding rowWith lowestFrom upTo
+put-requires c κs =
     let s = c .before .before .before .before .before .before .before .before in
     let a = s .args in
-    (s .pre .index, less-room (a .table .now) (a .links .now) 1 (length (steps (firstRow ∷ []) (map (partIn (a .choices .now)) (take (a .m) (a .keys .now))))) (some-rows (a .keys .now) (a .m) (a .choices .now)) (s .pre .room))
+    let r = less-room (a .table .now) (a .links .now) 1 (length (steps (firstRow ∷ []) (map (partIn (a .choices .now)) (take (a .m) (a .keys .now))))) (some-rows (a .keys .now) (a .m) (a .choices .now)) (s .pre .room) in
+    (s .pre .index, ((omega arith, omega (arith, r .words), omega (arith, r .linked)), refl))
+
+-- row 0 is there
+row-0-put : (c : tie.After-put Inv-loop μ-loop) → Grown (start c .args .table .now) (c .put .last .0) (c .put .last .1 .0) (c .put .last .1 .1 .0) 1 (firstRow ∷ [])
+unfolding upTo
+row-0-put c = c .put .ensures
 
 loop-holds : tie.Need-loop-holds Inv-loop μ-loop
 loop-holds c =
     let f = c .before .before .before .before .before .before in
     let a = start f .args in
-    (search needs, refl, refl, refl, round-start (a .keys .now) (a .m) (a .choices .now) (a .table .now) (f .add-first .last .0) (f .add-first .last .1 .0) (f .add-first .last .1 .1 .0) (f .add-first .ensures))
+    (search needs, refl, refl, refl, round-start (a .keys .now) (a .m) (a .choices .now) (a .table .now) (f .put .last .0) (f .put .last .1 .0) (f .put .last .1 .1 .0) (row-0-put f))
 
 mul-key : tie.Need-mul-key Inv-loop μ-loop
 mul-key c = let s = start (first (c .before)) in omega (arith, s .pre .keyed, s .good)
@@ -92,10 +102,10 @@ add-part-requires c κs =
     let f = first l in
     let s = start f in
     let a = s .args in
-    let k = f .add-first .kept in
+    let k = f .put .kept in
     let r = same-room (a .table .now) (a .links .now) (o .table) (o .links) _ (o .inv .1 ∙ k .0) (o .inv .3 ∙ k .1 .1 .0) (s .pre .room) in
     subst (Ready (o .table) (o .heads) (o .links) (o .n) (o .most)) (part-is v)
-    (ready (a .keys .now) (a .m) (a .choices .now) (f .add-first .last .0) (o .table) (o .heads) (o .links) (o .n) (o .most) (o .i) (t .loop-test .taken) (s .pre .keyed) (o .inv .4) (s .pre .parts (o .i) (t .loop-test .taken)) r)
+    (ready (a .keys .now) (a .m) (a .choices .now) (f .put .last .0) (o .table) (o .heads) (o .links) (o .n) (o .most) (o .i) (t .loop-test .taken) (s .pre .keyed) (o .inv .4) (s .pre .parts (o .i) (t .loop-test .taken)) r)
 
 larger-requires : tie.Need-larger-requires Inv-loop μ-loop
 larger-requires c κs = search needs
@@ -126,18 +136,18 @@ loop-again c =
       k .0 ∙ o .inv .1,
       k .1 .0 ∙ o .inv .2,
       k .1 .1 .0 ∙ o .inv .3,
-      round-next (a .keys .now) (a .m) (a .choices .now) (f .add-first .last .0) (o .table) (o .heads) (o .links) (o .n) (o .most) (o .i) h (s .pre .keyed) (o .inv .4) (s .pre .parts (o .i) h)
+      round-next (a .keys .now) (a .m) (a .choices .now) (f .put .last .0) (o .table) (o .heads) (o .links) (o .n) (o .most) (o .i) h (s .pre .keyed) (o .inv .4) (s .pre .parts (o .i) h)
           (g .add-part .last .0) (g .add-part .last .1 .0) (g .add-part .last .1 .1 .0) (g .add-part .result) (c .larger .result) e w,
     )
 
 same-length : tie.Need-same-length Inv-loop μ-loop
-same-length c = let l = c .before in l .loop .inv .1 ∙ first l .add-first .kept .0
+same-length c = let l = c .before in l .loop .inv .1 ∙ first l .put .kept .0
 
 same-length-2 : tie.Need-same-length-2 Inv-loop μ-loop
-same-length-2 c = let l = c .before in l .loop .inv .2 ∙ first l .add-first .kept .1 .0
+same-length-2 c = let l = c .before in l .loop .inv .2 ∙ first l .put .kept .1 .0
 
 same-length-3 : tie.Need-same-length-3 Inv-loop μ-loop
-same-length-3 c = let l = c .before in l .loop .inv .3 ∙ first l .add-first .kept .1 .1 .0
+same-length-3 c = let l = c .before in l .loop .inv .3 ∙ first l .put .kept .1 .1 .0
 
 returns : tie.Need-returns Inv-loop μ-loop
 returns c =
@@ -146,7 +156,7 @@ returns c =
     let f = first l in
     let s = start f in
     let a = s .args in
-    round-end (a .keys .now) (a .m) (a .choices .now) (a .table .now) (f .add-first .last .0) (f .add-first .last .1 .0) (f .add-first .last .1 .1 .0) (o .table) (o .heads) (o .links) (o .n) (o .most) (o .i) (c .loop-test .left) (s .pre .keyed) (f .add-first .ensures) (o .inv .4)
+    round-end (a .keys .now) (a .m) (a .choices .now) (a .table .now) (f .put .last .0) (f .put .last .1 .0) (f .put .last .1 .1 .0) (o .table) (o .heads) (o .links) (o .n) (o .most) (o .i) (c .loop-test .left) (s .pre .keyed) (row-0-put f) (o .inv .4)
 
 pub add-rows-spec : {M : Type 1} → statement M
 add-rows-spec =
@@ -154,7 +164,7 @@ add-rows-spec =
     (tie.spec
     Inv-loop
     μ-loop
-    add-first-requires
+    put-requires
     loop-holds
     mul-key
     shared-slice-read-key

@@ -3,7 +3,7 @@
 use borrow.Author.Needs.{needs}
 use borrow.Author.Tests.{not-true, not-false}
 use mathlib.Core.Path.{_≡_, refl, sym, ap, _∙_}
-use mathlib.Core.Bool.{Bool, true, false, not, true≢false}
+use mathlib.Core.Bool.{Bool, true, false, not, Bool·not-not}
 use Prim.Native.Nat.{_-_, _≤_}
 use native.Mathlib.Omega.{arith}
 use lib.IntN.{ℤ, pos}
@@ -51,10 +51,7 @@ has-form-requires : tie.Need-has-form-requires Inv-loop μ-loop
 has-form-requires c κs = search needs
 
 not-swap : (a b t : Bool) → a ≡ not b → a ≡ not t → b ≡ t
-not-swap a true true e f = refl
-not-swap a false false e f = refl
-not-swap a true false e f = absurd (true≢false (sym f ∙ e))
-not-swap a false true e f = absurd (true≢false (sym e ∙ f))
+not-swap a b t e f = sym (Bool·not-not b) ∙ ap not (sym e ∙ f) ∙ Bool·not-not t
 
 -- what `has_form` said of tap i
 tested : (c : tie.After-has-form Inv-loop μ-loop) (t : Bool) → c .has-form .result ≡ not t
