@@ -10,6 +10,7 @@ use Rattle.build_steps.specs.CanBuild.{Buildable}
 use Rattle.build_odd_parts.specs.Inner.{partIn, tapIn}
 use Rattle.build_index.specs.Inner.{valueAt, Indexed, HasRoom}
 
+-- an odd part with its choice
 abbrev pub partOf : ℕ → ℕ → Part
 partOf v choice = record { value = v; choice = choice }
 

@@ -5,9 +5,10 @@ ghost use Prim.Native.Nat.{_*_, _≤_};
 ghost use lib.ListN.{length, take};
 ghost use Rattle.network.specs.Rows.{tapWords};
 ghost use Rattle.build_steps.specs.Parts.{partsToBuild};
+ghost use Rattle.build_steps.specs.CanBuild.{CanBuildInto};
 ghost use Rattle.build_odd_parts.specs.Inner.{partIn};
 ghost use Rattle.build_rows.specs.Inner.{CanStart};
-ghost use Rattle.build_tables.specs.Inner.{Accepted, Written};
+ghost use Rattle.build_tables.specs.Inner.{Written};
 
 // Rows and tap rows, with an index that is empty at first.
 fn write_network(
@@ -39,7 +40,7 @@ pub fn build_accepted(
     rows: &mut [u32],
     taps: &mut [u32],
 ) -> usize
-    requires { ⌜ Accepted (now coefficients) (now choices) (now rows) (now taps) ⌝ }
+    requires { ⌜ CanBuildInto (now coefficients) (now choices) (now rows) (now taps) ⌝ }
     ensures { λ r. ⌜ Written (now (coefficients .entry)) (now (choices .entry)) (now (rows .entry)) (now (taps .entry))
         (now (rows .exit)) (now (taps .exit)) r ⌝ }
 {

@@ -1,4 +1,4 @@
--- `build_tables::build_accepted` meets its contract. The checks and the keys in order say which parts are built, that each can be, and that at most 15 rows
+-- `build_tables::build_accepted` meets its contract. What can be built and the keys in order say which parts are built, that each can be, and that at most 15 rows
 -- are added for each; an array of zeros is an empty index. Assumes nothing.
 use borrow.Author.Needs.{needs}
 use mathlib.Core.Path.{_≡_, refl}
@@ -19,7 +19,7 @@ start c = c .before .before .before .before .before
 keyed : (c : tie.After-order) → c .order .result ≤ length (c .order .last .1 .0)
 keyed c =
     let l : length (c .order .last .1 .0) ≡ 256 = c .order .kept .1 .0 in
-    omega (arith, c .order .ensures .few, start c .pre .few, l)
+    omega (arith, c .order .ensures .few, start c .pre .can-build .few, l)
 
 slice-aggregate-order : tie.Need-slice-aggregate-order
 slice-aggregate-order c = search needs
@@ -48,7 +48,7 @@ write-network-requires c κs =
           (replicate {A = ℕ} 1024 0) _ (indexed-none (a .rows .now) (replicate {A = ℕ} 1024 0) _ 1024 refl (lit< tt)) (le-trans few (lit≤ tt)),
       (
         parts-ordered (a .coefficients .now) (a .choices .now) (a .rows .now) (a .taps .now) keys (w .order .result) (s .pre) (w .order .ensures) (keyed w),
-        omega (arith, s .pre .taps-long, s .pre .few),
+        omega (arith, s .pre .taps-long, s .pre .can-build .few),
       ),
     )
 
@@ -72,7 +72,7 @@ write-network-requires-2 c κs =
           (replicate {A = ℕ} 131072 0) _ (indexed-none (a .rows .now) (replicate {A = ℕ} 131072 0) _ 131072 refl (lit< tt)) (le-trans few (lit≤ tt)),
       (
         parts-ordered (a .coefficients .now) (a .choices .now) (a .rows .now) (a .taps .now) keys (w .order .result) (s .pre) (w .order .ensures) (keyed w),
-        omega (arith, s .pre .taps-long, s .pre .few),
+        omega (arith, s .pre .taps-long, s .pre .can-build .few),
       ),
     )
 
