@@ -17,15 +17,8 @@ use Rattle.build_index.proofs.Growth.{grown-none}
 use Rattle.build_chain.specs.declared.Chain.{Chain}
 use Rattle.build_chain.specs.declared.Step.{Step}
 use Rattle.build_chain.specs.declared.Place.{Place}
-use Rattle.build_chain.specs.Inner.{HasRoom, below, toCome, Reading, IsNext, Reached, Turned}
+use Rattle.build_chain.specs.Inner.{below, toCome, Reading, IsNext, Reached, Turned}
 use Rattle.build_chain.proofs.Longer.{chain-longer}
-
--- ---- room
-pub less-room : (table links : List ℕ) (j k : ℕ) → j ≤ k → HasRoom table links k → HasRoom table links j
-less-room table links j k h r = record { few = omega (arith, r .few); words = omega (arith, r .words); linked = omega (arith, r .linked) }
-
-pub same-room : (table links table′ links′ : List ℕ) (k : ℕ) → length table′ ≡ length table → length links′ ≡ length links → HasRoom table links k → HasRoom table′ links′ k
-same-room table links table′ links′ k t l r = record { few = r .few; words = omega (arith, r .words); linked = omega (arith, r .linked) }
 
 -- ---- the row of a value
 module _ (table : List ℕ) (n : ℕ) (row : Row) where

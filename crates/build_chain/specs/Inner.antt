@@ -1,8 +1,8 @@
 -- A form that is read from its highest nonzero digit down, while rows are added. For the contracts of internal functions. Definitions only.
 use mathlib.Core.Path.{_≡_}
 use mathlib.Core.List.{List, reverse}
-use Prim.Native.Nat.{ℕ, _*_, _^_, _≤_, _<_}
-use lib.ListN.{length, take}
+use Prim.Native.Nat.{ℕ, _^_, _≤_, _<_}
+use lib.ListN.{take}
 use Rattle.refusal.specs.Answer.{at-place}
 use Rattle.signed_digit.specs.Digit.{nonzero}
 use Rattle.signed_digit.specs.String.{DigitString}
@@ -10,19 +10,13 @@ use Rattle.signed_digit.specs.Masks.{mask}
 use Rattle.form_masks.specs.declared.Form.{Form}
 use Rattle.form_masks.specs.Form.{stringOf}
 use Rattle.network.specs.declared.Row.{Row}
-use Rattle.network.specs.Rows.{rowWords, rowsOf}
+use Rattle.network.specs.Rows.{rowsOf}
 use Rattle.build_steps.specs.Search.{rowWith}
 use Rattle.build_steps.specs.Chain.{addUnless, chainStep, chainFrom, chainValue, chainEnd}
 use Rattle.build_index.specs.Inner.{Grown}
 use Rattle.build_chain.specs.declared.Chain.{Chain}
 use Rattle.build_chain.specs.declared.Step.{Step}
 use Rattle.build_chain.specs.declared.Place.{Place}
-
--- table and index have room for k rows
-pub record HasRoom (table links : List ℕ) (k : ℕ) : Type 0 where
-  pub few : k ≤ 4096
-  pub words : rowWords * k ≤ length table
-  pub linked : k ≤ length links
 
 -- the value 1 has row 0, and the form's chain ends at a value that a row can have
 pub record Readable (form : Form) (rows : List Row) : Type 0 where

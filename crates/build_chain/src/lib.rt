@@ -3,15 +3,14 @@
 mod chosen;
 
 ghost use mathlib.Core.Path.{_≡_};
-ghost use mathlib.Core.Bool.{cond};
 ghost use Prim.Native.Nat.{suc, _+_, _*_, _-_, _^_, _≤_, _<_};
 ghost use lib.ListN.{length};
 ghost use Rattle.form_masks.specs.Form.{stringOf};
 ghost use Rattle.network.specs.Rows.{rowsOf};
 ghost use Rattle.build_steps.specs.Search.{rowWith};
 ghost use Rattle.build_steps.specs.Chain.{addUnless, chained};
-ghost use Rattle.build_index.specs.Inner.{Indexed, Grown};
-ghost use Rattle.build_chain.specs.Inner.{HasRoom, Readable, Digits, Reading, toCome, IsNext, Reached, Turned};
+ghost use Rattle.build_index.specs.Inner.{Indexed, HasRoom, Grown};
+ghost use Rattle.build_chain.specs.Inner.{Readable, Digits, Reading, toCome, IsNext, Reached, Turned};
 use build_index::Found;
 pub use chosen::chosen_form;
 use form_masks::Form;
@@ -41,12 +40,6 @@ struct Step {
     value: u32,
     place: u32,
     rest: u32,
-}
-
-fn choose(first: bool, a: u32, b: u32) -> u32
-    ensures { λ r. ⌜ r ≡ cond first a b ⌝ }
-{
-    if first { a } else { b }
 }
 
 // The highest place of a mask.
@@ -97,8 +90,8 @@ fn next_digit(form: Form, chain: Chain) -> Step
     let raised = lifted(chain.value, gap);
     Step {
         gap,
-        sign: choose(plus, network::PLUS, network::MINUS),
-        value: choose(plus, raised + 1, raised - 1),
+        sign: word::choose(plus, network::PLUS, network::MINUS),
+        value: word::choose(plus, raised + 1, raised - 1),
         place,
         rest: chain.rest - lifted(1, place),
     }

@@ -40,6 +40,12 @@ pub record Indexed (table heads links : List ℕ) (n : ℕ) : Type 0 where
   pub links-in : (i : ℕ) → i < n → Last table (length heads) (bucketOf (length heads) (valueAt table i)) (getD links i 0) i
   pub distinct : (i j : ℕ) → i < j → j < n → valueAt table i ≡ valueAt table j → ⊥
 
+-- table and index have room for k rows
+pub record HasRoom (table links : List ℕ) (k : ℕ) : Type 0 where
+  pub few : k ≤ 4096
+  pub words : rowWords * k ≤ length table
+  pub linked : k ≤ length links
+
 -- a table has become table′: it holds n′ rows, which are these, with their index, and is untouched past them
 pub record Grown (table table′ heads′ links′ : List ℕ) (n′ : ℕ) (rows′ : List Row) : Type 0 where
   pub rows-are : rowsOf table′ n′ ≡ rows′

@@ -1,6 +1,6 @@
 -- What building answers and leaves, check by check. Assumes nothing.
-use mathlib.Core.Path.{_≡_, refl, sym, ap, _∙_}
-use mathlib.Core.Bool.{Bool, true, false, _||_}
+use mathlib.Core.Path.{_≡_, sym, ap, _∙_}
+use mathlib.Core.Bool.{Bool, true, false, _||_, or-true}
 use mathlib.Core.List.{List}
 use Prim.Native.Nat.{ℕ, _≤_, _<_}
 use borrow.Author.Tests.{lt-ltb, le-ltb}
@@ -36,10 +36,6 @@ module _ (cs : List ℤ) (ks rows taps : List ℕ) where
   }
 
   -- ---- check 3
-  or-true : (a : Bool) → a || true ≡ true
-  or-true true = refl
-  or-true false = refl
-
   pub short-choices : length ks < length cs → short cs ks rows taps ≡ true
   short-choices h = ap (λ (b : Bool). b || shortTables rows taps) (lt-ltb (length ks) (length cs) h)
 

@@ -1,6 +1,6 @@
 -- A choice and the number of forms. Assumes nothing.
 use mathlib.Core.Path.{_≡_, refl, sym, ap, _∙_}
-use mathlib.Core.Bool.{Bool, true, false, not}
+use mathlib.Core.Bool.{true, false, not, Bool·not-not}
 use mathlib.Core.Logic.{_≢_}
 use Prim.Native.Nat.{ℕ, zero, suc, _≤_, _<_, _^_}
 use native.Mathlib.Omega.{arith}
@@ -53,12 +53,8 @@ pub no-odd-part-choice : (p : Parts) (k : ℕ) → no-odd-part ≡ p → (k ≡ 
 unfolding noSuchForm
 no-odd-part-choice p k e h = ap (λ (q : Parts). noSuchForm q k) (sym e) ∙ ap not (ne-eqb k 0 h)
 
-not-twice : (b : Bool) → b ≡ not (not b)
-not-twice true = refl
-not-twice false = refl
-
 -- a choice for an odd part with so many forms
 pub counted-choice : (p : Parts) (s : Sign) (v i k count : ℕ) → parts s v i ≡ p → count ≡ length (listing 32 (pos v)) → ltb k count ≡ not (noSuchForm p k)
 unfolding noSuchForm
 counted-choice p s v i k count e f =
-    ap (λ (n : ℕ). ltb k n) f ∙ not-twice (ltb k (length (listing 32 (pos v)))) ∙ ap (λ (q : Parts). not (noSuchForm q k)) e
+    ap (λ (n : ℕ). ltb k n) f ∙ sym (Bool·not-not (ltb k (length (listing 32 (pos v))))) ∙ ap (λ (q : Parts). not (noSuchForm q k)) e

@@ -1,8 +1,10 @@
 // Before a network is built: whether each tap has the form that is chosen for it.
 ghost use mathlib.Core.Path.{_≡_};
 ghost use mathlib.Core.Bool.{not};
-ghost use Prim.Native.Nat.{_≤_};
-ghost use lib.ListN.{length};
+ghost use Prim.Native.Nat.{ℕ, _≤_, _<_};
+ghost use lib.IntN.{pos};
+ghost use lib.ListN.{length, getD};
+ghost use Rattle.word.specs.Bounds.{Coefficient};
 ghost use Rattle.refusal.specs.Answer.{placeOr};
 ghost use Rattle.coefficient.specs.Parts.{partsOf};
 ghost use Rattle.build_steps.specs.Answer.{noSuchForm, missingForm};
@@ -28,6 +30,7 @@ fn has_form(n: i32, choice: u32) -> bool
 pub fn first_without_form(coefficients: &[i32], choices: &[u32]) -> usize
     requires { ⌜ length (now coefficients) ≤ length (now choices) ⌝ }
     ensures { λ r. ⌜ r ≡ placeOr (length (now (coefficients .entry))) (missingForm (now (coefficients .entry)) (now (choices .entry))) ⌝ }
+    ensures { λ r. ⌜ ((i : ℕ) → i < r → Coefficient (getD (now (coefficients .entry)) i (pos 0))) ⌝ }
 {
     let mut i = 0;
     while i < coefficients.len() {

@@ -5,8 +5,7 @@ ghost use Rattle.network.specs.Rows.{rowsOf};
 ghost use Rattle.network.specs.RowRule.{lifted};
 ghost use Rattle.build_steps.specs.Search.{none-fits, fitAtLeft};
 ghost use Rattle.build_index.specs.Inner.{valueAt, Indexed};
-ghost use Rattle.build_pair.specs.Inner.{Searchable};
-ghost use Rattle.build_pair.specs.Inner.{NoLeft};
+ghost use Rattle.build_pair.specs.Inner.{Searchable, NoLeft};
 use build_index::Found;
 
 // x without its factors 2.

@@ -7,7 +7,6 @@ ghost use Rattle.network.specs.Rows.{rowsOf};
 ghost use Rattle.build_steps.specs.Search.{firstFit};
 ghost use Rattle.build_pair.specs.Inner.{Searchable, fitOf};
 pub use row_signs::NewRow;
-use row_signs::narrow;
 
 // The first fit for v: lowest left, then lowest shift, then sign. No row's value is above most, so
 // that no shift fits past v + most.
@@ -21,7 +20,7 @@ pub fn first_fit(table: &[u32], heads: &[u16], links: &[u16], n: usize, most: u3
         if i >= n {
             break 'search NewRow::NoneFits;
         }
-        let left = narrow(i);
+        let left = word::narrow(i);
         let value = network::read_value(table, i);
         let mut a = 2 * (value as u64);
         let mut s: u32 = 1;

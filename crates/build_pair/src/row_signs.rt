@@ -1,6 +1,6 @@
 // One left row and one shift of the search for a new row: the right row that each sign asks for.
 ghost use mathlib.Core.Path.{_≡_};
-ghost use Prim.Native.Nat.{_-_, _^_, _≤_, _<_};
+ghost use Prim.Native.Nat.{_-_, _^_, _≤_};
 ghost use lib.Dec.{T};
 ghost use Rattle.network.specs.Rows.{rowsOf};
 ghost use Rattle.network.specs.RowRule.{isRowSign};
@@ -16,13 +16,6 @@ use network::Row;
 pub enum NewRow {
     Fits(Row),
     NoneFits,
-}
-
-pub fn narrow(x: usize) -> u32
-    requires { ⌜ x < 2 ^ 32 ⌝ }
-    ensures { λ r. ⌜ r ≡ x ⌝ }
-{
-    x as u32
 }
 
 // a - b, and 0 where b is larger.
@@ -72,7 +65,7 @@ fn with_sign(
     match build_index::find(table, heads, links, n, x as u32) {
         Found::At(k) => NewRow::Fits(Row {
             left,
-            right: narrow(k),
+            right: word::narrow(k),
             shift,
             sign,
             value: v,

@@ -14,8 +14,9 @@ use Rattle.build_steps.specs.RowSteps.{Lawful, row-0}
 use Rattle.build_steps.specs.CanBuild.{Buildable}
 use Rattle.build_steps.proofs.Steps.{step-grows}
 use Rattle.build_odd_parts.specs.Inner.{partIn}
-use Rattle.build_index.specs.Inner.{Grown}
+use Rattle.build_index.specs.Inner.{HasRoom, Grown}
 use Rattle.build_index.proofs.Growth.{grown-none, grown-on}
+use Rattle.build_index.proofs.Room.{less-room}
 use Rattle.build_index.proofs.Values.{length-rows, value-in}
 use Rattle.build_rows.specs.Inner.{Ready}
 use Rattle.build_rows.proofs.Bounds.{Below, part-below}
@@ -73,15 +74,6 @@ module _ (keys : List ℕ) (m : ℕ) (choices : List ℕ) where
     abbrev rows : List Row
     rows = rowsOf table n
 
-    pub ready : Ready table heads links n most (partIn choices (getD keys i 0))
-    ready = record {
-      index = r .grown .index;
-      lawful = r .lawful;
-      bounded = λ k o. (let e = value-in table n k o in omega (arith, e, r .below k (omega (arith, length-rows table n))));
-      small = r .small;
-      part = b;
-    }
-
     later-is : map (partIn choices) (drop i (take m keys)) ≡ p ∷ map (partIn choices) (drop (i + 1) (take m keys))
     later-is =
         ap (map (partIn choices)) (drop-cons (take m keys) i 0 (omega (arith, length-take-le m keys l)))
@@ -92,8 +84,18 @@ module _ (keys : List ℕ) (m : ℕ) (choices : List ℕ) where
     unfolding steps
     rest-is = sym (ap (steps rows) later-is) ∙ r .rest
 
-    pub step-room : length (step (rowsOf table n) (partIn choices (getD keys i 0))) ≤ length (steps (firstRow ∷ []) (map (partIn choices) (take m keys)))
+    step-room : length (step (rowsOf table n) (partIn choices (getD keys i 0))) ≤ length (steps (firstRow ∷ []) (map (partIn choices) (take m keys)))
     step-room = subst (λ (x : List Row). length (step rows p) ≤ length x) rest-is (steps-longer (step rows p) (map (partIn choices) (drop (i + 1) (take m keys))))
+
+    pub ready : HasRoom table links (length (steps (firstRow ∷ []) (map (partIn choices) (take m keys)))) → Ready table heads links n most (partIn choices (getD keys i 0))
+    ready o = record {
+      index = r .grown .index;
+      lawful = r .lawful;
+      bounded = λ k w. (let e = value-in table n k w in omega (arith, e, r .below k (omega (arith, length-rows table n))));
+      small = r .small;
+      part = b;
+      room = less-room table links _ _ step-room o;
+    }
 
     pub round-next : (table′ heads′ links′ : List ℕ) (n′ most′ : ℕ) → most′ ≡ max most (p .value) → Grown table table′ heads′ links′ n′ (step (rowsOf table n) (partIn choices (getD keys i 0)))
         → Round table₀ table′ heads′ links′ n′ most′ (i + 1)

@@ -4,23 +4,24 @@ use Prim.Native.Nat.{ℕ, _^_, _≤_, _<_}
 use lib.ListN.{length, getD, take}
 use Rattle.network.specs.Rows.{rowsOf}
 use Rattle.build_steps.specs.Parts.{Part}
-use Rattle.build_steps.specs.Steps.{firstRow, steps}
+use Rattle.build_steps.specs.Steps.{firstRow, step, steps}
 use Rattle.build_steps.specs.RowSteps.{Lawful}
 use Rattle.build_steps.specs.CanBuild.{Buildable}
 use Rattle.build_odd_parts.specs.Inner.{partIn, tapIn}
-use Rattle.build_index.specs.Inner.{valueAt, Indexed}
-use Rattle.build_chain.specs.Inner.{HasRoom}
+use Rattle.build_index.specs.Inner.{valueAt, Indexed, HasRoom}
 
+-- an odd part with its choice
 abbrev pub partOf : ℕ → ℕ → Part
 partOf v choice = record { value = v; choice = choice }
 
--- n rows that keep the row rule, with their index, of values up to most, for one odd part more
+-- n rows that keep the row rule, with their index, of values up to most, for one odd part more, in this room
 pub record Ready (table heads links : List ℕ) (n most : ℕ) (p : Part) : Type 0 where
   pub index : Indexed table heads links n
   pub lawful : Lawful (rowsOf table n)
   pub bounded : (i : ℕ) → i < n → valueAt table i ≤ most
   pub small : most < 2 ^ 31
   pub part : Buildable p
+  pub room : HasRoom table links (length (step (rowsOf table n) p))
 
 -- an empty index, and m keys whose odd parts can be built, in this room
 pub record CanStart (keys : List ℕ) (m : ℕ) (choices table heads links : List ℕ) : Type 0 where

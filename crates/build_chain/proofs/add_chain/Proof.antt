@@ -1,4 +1,7 @@
--- `build_chain::add_chain` meets its contract. The invariant: the digits still to come give the rows of the whole chain. Assumes nothing.
+-- `build_chain::add_chain` meets its contract. The invariant of its loop: the value of the digits that are read has its row, and over the rows that are there
+-- the digits still to come give the rows of the whole chain. `turn` reads one nonzero digit and keeps both. The measure is the mask of the nonzero
+-- digits still to come, which loses its highest bit each time. Where none is left, only zeros are still to come, and zeros add no row.
+-- Assumes nothing.
 use mathlib.Core.Path.{_≡_, refl, sym, subst, _∙_}
 use mathlib.Core.List.{List}
 use Prim.Native.Nat.{_^_, _<_}
@@ -12,11 +15,11 @@ use Rattle.form_masks.specs.Form.{stringOf}
 use Rattle.network.specs.declared.Row.{Row}
 use Rattle.network.specs.Rows.{rowsOf}
 use Rattle.build_steps.specs.Chain.{chained}
-use Rattle.build_index.specs.Inner.{Grown}
+use Rattle.build_index.specs.Inner.{HasRoom, Grown}
 use Rattle.build_index.proofs.Growth.{grown-none, grown-on}
-use Rattle.build_chain.specs.Inner.{HasRoom, Reading, toCome}
+use Rattle.build_index.proofs.Room.{same-room}
+use Rattle.build_chain.specs.Inner.{Reading, toCome}
 use Rattle.build_chain.proofs.HighDigits.{chain-none}
-use Rattle.build_chain.proofs.Turns.{same-room}
 use Rattle.build_chain.proofs.Starts.{some-digit, start-rows, started}
 use Rattle.build_chain.proofs.add_chain.Statement.{statement}
 use Rattle.build_chain.proofs.add_chain.Tie as tie

@@ -1,4 +1,5 @@
--- `build_chain::reach` meets its contract. Assumes nothing.
+-- `build_chain::reach` meets its contract. What `find` says of the value decides: a row that is there is used, and else row n is written, in the room that
+-- the contract grants for one row more. Assumes nothing.
 use borrow.Author.Needs.{needs}
 use mathlib.Core.Path.{_≡_, sym, ap, _∙_}
 use native.Mathlib.Omega.{arith}

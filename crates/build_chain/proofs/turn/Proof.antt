@@ -3,7 +3,8 @@ use borrow.Author.Needs.{needs}
 use lib.ListN.{length}
 use Rattle.network.specs.Rows.{rowsOf}
 use Rattle.build_chain.specs.Inner.{toCome}
-use Rattle.build_chain.proofs.Turns.{less-room, step-room, turned}
+use Rattle.build_index.proofs.Room.{less-room}
+use Rattle.build_chain.proofs.Turns.{step-room, turned}
 use Rattle.build_chain.proofs.turn.Statement.{statement}
 use Rattle.build_chain.proofs.turn.Tie as tie
 

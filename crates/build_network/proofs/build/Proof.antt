@@ -1,4 +1,5 @@
--- `build_network::build` meets its contract. Assumes nothing.
+-- `build_network::build` meets its contract. Each test of the code is one check of `buildAnswer`, in the order of document 01's table; a refusal leaves both tables
+-- as they were. Past the last test every check is passed, and `build_accepted` writes the network. Assumes nothing.
 use borrow.Author.Needs.{needs}
 use mathlib.Core.Path.{_≡_, sym, ap, _∙_}
 use mathlib.Core.Bool.{Bool, false}
@@ -9,9 +10,9 @@ use Rattle.refusal.specs.Answer.{nowhere, placeOr, refused}
 use Rattle.refusal.proofs.Checks.{found, found-none}
 use Rattle.network.specs.Rows.{rowTable, tapTable}
 use Rattle.build_steps.specs.Answer.{Choice, choicesOf, noSuchForm, buildAnswer, missingForm}
+use Rattle.build_steps.specs.CanBuild.{CanBuildInto}
 use Rattle.build_steps.specs.Built.{BuiltInto}
-use Rattle.build_steps.proofs.Answers.{short, length-choices, no-taps, too-many, too-short, no-form, network-given}
-use Rattle.build_tables.specs.Inner.{Accepted}
+use Rattle.build_steps.proofs.Answers.{short, forms-exist, length-choices, no-taps, too-many, too-short, no-form, network-given}
 use Rattle.build_network.proofs.Answers.{turned-down, network-left, short-choices, short-rows, short-taps, none-short}
 use Rattle.build_network.proofs.build.Statement.{statement}
 use Rattle.build_network.proofs.build.Tie as tie
@@ -56,7 +57,7 @@ place-is : (c : tie.After-first-without-form)
     ≡ placeOr (length (choicesOf (start (within c) .args .coefficients .now) (start (within c) .args .choices .now))) (missingForm (start (within c) .args .coefficients .now) (start (within c) .args .choices .now))
 place-is c =
     let a = start (within c) .args in
-    c .first-without-form .ensures ∙ ap (λ (n : ℕ). placeOr n (missingForm (a .coefficients .now) (a .choices .now))) (sym (taps-are c))
+    c .first-without-form .ensures .0 ∙ ap (λ (n : ℕ). placeOr n (missingForm (a .coefficients .now) (a .choices .now))) (sym (taps-are c))
 
 all-forms : (c : tie.Else6) → missingForm (start (within (c .before)) .args .coefficients .now) (start (within (c .before)) .args .choices .now) ≡ nowhere
 all-forms c =
@@ -65,11 +66,22 @@ all-forms c =
     found-none breaks (choicesOf (a .coefficients .now) (a .choices .now)) (f .first-without-form .result) (length (a .coefficients .now)) (place-is f) (taps-are f) (omega (arith, c .if6 .left))
 
 accepted : (c : tie.Else6)
-    → Accepted (start (within (c .before)) .args .coefficients .now) (start (within (c .before)) .args .choices .now) (start (within (c .before)) .args .rows .now) (start (within (c .before)) .args .taps .now)
+    → CanBuildInto (start (within (c .before)) .args .coefficients .now) (start (within (c .before)) .args .choices .now) (start (within (c .before)) .args .rows .now) (start (within (c .before)) .args .taps .now)
 accepted c =
     let f = c .before in
+    let a = start (within f) .args in
     let l = lengths f in
-    record { few = few (within f); enough = l .choices; forms = all-forms c; rows-long = l .rows; taps-long = l .taps }
+    record {
+      some = some (within f);
+      can-build = record {
+        few = few (within f);
+        enough = l .choices;
+        bounds = λ i h. f .first-without-form .ensures .1 i (omega (arith, c .if6 .left));
+        forms = forms-exist (a .coefficients .now) (a .choices .now) (l .choices) (all-forms c);
+      };
+      rows-long = l .rows;
+      taps-long = l .taps;
+    }
 
 -- a refusal leaves the tables as they were
 refusal : (s : tie.Start) (number place : ℕ) → buildAnswer (s .args .coefficients .now) (s .args .choices .now) (s .args .rows .now) (s .args .taps .now) ≡ refused number place

@@ -1,5 +1,9 @@
--- `build_pair::first_fit` meets its contract. The invariants: nothing fits with the left rows passed, and with this one at the shifts passed.
--- Assumes nothing.
+-- `build_pair::first_fit` meets its contract. The search is two loops, one in the other, each with its part of document 01's order. The
+-- invariant of the outer one: nothing fits with a left row below i, at any shift and sign. `lowest_left` says so of the row at which it starts. The
+-- invariant of the inner one (`Trying`): a is 2^s times the left row's value, and nothing fits with this row at the shifts from 1 to s - 1. A fit at
+-- shift s is then the first of all (`left-first`, `fit-first`), since `at_shift` takes the signs in their order. Where a passes v + most, no sign
+-- can make v with a row's value, at this shift or a larger one (`shift-past`), so that the left row has no fit (`left-none`). The measures are the
+-- rows still to be tried, n - i, and the shifts, 33 - s: while a is below 2^32, s is below 32, for no row's value is 0. Assumes nothing.
 use mathlib.Core.Path.{_≡_, sym, ap, _∙_}
 use Prim.Native.Nat.{ℕ, _-_, _*_, _^_, _≤_, _<_}
 use native.Mathlib.Omega.{arith}
@@ -24,6 +28,20 @@ Inv-search table heads links n most v limit i₀ i = (i ≤ n) × ((k : ℕ) →
 
 abbrev μ-search : tie.MeasureT-search
 μ-search table heads links n most v limit i₀ i = n - i
+
+-- the places on the way
+abbrev start : tie.At-search Inv-loop μ-loop Inv-search μ-search → tie.Start Inv-loop μ-loop Inv-search μ-search
+start c = c .before .before .before .before .before
+
+abbrev at-search : tie.At-loop Inv-loop μ-loop Inv-search μ-search → tie.At-search Inv-loop μ-loop Inv-search μ-search
+at-search c = c .before .before .before .before
+
+-- in the loops: the left row is one of the rows, and 2^s·left is below 2^32
+left-within : (c : tie.At-loop Inv-loop μ-loop Inv-search μ-search) → c .before .before .narrow .result < start (at-search c) .args .n
+left-within c = omega (arith, c .before .before .narrow .ensures)
+
+below-word : (c : tie.In-loop Inv-loop μ-loop Inv-search μ-search) → c .before .loop .a < 2 ^ 32
+below-word c = let s = start (at-search (c .before)) in omega (arith, c .loop-test .taken, s .pre .small, s .pre .new-small)
 
 add-limit : tie.Need-add-limit Inv-loop μ-loop Inv-search μ-search
 add-limit c = omega (arith, c .before .before .before .pre .small, c .before .before .before .pre .new-small)
@@ -64,30 +82,27 @@ enum-told : tie.Need-enum-told Inv-loop μ-loop Inv-search μ-search
 enum-told c = search needs
 
 mul-a-2 : tie.Need-mul-a-2 Inv-loop μ-loop Inv-search μ-search
-mul-a-2 c = omega (arith, c .before .before .before .loop-test .taken, c .before .before .before .before .before .before .before .before .before .before .before .before .before .pre .small, c .before .before .before .before .before .before .before .before .before .before .before .before .before .pre .new-small)
+mul-a-2 c = omega (arith, below-word (c .before .before .before))
 
 add-s : tie.Need-add-s Inv-loop μ-loop Inv-search μ-search
 add-s c = omega (arith, c .before .before .before .before .loop .inv .to)
 
 loop-less : tie.Need-loop-less Inv-loop μ-loop Inv-search μ-search
 loop-less c =
-    let s = c .before .before .before .before .before .before .before .before .before .before .before .before .before in
+    let t = c .before .before .before in
+    let l = t .before in
+    let s = start (at-search l) in
     let a = s .args in
-    let lp = c .before .before .before .before .loop in
-    let left = c .before .before .before .before .before .before .narrow in
-    let w : left .result < a .n = omega (arith, left .ensures) in
-    let h : lp .a < 2 ^ 32 = omega (arith, c .before .before .before .loop-test .taken, s .pre .small, s .pre .new-small) in
-    omega (arith, few-shifts (a .table .now) (a .heads .now) (a .links .now) (a .n) (a .most) (a .v) (s .pre) (left .result) w (lp .s) (lp .a) (lp .inv) h)
+    omega (arith, few-shifts (a .table .now) (a .heads .now) (a .links .now) (a .n) (a .most) (a .v) (s .pre) (l .before .before .narrow .result) (left-within l) (l .loop .s) (l .loop .a) (l .loop .inv) (below-word t))
 
 loop-again : tie.Need-loop-again Inv-loop μ-loop Inv-search μ-search
 loop-again c =
-    let s = c .before .before .before .before .before .before .before .before .before .before .before .before .before in
+    let t = c .before .before .before in
+    let l = t .before in
+    let s = start (at-search l) in
     let a = s .args in
-    let lp = c .before .before .before .before .loop in
-    let left = c .before .before .before .before .before .before .narrow in
-    let w : left .result < a .n = omega (arith, left .ensures) in
-    let h : lp .a < 2 ^ 32 = omega (arith, c .before .before .before .loop-test .taken, s .pre .small, s .pre .new-small) in
-    try-next (a .table .now) (a .heads .now) (a .links .now) (a .n) (a .most) (a .v) (s .pre) (left .result) w (lp .s) (lp .a) (lp .inv) h (sym (c .before .before .at-shift .ensures) ∙ ap fitOf (c .enum-told .given .1))
+    try-next (a .table .now) (a .heads .now) (a .links .now) (a .n) (a .most) (a .v) (s .pre) (l .before .before .narrow .result) (left-within l) (l .loop .s) (l .loop .a) (l .loop .inv) (below-word t)
+    (sym (c .before .before .at-shift .ensures) ∙ ap fitOf (c .enum-told .given .1))
 
 add-i : tie.Need-add-i Inv-loop μ-loop Inv-search μ-search
 add-i c = search needs
@@ -97,16 +112,15 @@ search-less c = search needs
 
 search-again : tie.Need-search-again Inv-loop μ-loop Inv-search μ-search
 search-again c =
-    let s = c .before .before .before .before .before .before .before .before .before .before in
+    let l = c .before in
+    let r = at-search l in
+    let s = start r in
     let a = s .args in
-    let lp = c .before .loop in
-    let left = c .before .before .before .narrow in
-    let w : left .result < a .n = omega (arith, left .ensures) in
-    let sc = c .before .before .before .before .before .search in (
+    let left = l .before .before .narrow in (
       omega arith,
-      below-more (λ k. fitAtLeft (rowsOf (a .table .now) (a .n)) (a .v) k ≡ none-fits) (sc .i) (sc .inv .1)
+      below-more (λ k. fitAtLeft (rowsOf (a .table .now) (a .n)) (a .v) k ≡ none-fits) (r .search .i) (r .search .inv .1)
           (ap (fitAtLeft (rowsOf (a .table .now) (a .n)) (a .v)) (sym (left .ensures))
-          ∙ left-none (a .table .now) (a .heads .now) (a .links .now) (a .n) (a .most) (a .v) (s .pre) (left .result) w (lp .s) (lp .a) (lp .inv) (omega (arith, c .loop-test .left))),
+          ∙ left-none (a .table .now) (a .heads .now) (a .links .now) (a .n) (a .most) (a .v) (s .pre) (left .result) (left-within l) (l .loop .s) (l .loop .a) (l .loop .inv) (omega (arith, c .loop-test .left))),
     )
 
 returns : tie.Need-returns Inv-loop μ-loop Inv-search μ-search
@@ -116,18 +130,18 @@ returns c =
 
 returns-2 : tie.Need-returns-2 Inv-loop μ-loop Inv-search μ-search
 returns-2 c =
-    let s = c .before .before .before .before .before .before .before .before .before .before .before .before .before .before in
+    let t = c .before .before .before .before in
+    let l = t .before in
+    let r = at-search l in
+    let s = start r in
     let a = s .args in
-    let lp = c .before .before .before .before .before .loop in
-    let left = c .before .before .before .before .before .before .before .narrow in
-    let w : left .result < a .n = omega (arith, left .ensures) in
-    let h : lp .a < 2 ^ 32 = omega (arith, c .before .before .before .before .loop-test .taken, s .pre .small, s .pre .new-small) in
-    let sc = c .before .before .before .before .before .before .before .before .before .search in
+    let left = l .before .before .narrow in
     let row = c .before .row .given .0 .0 in
     sym
-    (fit-first (a .table .now) (a .n) (a .v) (sc .i) (sc .inv .1) row (omega arith)
+    (fit-first (a .table .now) (a .n) (a .v) (r .search .i) (r .search .inv .1) row (omega arith)
     (ap (fitAtLeft (rowsOf (a .table .now) (a .n)) (a .v)) (sym (left .ensures))
-    ∙ left-first (a .table .now) (a .heads .now) (a .links .now) (a .n) (a .most) (a .v) (s .pre) (left .result) w (lp .s) (lp .a) (lp .inv) h row (sym (c .before .before .before .at-shift .ensures) ∙ ap fitOf (c .before .row .given .1))))
+    ∙ left-first (a .table .now) (a .heads .now) (a .links .now) (a .n) (a .most) (a .v) (s .pre) (left .result) (left-within l) (l .loop .s) (l .loop .a) (l .loop .inv) (below-word t) row
+    (sym (c .before .before .before .at-shift .ensures) ∙ ap fitOf (c .before .row .given .1))))
 
 pub first-fit-spec : {M : Type 1} → statement M
 first-fit-spec =

@@ -1,34 +1,53 @@
--- `build_rows::add_part` meets its contract. Assumes nothing.
+-- `build_rows::add_part` meets its contract. The two matches are the three steps of `step`: what `find` says of the value opens `lookedUp`, and what `first_fit`
+-- says opens `searched`. The room is that of the rows after the step, whichever it is. Assumes nothing.
 use borrow.Author.Needs.{needs}
 use mathlib.Core.Path.{_≡_, sym, ap, subst, _∙_}
 use mathlib.Core.List.{List}
-use Prim.Native.Nat.{ℕ}
+use Prim.Native.Nat.{_+_}
+use native.Mathlib.Omega.{arith}
 use lib.ListN.{length}
-use Rattle.refusal.specs.Answer.{Place, nowhere, at-place}
+use Rattle.refusal.specs.Answer.{nowhere}
+use Rattle.form_masks.specs.declared.Form.{Form}
+use Rattle.form_masks.specs.Form.{stringOf}
 use Rattle.network.specs.declared.Row.{Row}
 use Rattle.network.specs.Rows.{rowsOf}
-use Rattle.build_steps.specs.Search.{rowWith, firstFit}
-use Rattle.build_steps.specs.Steps.{lookedUp, searched, step}
-use Rattle.build_index.specs.Inner.{Grown, foundAt}
+use Rattle.build_steps.specs.Parts.{Part}
+use Rattle.build_steps.specs.Search.{rowWith, fit, none-fits, firstFit}
+use Rattle.build_steps.specs.Chain.{chained}
+use Rattle.build_steps.specs.Steps.{step}
+use Rattle.build_index.specs.Inner.{HasRoom, Grown, foundAt}
 use Rattle.build_index.proofs.Growth.{grown-none}
-use Rattle.build_chain.specs.Inner.{HasRoom}
+use Rattle.build_pair.specs.Inner.{fitOf}
+use Rattle.build_chain.specs.Inner.{Readable}
 use Rattle.build_rows.specs.Inner.{partOf}
+use Rattle.build_rows.proofs.Searches.{row-used, searchable, fit-added, fit-length, fit-new, readable, chain-added}
 use Rattle.build_rows.proofs.add_part.Statement.{statement}
 use Rattle.build_rows.proofs.add_part.Tie as tie
 
+-- the places on the way, and what is known of the part there
 abbrev start : tie.After-find → tie.Start
 start c = c .before .before .before .before .before .before .before
 
-missing : (c : tie.After-enum-told2) → rowWith (rowsOf (start (c .before .before) .args .table .now) (start (c .before .before) .args .n)) (start (c .before .before) .args .v) ≡ nowhere
+abbrev unfound : tie.After-first-fit → tie.After-enum-told2
+unfound c = c .before .before .before .before
+
+abbrev entry : tie.After-enum-told2 → tie.Start
+entry c = start (c .before .before)
+
+abbrev rows : tie.Start → List Row
+rows s = rowsOf (s .args .table .now) (s .args .n)
+
+abbrev part : tie.Start → Part
+part s = partOf (s .args .v) (s .args .choice)
+
+missing : (c : tie.After-enum-told2) → rowWith (rows (entry c)) (entry c .args .v) ≡ nowhere
 missing c = sym (c .before .before .find .ensures) ∙ ap foundAt (c .enum-told2 .given .1)
 
-step-missing : (rows : List Row) (v choice : ℕ) → rowWith rows v ≡ nowhere → step rows (partOf v choice) ≡ searched (firstFit rows v) rows (partOf v choice)
-unfolding step lookedUp
-step-missing rows v choice e = ap (λ (w : Place). lookedUp w rows (partOf v choice)) e
+fits : (c : tie.After-row) → firstFit (rows (entry (unfound (c .before .before)))) (entry (unfound (c .before .before)) .args .v) ≡ fit (c .row .given .0 .0)
+fits c = sym (c .before .before .first-fit .ensures) ∙ ap fitOf (c .row .given .1)
 
-step-found : (rows : List Row) (v choice i : ℕ) → rowWith rows v ≡ at-place i → step rows (partOf v choice) ≡ rows
-unfolding step lookedUp
-step-found rows v choice i e = ap (λ (w : Place). lookedUp w rows (partOf v choice)) e
+none : (c : tie.After-enum-told3) → firstFit (rows (entry (unfound (c .before .before)))) (entry (unfound (c .before .before)) .args .v) ≡ none-fits
+none c = sym (c .before .before .first-fit .ensures) ∙ ap fitOf (c .enum-told3 .given .1)
 
 find-requires : tie.Need-find-requires
 find-requires c κs = search needs
@@ -39,13 +58,55 @@ enum-told c = search needs
 enum-told-2 : tie.Need-enum-told-2
 enum-told-2 c = search needs
 
-add-new-requires : tie.Need-add-new-requires
-add-new-requires c κs =
-    let w = c .before .before .before in
-    let s = start (w .before .before) in
+first-fit-requires : tie.Need-first-fit-requires
+first-fit-requires c κs =
+    let u = c .before .before .before in
+    let s = entry u in
     let a = s .args in
-    let e = missing w in
-    ((s .pre .0, e), subst (λ (x : List Row). HasRoom (a .table .now) (a .links .now) (length x)) (step-missing (rowsOf (a .table .now) (a .n)) (a .v) (a .choice) e) (s .pre .1))
+    searchable (a .table .now) (a .heads .now) (a .links .now) (a .n) (a .most) (part s) (s .pre) (missing u)
+
+enum-known-row : tie.Need-enum-known-row
+enum-known-row c = search needs
+
+put-requires : tie.Need-put-requires
+put-requires c κs =
+    let w = c .before .before .before .before in
+    let u = unfound (w .before .before) in
+    let s = entry u in
+    let a = s .args in
+    let row = w .row .given .0 .0 in
+    let e = fit-length (a .table .now) (a .heads .now) (a .links .now) (a .n) (a .most) (part s) (s .pre) (missing u) row (fits w) in
+    let r = s .pre .room in
+    (s .pre .index, ((omega (arith, e, r .few), omega (arith, e, r .words), omega (arith, e, r .linked)), fit-new (a .table .now) (a .heads .now) (a .links .now) (a .n) (a .most) (part s) (s .pre) (missing u) row (fits w)))
+
+add-result : tie.Need-add-result
+add-result c = search needs
+
+enum-told-3 : tie.Need-enum-told-3
+enum-told-3 c = search needs
+
+chosen-form-requires : tie.Need-chosen-form-requires
+chosen-form-requires c κs = let p = entry (unfound (c .before .before)) .pre .part in (p .below, p .choice)
+
+-- the rows of the chosen form's chain
+chain : (c : tie.After-chosen-form)
+    → chained (rows (entry (unfound (c .before .before .before)))) (stringOf (c .chosen-form .result))
+    ≡ step (rows (entry (unfound (c .before .before .before)))) (part (entry (unfound (c .before .before .before))))
+chain c =
+    let w = c .before in
+    let u = unfound (w .before .before) in
+    let s = entry u in
+    let a = s .args in
+    ap (λ (x : Form). chained (rows s) (stringOf x)) (c .chosen-form .ensures) ∙ chain-added (a .table .now) (a .heads .now) (a .links .now) (a .n) (a .most) (part s) (s .pre) (missing u) (none w)
+
+add-chain-requires : tie.Need-add-chain-requires
+add-chain-requires c κs =
+    let f = c .before .before .before in
+    let s = entry (unfound (f .before .before .before)) in
+    let a = s .args in (
+      (s .pre .index, subst (λ (x : Form). Readable x (rows s)) (sym (f .chosen-form .ensures)) (readable (a .table .now) (a .heads .now) (a .links .now) (a .n) (a .most) (part s) (s .pre))),
+      subst (λ (x : List Row). HasRoom (a .table .now) (a .links .now) (length x)) (sym (chain f)) (s .pre .room),
+    )
 
 same-length : tie.Need-same-length
 same-length c = search needs
@@ -61,7 +122,7 @@ returns c =
     let s = start (c .before .before) in
     let a = s .args in
     let e = sym (c .before .before .find .ensures) ∙ ap foundAt (c .enum-told .given .1) in
-    subst (Grown (a .table .now) (a .table .now) (a .heads .now) (a .links .now) (a .n)) (sym (step-found (rowsOf (a .table .now) (a .n)) (a .v) (a .choice) (c .enum-told .given .0 .0) e)) (grown-none (a .table .now) (a .heads .now) (a .links .now) (a .n) (s .pre .0 .index))
+    subst (Grown (a .table .now) (a .table .now) (a .heads .now) (a .links .now) (a .n)) (row-used (a .table .now) (a .heads .now) (a .links .now) (a .n) (a .most) (part s) (s .pre) (c .enum-told .given .0 .0) e) (grown-none (a .table .now) (a .heads .now) (a .links .now) (a .n) (s .pre .index))
 
 same-length-4 : tie.Need-same-length-4
 same-length-4 c = search needs
@@ -75,10 +136,27 @@ same-length-6 c = search needs
 returns-2 : tie.Need-returns-2
 returns-2 c =
     let g = c .before .before .before .before .before .before in
-    let w = g .before .before .before .before in
-    let s = start (w .before .before) in
+    let w = g .before .before .before .before .before in
+    let u = unfound (w .before .before) in
+    let s = entry u in
     let a = s .args in
-    subst (Grown (a .table .now) (g .add-new .last .0) (g .add-new .last .1 .0) (g .add-new .last .1 .1 .0) (g .add-new .result)) (sym (step-missing (rowsOf (a .table .now) (a .n)) (a .v) (a .choice) (missing w))) (g .add-new .ensures)
+    subst (Grown (a .table .now) (g .put .last .0) (g .put .last .1 .0) (g .put .last .1 .1 .0) (a .n + 1)) (fit-added (a .table .now) (a .heads .now) (a .links .now) (a .n) (a .most) (part s) (s .pre) (missing u) (w .row .given .0 .0) (fits w)) (g .put .ensures)
+
+same-length-7 : tie.Need-same-length-7
+same-length-7 c = search needs
+
+same-length-8 : tie.Need-same-length-8
+same-length-8 c = search needs
+
+same-length-9 : tie.Need-same-length-9
+same-length-9 c = search needs
+
+returns-3 : tie.Need-returns-3
+returns-3 c =
+    let g = c .before .before .before .before .before .before in
+    let f = g .before .before .before .before in
+    let a = entry (unfound (f .before .before .before)) .args in
+    subst (Grown (a .table .now) (g .add-chain .last .0) (g .add-chain .last .1 .0) (g .add-chain .last .1 .1 .0) (g .add-chain .result)) (chain f) (g .add-chain .ensures)
 
 pub add-part-spec : {M : Type 1} → statement M
 add-part-spec =
@@ -87,7 +165,13 @@ add-part-spec =
     find-requires
     enum-told
     enum-told-2
-    add-new-requires
+    first-fit-requires
+    enum-known-row
+    put-requires
+    add-result
+    enum-told-3
+    chosen-form-requires
+    add-chain-requires
     same-length
     same-length-2
     same-length-3
@@ -95,4 +179,8 @@ add-part-spec =
     same-length-4
     same-length-5
     same-length-6
-    returns-2)
+    returns-2
+    same-length-7
+    same-length-8
+    same-length-9
+    returns-3)

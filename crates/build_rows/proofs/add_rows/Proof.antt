@@ -1,14 +1,26 @@
--- `build_rows::add_rows` meets its contract. The invariant: the parts still to come give the rows of all parts. Assumes nothing.
+-- `build_rows::add_rows` meets its contract. The invariant of its loop (`Round`): the n rows that are there keep the row rule, none has a value above `most`,
+-- the table is untouched past them, and the steps of the odd parts still to come, over these rows, give the rows of all odd parts. It holds once
+-- row 0 is there, with which document 01 begins. One turn takes the next odd part off that list: `add_part` does its step, and no row that an odd part
+-- brings has a larger value than the part itself, so that `most` stays a bound. There is room for each step, since no step takes a row away and all
+-- rows together have room. The measure is the number of odd parts still to come, m - i; at 0 the list is empty, and the rows are all rows.
+-- Assumes nothing.
 use borrow.Author.Needs.{needs}
-use mathlib.Core.Path.{_≡_, refl, ap, _∙_}
+use mathlib.Core.Path.{_≡_, refl, sym, ap, ap₂, subst, _∙_}
 use mathlib.Core.List.{[], _∷_, map}
-use Prim.Native.Nat.{ℕ, _-_, _≤_, max}
+use Prim.Native.Nat.{ℕ, _-_, _≤_, _<_, max}
 use native.Mathlib.Omega.{arith}
-use lib.ListN.{length, take}
-use Rattle.build_steps.specs.Steps.{firstRow, steps}
+use lib.ListN.{length, getD, take}
+use Rattle.refusal.specs.Answer.{lowestFrom}
+use Rattle.sequence.specs.UpTo.{upTo}
+use Rattle.network.specs.Rows.{rowsOf}
+use Rattle.build_steps.specs.Parts.{Part}
+use Rattle.build_steps.specs.Search.{rowWith}
+use Rattle.build_steps.specs.Steps.{firstRow, step, steps}
 use Rattle.build_odd_parts.specs.Inner.{partIn}
-use Rattle.build_chain.proofs.Turns.{less-room, same-room}
-use Rattle.build_rows.proofs.Rounds.{Round, round-start, round-end, round-next, some-rows, ready, step-room}
+use Rattle.build_index.specs.Inner.{Grown}
+use Rattle.build_index.proofs.Room.{less-room, same-room}
+use Rattle.build_rows.specs.Inner.{partOf, Ready}
+use Rattle.build_rows.proofs.Rounds.{Round, round-start, round-end, round-next, some-rows, ready}
 use Rattle.build_rows.proofs.add_rows.Statement.{statement}
 use Rattle.build_rows.proofs.add_rows.Tie as tie
 
@@ -23,23 +35,30 @@ Inv-loop keys m choices table₀ heads₀ links₀ n₀ most₀ i₀ table heads
 abbrev μ-loop : tie.MeasureT-loop
 μ-loop keys m choices table₀ heads₀ links₀ n₀ most₀ i₀ table heads links n most i = m - i
 
-abbrev start : tie.After-add-first Inv-loop μ-loop → tie.Start Inv-loop μ-loop
+abbrev start : tie.After-put Inv-loop μ-loop → tie.Start Inv-loop μ-loop
 start c = c .before .before .before .before .before .before .before .before .before
 
-abbrev first : tie.At-loop Inv-loop μ-loop → tie.After-add-first Inv-loop μ-loop
+abbrev first : tie.At-loop Inv-loop μ-loop → tie.After-put Inv-loop μ-loop
 first c = c .before .before .before .before .before .before .before
 
-add-first-requires : tie.Need-add-first-requires Inv-loop μ-loop
-add-first-requires c κs =
+put-requires : tie.Need-put-requires Inv-loop μ-loop
+unfolding rowWith lowestFrom upTo
+put-requires c κs =
     let s = c .before .before .before .before .before .before .before .before in
     let a = s .args in
-    (s .pre .index, less-room (a .table .now) (a .links .now) 1 (length (steps (firstRow ∷ []) (map (partIn (a .choices .now)) (take (a .m) (a .keys .now))))) (some-rows (a .keys .now) (a .m) (a .choices .now)) (s .pre .room))
+    let r = less-room (a .table .now) (a .links .now) 1 (length (steps (firstRow ∷ []) (map (partIn (a .choices .now)) (take (a .m) (a .keys .now))))) (some-rows (a .keys .now) (a .m) (a .choices .now)) (s .pre .room) in
+    (s .pre .index, ((omega arith, omega (arith, r .words), omega (arith, r .linked)), refl))
+
+-- row 0 is there
+row-0-put : (c : tie.After-put Inv-loop μ-loop) → Grown (start c .args .table .now) (c .put .last .0) (c .put .last .1 .0) (c .put .last .1 .1 .0) 1 (firstRow ∷ [])
+unfolding upTo
+row-0-put c = c .put .ensures
 
 loop-holds : tie.Need-loop-holds Inv-loop μ-loop
 loop-holds c =
     let f = c .before .before .before .before .before .before in
     let a = start f .args in
-    (search needs, refl, refl, refl, round-start (a .keys .now) (a .m) (a .choices .now) (a .table .now) (f .add-first .last .0) (f .add-first .last .1 .0) (f .add-first .last .1 .1 .0) (f .add-first .ensures))
+    (search needs, refl, refl, refl, round-start (a .keys .now) (a .m) (a .choices .now) (a .table .now) (f .put .last .0) (f .put .last .1 .0) (f .put .last .1 .1 .0) (row-0-put f))
 
 mul-key : tie.Need-mul-key Inv-loop μ-loop
 mul-key c = let s = start (first (c .before)) in omega (arith, s .pre .keyed, s .good)
@@ -47,65 +66,88 @@ mul-key c = let s = start (first (c .before)) in omega (arith, s .pre .keyed, s 
 shared-slice-read-key : tie.Need-shared-slice-read-key Inv-loop μ-loop
 shared-slice-read-key c = let s = start (first (c .before .before)) in omega (arith, s .pre .keyed)
 
-add-key-requires : tie.Need-add-key-requires Inv-loop μ-loop
-add-key-requires c κs =
-    let t = c .before .before .before .before in
+value-of-requires : tie.Need-value-of-requires Inv-loop μ-loop
+value-of-requires c κs = search needs
+
+tap-of-requires : tie.Need-tap-of-requires Inv-loop μ-loop
+tap-of-requires c κs = search needs
+
+-- the tap of the key is one of those that have a choice
+tap-within : (c : tie.After-tap-of Inv-loop μ-loop) → c .tap-of .result < length (start (first (c .before .before .before .before)) .args .choices .now)
+tap-within c =
+    let t = c .before .before .before in
+    let l = t .before in
+    omega (arith, c .tap-of .ensures, start (first l) .pre .taps (l .loop .i) (t .loop-test .taken))
+
+mul-choice : tie.Need-mul-choice Inv-loop μ-loop
+mul-choice c = omega (arith, tap-within c, start (first (c .before .before .before .before)) .good)
+
+shared-slice-read-choice : tie.Need-shared-slice-read-choice Inv-loop μ-loop
+shared-slice-read-choice c = tap-within (c .before)
+
+-- the part that is handed on is that of the key
+part-is : (c : tie.After-tap-of Inv-loop μ-loop)
+    → partIn (start (first (c .before .before .before .before)) .args .choices .now) (getD (start (first (c .before .before .before .before)) .args .keys .now) (c .before .before .before .before .loop .i) 0)
+    ≡ partOf (c .before .value-of .result) (getD (start (first (c .before .before .before .before)) .args .choices .now) (c .tap-of .result) 0)
+part-is c =
+    let a = start (first (c .before .before .before .before)) .args in
+    sym (ap₂ (λ (v k : ℕ). partOf v (getD (a .choices .now) k 0)) (c .before .value-of .ensures) (c .tap-of .ensures))
+
+add-part-requires : tie.Need-add-part-requires Inv-loop μ-loop
+add-part-requires c κs =
+    let v = c .before .before .before .before in
+    let t = v .before .before .before in
     let l = t .before in
     let o = l .loop in
     let f = first l in
     let s = start f in
     let a = s .args in
-    let k = f .add-first .kept in
-    let i = o .i in
-    let h = t .loop-test .taken in
+    let k = f .put .kept in
     let r = same-room (a .table .now) (a .links .now) (o .table) (o .links) _ (o .inv .1 ∙ k .0) (o .inv .3 ∙ k .1 .1 .0) (s .pre .room) in
-    let b = s .pre .parts i h in (
-      (ready (a .keys .now) (a .m) (a .choices .now) (f .add-first .last .0) (o .table) (o .heads) (o .links) (o .n) (o .most) i h (s .pre .keyed) (o .inv .4) b, s .pre .taps i h),
-      less-room (o .table) (o .links) _ _ (step-room (a .keys .now) (a .m) (a .choices .now) (f .add-first .last .0) (o .table) (o .heads) (o .links) (o .n) (o .most) i h (s .pre .keyed) (o .inv .4) b) r,
-    )
-
-value-of-requires : tie.Need-value-of-requires Inv-loop μ-loop
-value-of-requires c κs = search needs
+    subst (Ready (o .table) (o .heads) (o .links) (o .n) (o .most)) (part-is v)
+    (ready (a .keys .now) (a .m) (a .choices .now) (f .put .last .0) (o .table) (o .heads) (o .links) (o .n) (o .most) (o .i) (t .loop-test .taken) (s .pre .keyed) (o .inv .4) (s .pre .parts (o .i) (t .loop-test .taken)) r)
 
 larger-requires : tie.Need-larger-requires Inv-loop μ-loop
 larger-requires c κs = search needs
 
 add-i : tie.Need-add-i Inv-loop μ-loop
-add-i c = let l = c .before .before .before .before .before .before .before .before .before .before .before .before .before .before in omega (arith, l .loop .inv .0, c .before .before .before .before .before .before .before .before .before .before .before .before .before .loop-test .taken, start (first l) .fits .m)
+add-i c =
+    let t = c .before .before .before .before .before .before .before .before .before .before .before .before .before .before .before in
+    omega (arith, t .before .loop .inv .0, t .loop-test .taken, start (first (t .before)) .fits .m)
 
 loop-less : tie.Need-loop-less Inv-loop μ-loop
-loop-less c = omega (arith, c .before .before .before .before .before .before .before .before .before .before .before .before .before .loop-test .taken)
+loop-less c = omega (arith, c .before .before .before .before .before .before .before .before .before .before .before .before .before .before .before .loop-test .taken)
 
 loop-again : tie.Need-loop-again Inv-loop μ-loop
 loop-again c =
-    let v = c .before in
-    let g = v .before .before .before .before .before .before .before in
-    let t = g .before .before .before .before .before in
+    let g = c .before .before .before .before .before .before .before in
+    let v = g .before .before .before .before .before in
+    let t = v .before .before .before in
     let l = t .before in
     let o = l .loop in
     let f = first l in
     let s = start f in
     let a = s .args in
-    let k = g .add-key .kept in
-    let i = o .i in
+    let k = g .add-part .kept in
     let h = t .loop-test .taken in
-    let e = c .larger .ensures ∙ ap (λ (x : ℕ). max (o .most) x) (v .value-of .ensures) in (
+    let e = c .larger .ensures ∙ ap (λ (x : ℕ). max (o .most) x) (v .before .value-of .ensures) in
+    let w = subst (λ (p : Part). Grown (o .table) (g .add-part .last .0) (g .add-part .last .1 .0) (g .add-part .last .1 .1 .0) (g .add-part .result) (step (rowsOf (o .table) (o .n)) p)) (sym (part-is v)) (g .add-part .ensures) in (
       omega (arith, h),
-      k .1 .1 .0 ∙ o .inv .1,
-      k .1 .1 .1 .0 ∙ o .inv .2,
-      k .1 .1 .1 .1 .0 ∙ o .inv .3,
-      round-next (a .keys .now) (a .m) (a .choices .now) (f .add-first .last .0) (o .table) (o .heads) (o .links) (o .n) (o .most) i h (s .pre .keyed) (o .inv .4) (s .pre .parts i h)
-          (g .add-key .last .1 .1 .0) (g .add-key .last .1 .1 .1 .0) (g .add-key .last .1 .1 .1 .1 .0) (g .add-key .result) (c .larger .result) e (g .add-key .ensures),
+      k .0 ∙ o .inv .1,
+      k .1 .0 ∙ o .inv .2,
+      k .1 .1 .0 ∙ o .inv .3,
+      round-next (a .keys .now) (a .m) (a .choices .now) (f .put .last .0) (o .table) (o .heads) (o .links) (o .n) (o .most) (o .i) h (s .pre .keyed) (o .inv .4) (s .pre .parts (o .i) h)
+          (g .add-part .last .0) (g .add-part .last .1 .0) (g .add-part .last .1 .1 .0) (g .add-part .result) (c .larger .result) e w,
     )
 
 same-length : tie.Need-same-length Inv-loop μ-loop
-same-length c = let l = c .before in l .loop .inv .1 ∙ first l .add-first .kept .0
+same-length c = let l = c .before in l .loop .inv .1 ∙ first l .put .kept .0
 
 same-length-2 : tie.Need-same-length-2 Inv-loop μ-loop
-same-length-2 c = let l = c .before in l .loop .inv .2 ∙ first l .add-first .kept .1 .0
+same-length-2 c = let l = c .before in l .loop .inv .2 ∙ first l .put .kept .1 .0
 
 same-length-3 : tie.Need-same-length-3 Inv-loop μ-loop
-same-length-3 c = let l = c .before in l .loop .inv .3 ∙ first l .add-first .kept .1 .1 .0
+same-length-3 c = let l = c .before in l .loop .inv .3 ∙ first l .put .kept .1 .1 .0
 
 returns : tie.Need-returns Inv-loop μ-loop
 returns c =
@@ -114,7 +156,7 @@ returns c =
     let f = first l in
     let s = start f in
     let a = s .args in
-    round-end (a .keys .now) (a .m) (a .choices .now) (a .table .now) (f .add-first .last .0) (f .add-first .last .1 .0) (f .add-first .last .1 .1 .0) (o .table) (o .heads) (o .links) (o .n) (o .most) (o .i) (c .loop-test .left) (s .pre .keyed) (f .add-first .ensures) (o .inv .4)
+    round-end (a .keys .now) (a .m) (a .choices .now) (a .table .now) (f .put .last .0) (f .put .last .1 .0) (f .put .last .1 .1 .0) (o .table) (o .heads) (o .links) (o .n) (o .most) (o .i) (c .loop-test .left) (s .pre .keyed) (row-0-put f) (o .inv .4)
 
 pub add-rows-spec : {M : Type 1} → statement M
 add-rows-spec =
@@ -122,12 +164,15 @@ add-rows-spec =
     (tie.spec
     Inv-loop
     μ-loop
-    add-first-requires
+    put-requires
     loop-holds
     mul-key
     shared-slice-read-key
-    add-key-requires
     value-of-requires
+    tap-of-requires
+    mul-choice
+    shared-slice-read-choice
+    add-part-requires
     larger-requires
     add-i
     loop-less

@@ -1,23 +1,25 @@
--- `build_tables::build_accepted` meets its contract. Assumes nothing.
+-- `build_tables::build_accepted` meets its contract. What can be built and the keys in order say which parts are built, that each can be, and that at most 15 rows
+-- are added for each; an array of zeros is an empty index. Assumes nothing.
 use borrow.Author.Needs.{needs}
-use mathlib.Core.Path.{_≡_}
+use mathlib.Core.Path.{_≡_, refl}
+use Prim.Native.Nat.{ℕ, _≤_}
+use native.Mathlib.Nat.{le-trans}
 use native.Mathlib.Omega.{arith}
-use lib.ListN.{length}
-use Rattle.build_tables.specs.Inner.{Planned}
-use Rattle.build_tables.proofs.Plans.{planned}
+use lib.Dec.{lit<, lit≤}
+use lib.ListN.{length, replicate}
+use Rattle.build_steps.specs.Steps.{builtRows}
+use Rattle.build_index.proofs.Empty.{indexed-none}
+use Rattle.build_tables.proofs.Plans.{parts-ordered, rows-few, fifteen-each, can-start}
 use Rattle.build_tables.proofs.build_accepted.Statement.{statement}
 use Rattle.build_tables.proofs.build_accepted.Tie as tie
 
 abbrev start : tie.After-order → tie.Start
 start c = c .before .before .before .before .before
 
-plan : (c : tie.After-order) → Planned (start c .args .coefficients .now) (start c .args .choices .now) (c .order .last .1 .0) (c .order .result) (start c .args .rows .now) (start c .args .taps .now)
-plan c =
-    let s = start c in
-    let a = s .args in
-    let o = c .order .ensures in
+keyed : (c : tie.After-order) → c .order .result ≤ length (c .order .last .1 .0)
+keyed c =
     let l : length (c .order .last .1 .0) ≡ 256 = c .order .kept .1 .0 in
-    planned (a .coefficients .now) (a .choices .now) (c .order .last .1 .0) (c .order .result) (a .rows .now) (a .taps .now) (s .pre) o (omega (arith, o .few, s .pre .few, l))
+    omega (arith, c .order .ensures .few, start c .pre .can-build .few, l)
 
 slice-aggregate-order : tie.Need-slice-aggregate-order
 slice-aggregate-order c = search needs
@@ -25,17 +27,54 @@ slice-aggregate-order c = search needs
 order-requires : tie.Need-order-requires
 order-requires c κs = search needs
 
-slice-aggregate-write-few : tie.Need-slice-aggregate-write-few
-slice-aggregate-write-few c = search needs
+slice-aggregate-write-network : tie.Need-slice-aggregate-write-network
+slice-aggregate-write-network c = search needs
 
-write-few-requires : tie.Need-write-few-requires
-write-few-requires c κs = let t = c .before .before .before in (plan (t .before .before), omega (arith, t .if1 .taken))
+slice-aggregate-write-network-2 : tie.Need-slice-aggregate-write-network-2
+slice-aggregate-write-network-2 c = search needs
 
-slice-aggregate-write-many : tie.Need-slice-aggregate-write-many
-slice-aggregate-write-many c = search needs
+slice-aggregate-write-network-3 : tie.Need-slice-aggregate-write-network-3
+slice-aggregate-write-network-3 c = search needs
 
-write-many-requires : tie.Need-write-many-requires
-write-many-requires c κs = plan (c .before .before .before .before .before)
+write-network-requires : tie.Need-write-network-requires
+write-network-requires c κs =
+    let t = c .before .before .before .before .before in
+    let w = t .before .before in
+    let s = start w in
+    let a = s .args in
+    let keys = w .order .last .1 .0 in
+    let few : length (builtRows (a .coefficients .now) (a .choices .now)) ≤ 961 = omega (arith, fifteen-each (a .coefficients .now) (a .choices .now) (a .rows .now) (a .taps .now) keys (w .order .result) (s .pre) (w .order .ensures) (keyed w), t .if1 .taken) in (
+      can-start (a .coefficients .now) (a .choices .now) (a .rows .now) (a .taps .now) keys (w .order .result) (s .pre) (w .order .ensures) (keyed w)
+          (replicate {A = ℕ} 1024 0) _ (indexed-none (a .rows .now) (replicate {A = ℕ} 1024 0) _ 1024 refl (lit< tt)) (le-trans few (lit≤ tt)),
+      (
+        parts-ordered (a .coefficients .now) (a .choices .now) (a .rows .now) (a .taps .now) keys (w .order .result) (s .pre) (w .order .ensures) (keyed w),
+        omega (arith, s .pre .taps-long, s .pre .can-build .few),
+      ),
+    )
+
+slice-aggregate-write-network-4 : tie.Need-slice-aggregate-write-network-4
+slice-aggregate-write-network-4 c = search needs
+
+slice-aggregate-write-network-5 : tie.Need-slice-aggregate-write-network-5
+slice-aggregate-write-network-5 c = search needs
+
+slice-aggregate-write-network-6 : tie.Need-slice-aggregate-write-network-6
+slice-aggregate-write-network-6 c = search needs
+
+write-network-requires-2 : tie.Need-write-network-requires-2
+write-network-requires-2 c κs =
+    let w = c .before .before .before .before .before .before .before in
+    let s = start w in
+    let a = s .args in
+    let keys = w .order .last .1 .0 in
+    let few = rows-few (a .coefficients .now) (a .choices .now) (a .rows .now) (a .taps .now) keys (w .order .result) (s .pre) (w .order .ensures) (keyed w) in (
+      can-start (a .coefficients .now) (a .choices .now) (a .rows .now) (a .taps .now) keys (w .order .result) (s .pre) (w .order .ensures) (keyed w)
+          (replicate {A = ℕ} 131072 0) _ (indexed-none (a .rows .now) (replicate {A = ℕ} 131072 0) _ 131072 refl (lit< tt)) (le-trans few (lit≤ tt)),
+      (
+        parts-ordered (a .coefficients .now) (a .choices .now) (a .rows .now) (a .taps .now) keys (w .order .result) (s .pre) (w .order .ensures) (keyed w),
+        omega (arith, s .pre .taps-long, s .pre .can-build .few),
+      ),
+    )
 
 same-length : tie.Need-same-length
 same-length c = search needs
@@ -61,10 +100,14 @@ build-accepted-spec =
     (tie.spec
     slice-aggregate-order
     order-requires
-    slice-aggregate-write-few
-    write-few-requires
-    slice-aggregate-write-many
-    write-many-requires
+    slice-aggregate-write-network
+    slice-aggregate-write-network-2
+    slice-aggregate-write-network-3
+    write-network-requires
+    slice-aggregate-write-network-4
+    slice-aggregate-write-network-5
+    slice-aggregate-write-network-6
+    write-network-requires-2
     same-length
     same-length-2
     returns

@@ -1,7 +1,6 @@
 -- `build_tables::write_network` meets its contract. Assumes nothing.
 use borrow.Author.Needs.{needs}
-use native.Mathlib.Omega.{arith}
-use Rattle.build_tables.proofs.Plans.{can-start, written}
+use Rattle.build_tables.proofs.Plans.{written}
 use Rattle.build_tables.proofs.write_network.Statement.{statement}
 use Rattle.build_tables.proofs.write_network.Tie as tie
 
@@ -9,16 +8,12 @@ abbrev start : tie.After-add-rows → tie.Start
 start c = c .before .before .before .before .before .before .before .before .before .before
 
 add-rows-requires : tie.Need-add-rows-requires
-add-rows-requires c κs =
-    let s = c .before .before .before .before .before .before .before .before .before in
-    let a = s .args in
-    can-start (a .coefficients .now) (a .choices .now) (a .keys .now) (a .m) (a .rows .now) (a .taps .now) (s .pre .0) (a .heads .now) (a .links .now) (s .pre .1)
+add-rows-requires c κs = c .before .before .before .before .before .before .before .before .before .pre .0
 
 write-tap-rows-requires : tie.Need-write-tap-rows-requires
 write-tap-rows-requires c κs =
     let g = c .before .before .before .before .before .before .before .before .before .before in
-    let s = start g in
-    (g .add-rows .ensures .index, omega (arith, s .pre .0 .taps-long, s .pre .0 .can-build .few))
+    (g .add-rows .ensures .index, start g .pre .1 .1)
 
 same-length : tie.Need-same-length
 same-length c = search needs
@@ -39,8 +34,8 @@ returns c =
     let s = start g in
     let a = s .args in
     let r = g .add-rows in
-    written (a .coefficients .now) (a .choices .now) (a .keys .now) (a .m) (a .rows .now) (a .taps .now) (s .pre .0) (a .heads .now) (a .links .now) (s .pre .1)
-    (r .last .1 .1 .1 .0) (r .last .1 .1 .1 .1 .0) (r .last .1 .1 .1 .1 .1 .0) (w .write-tap-rows .last .1 .1 .1 .1 .1 .0) (r .result) (r .kept .1 .1 .1 .0) (r .ensures) (w .write-tap-rows .ensures)
+    written (a .coefficients .now) (a .choices .now) (a .keys .now) (a .m) (s .pre .1 .0) (a .rows .now) (a .taps .now)
+    (r .last .1 .1 .1 .0) (r .last .1 .1 .1 .1 .0) (r .last .1 .1 .1 .1 .1 .0) (w .write-tap-rows .last .1 .1 .1 .1 .1 .0) (r .result) (r .ensures) (w .write-tap-rows .ensures)
 
 pub write-network-spec : {M : Type 1} → statement M
 write-network-spec =

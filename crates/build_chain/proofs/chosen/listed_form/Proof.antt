@@ -1,4 +1,5 @@
--- `build_chain::chosen::listed_form` meets its contract. Assumes nothing.
+-- `build_chain::chosen::listed_form` meets its contract. `minimal_forms` fills two tables with the masks of the listing, which has at most 1,597 forms; the chosen
+-- form's masks stand at its number in both. Assumes nothing.
 use borrow.Author.Needs.{needs}
 use mathlib.Core.Path.{refl, ap, ap₂, _∙_}
 use mathlib.Core.List.{List, _++_, map}

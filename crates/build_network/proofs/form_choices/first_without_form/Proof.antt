@@ -1,14 +1,18 @@
--- `build_network::form_choices::first_without_form` meets its contract. The invariant: every tap passed has its form. Assumes nothing.
+-- `build_network::form_choices::first_without_form` meets its contract. The invariant of its loop: every tap that was passed has its form, so that the lowest tap
+-- without one, counted from i on, is the lowest of all. The measure is the number of taps still to be looked at. Assumes nothing.
+use borrow.Author.Count.{below-none, below-more}
 use borrow.Author.Needs.{needs}
 use borrow.Author.Tests.{not-true, not-false}
 use mathlib.Core.Path.{_≡_, refl, sym, ap, _∙_}
-use mathlib.Core.Bool.{Bool, true, false, not, true≢false}
-use Prim.Native.Nat.{_-_, _≤_}
+use mathlib.Core.Bool.{Bool, true, false, not, Bool·not-not}
+use Prim.Native.Nat.{ℕ, _-_, _≤_, _<_}
 use native.Mathlib.Omega.{arith}
 use lib.IntN.{ℤ, pos}
 use lib.ListN.{length, drop, getD}
 use mir.Syntax.{w32}
 use mir.ValLaws.{toZ-ofZ}
+use Rattle.word.specs.Bounds.{Coefficient}
+use Rattle.word.proofs.Bounds.{i32-coefficient}
 use Rattle.refusal.specs.Answer.{lowestFrom, lowest, placeOr}
 use Rattle.refusal.proofs.Checks.{lowest-here, lowest-later, lowest-none}
 use Rattle.coefficient.specs.Parts.{partsOf}
@@ -26,13 +30,16 @@ abbrev breaks : Choice → Bool
 breaks c = noSuchForm (c .tap) (c .number)
 
 abbrev Inv-loop : tie.InvT-loop
-Inv-loop coefficients choices i₀ i = (i ≤ length coefficients) × (lowestFrom i breaks (drop i (choicesOf coefficients choices)) ≡ lowest breaks (choicesOf coefficients choices))
+Inv-loop coefficients choices i₀ i =
+    (i ≤ length coefficients)
+    × (lowestFrom i breaks (drop i (choicesOf coefficients choices)) ≡ lowest breaks (choicesOf coefficients choices))
+    × ((k : ℕ) → k < i → Coefficient (getD coefficients k (pos 0)))
 
 abbrev μ-loop : tie.MeasureT-loop
 μ-loop coefficients choices i₀ i = length coefficients - i
 
 loop-holds : tie.Need-loop-holds Inv-loop μ-loop
-loop-holds c = (search needs, refl)
+loop-holds c = (search needs, refl, below-none (λ (k : ℕ). Coefficient (getD (c .before .args .coefficients .now) k (pos 0))))
 
 mul-has-form : tie.Need-mul-has-form Inv-loop μ-loop
 mul-has-form c = search needs
@@ -50,10 +57,7 @@ has-form-requires : tie.Need-has-form-requires Inv-loop μ-loop
 has-form-requires c κs = search needs
 
 not-swap : (a b t : Bool) → a ≡ not b → a ≡ not t → b ≡ t
-not-swap a true true e f = refl
-not-swap a false false e f = refl
-not-swap a true false e f = absurd (true≢false (sym f ∙ e))
-not-swap a false true e f = absurd (true≢false (sym e ∙ f))
+not-swap a b t e f = sym (Bool·not-not b) ∙ ap not (sym e ∙ f) ∙ Bool·not-not t
 
 -- what `has_form` said of tap i
 tested : (c : tie.After-has-form Inv-loop μ-loop) (t : Bool) → c .has-form .result ≡ not t
@@ -73,7 +77,7 @@ returns c =
     let xs = choicesOf (s .args .coefficients .now) (s .args .choices .now) in
     let m = length-choices (s .args .coefficients .now) (s .args .choices .now) (s .pre) in
     let b = tested (c .before) true (not-true (c .before .has-form .result) (c .if1 .taken)) in
-    ap (placeOr (length (s .args .coefficients .now))) (sym (lowest-here noChoice breaks xs (l .loop .i) (omega (arith, m, t .loop-test .taken)) b) ∙ l .loop .inv .1)
+    (ap (placeOr (length (s .args .coefficients .now))) (sym (lowest-here noChoice breaks xs (l .loop .i) (omega (arith, m, t .loop-test .taken)) b) ∙ l .loop .inv .1), l .loop .inv .2)
 
 add-i : tie.Need-add-i Inv-loop μ-loop
 add-i c = search needs
@@ -89,7 +93,11 @@ loop-again c =
     let xs = choicesOf (s .args .coefficients .now) (s .args .choices .now) in
     let m = length-choices (s .args .coefficients .now) (s .args .choices .now) (s .pre) in
     let b = tested (c .before) false (not-false (c .before .has-form .result) (c .if1 .left)) in
-    (search needs, sym (lowest-later noChoice breaks xs (l .loop .i) (omega (arith, m, t .loop-test .taken)) b) ∙ l .loop .inv .1)
+    let n = getD (s .args .coefficients .now) (l .loop .i) (pos 0) in (
+      search needs,
+      sym (lowest-later noChoice breaks xs (l .loop .i) (omega (arith, m, t .loop-test .taken)) b) ∙ l .loop .inv .1,
+      below-more (λ (k : ℕ). Coefficient (getD (s .args .coefficients .now) k (pos 0))) (l .loop .i) (l .loop .inv .2) (i32-coefficient n (record { sfits = c .before .before .before .has-form-arg .given })),
+    )
 
 returns-2 : tie.Need-returns-2 Inv-loop μ-loop
 returns-2 c =
@@ -98,7 +106,7 @@ returns-2 c =
     let xs = choicesOf (s .args .coefficients .now) (s .args .choices .now) in
     let m = length-choices (s .args .coefficients .now) (s .args .choices .now) (s .pre) in
     let e : l .loop .i ≡ length (s .args .coefficients .now) = omega (arith, l .loop .inv .0, c .loop-test .left) in
-    e ∙ ap (placeOr (length (s .args .coefficients .now))) (sym (lowest-none noChoice breaks xs (l .loop .i) (omega (arith, m, c .loop-test .left))) ∙ l .loop .inv .1)
+    (e ∙ ap (placeOr (length (s .args .coefficients .now))) (sym (lowest-none noChoice breaks xs (l .loop .i) (omega (arith, m, c .loop-test .left))) ∙ l .loop .inv .1), l .loop .inv .2)
 
 pub first-without-form-spec : {M : Type 1} → statement M
 first-without-form-spec =

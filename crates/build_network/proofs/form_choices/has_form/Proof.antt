@@ -1,4 +1,5 @@
--- `build_network::form_choices::has_form` meets its contract. Assumes nothing.
+-- `build_network::form_choices::has_form` meets its contract. The choice 0 is always there: the canonical form of an odd part, and what a zero tap must have.
+-- Any other is below the number of forms or not; a zero tap has none. Assumes nothing.
 use borrow.Author.Needs.{needs}
 use mathlib.Core.Path.{_≡_, sym, ap, _∙_}
 use mathlib.Core.Bool.{not}

@@ -1,4 +1,5 @@
--- `build_pair::left_rows::lower_left` meets its contract. Assumes nothing.
+-- `build_pair::left_rows::lower_left` meets its contract. 2^s·left + r = v, 2^s·left - r = v and r - 2^s·left = v each say that 2^s·left is v + r or the
+-- distance of v and r, so that the left row, being odd, is the odd part of one of them. An empty bucket has no row of its value. Assumes nothing.
 use mathlib.Core.Path.{sym, _∙_}
 use native.Mathlib.Omega.{arith}
 use borrow.Author.Needs.{needs}

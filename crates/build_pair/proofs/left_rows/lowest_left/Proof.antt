@@ -1,4 +1,6 @@
--- `build_pair::left_rows::lowest_left` meets its contract. The invariant: no left row below `low` goes with a right row passed. Assumes nothing.
+-- `build_pair::left_rows::lowest_left` meets its contract. The invariant of its loop: no left row below `low` goes with a right row that was passed, at any
+-- shift and sign. `low` only falls, so that what was said of earlier right rows stays true. The measure is the number of right rows still to pass;
+-- then no right row is left that could go with a left row below `low`. Assumes nothing.
 use mathlib.Core.Path.{sym, subst, _∙_}
 use Prim.Native.Nat.{ℕ, _-_, _≤_, _<_}
 use native.Mathlib.Omega.{arith}

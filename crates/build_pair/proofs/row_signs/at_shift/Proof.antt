@@ -1,4 +1,5 @@
--- `build_pair::row_signs::at_shift` meets its contract. Assumes nothing.
+-- `build_pair::row_signs::at_shift` meets its contract. The three signs in a row are the first fit over the list of signs (`three-signs`); what stands
+-- behind a fit does not count. Assumes nothing.
 use mathlib.Core.Path.{refl, sym, ap, _∙_}
 use borrow.Author.Needs.{needs}
 use Rattle.network.specs.Rows.{minus, reversed, rowsOf}

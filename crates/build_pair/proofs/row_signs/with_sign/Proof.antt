@@ -1,4 +1,5 @@
--- `build_pair::row_signs::with_sign` meets its contract. Assumes nothing.
+-- `build_pair::row_signs::with_sign` meets its contract. At most one value makes v on the right (`rightValue`): 0 and a value above `most` have no row, and
+-- `find` tells the row of any other. Assumes nothing.
 use mathlib.Core.Path.{sym, ap, _∙_}
 use native.Mathlib.Omega.{arith}
 use borrow.Author.Needs.{needs}
