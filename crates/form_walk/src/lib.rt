@@ -1,5 +1,4 @@
-// The walk over the links of a coefficient. All functions here are internal: they serve the crate
-// `form_listing`.
+// The walk over the links of a coefficient.
 ghost use mathlib.Core.Path.{_≡_};
 ghost use mathlib.Core.Logic.{_≢_};
 ghost use mathlib.Core.Bool.{cond};
@@ -89,7 +88,7 @@ pub fn skip(w: Walk) -> Walk
     }
 }
 
-// Past the next link. Nobody can guess its kind, so that chooses among numbers and not among branches.
+// Past the next link. Its kind is not to be guessed, so numbers are chosen and no branch is taken.
 pub fn next(w: Walk) -> Walk
     requires { ⌜ (w .forms ≤ 2 ^ 34) × (w .moved ≤ 2 ^ 34) × (w .bit ≤ 2 ^ 33) ⌝ }
     ensures { λ r. ⌜ r ≡ nextOf w ⌝ }

@@ -1,4 +1,4 @@
--- Laws on the checks of specs/Answer.antt, for the proofs of the crates above. Assumes nothing.
+-- Laws on the checks of specs/Answer.antt. Assumes nothing.
 use mathlib.Core.Path.{_≡_, refl, sym, ap, _∙_}
 use mathlib.Core.Bool.{Bool, true, false, cond, _||_, true≢false, false≢true}
 use mathlib.Core.List.{List, [], _∷_}

@@ -1,4 +1,4 @@
--- What the proofs of the small functions cite. Assumes nothing.
+-- A power of 2 by its bits, a whole number of a size and a sign, and a number as a whole one and the rest. Assumes nothing.
 use mathlib.Core.Path.{_≡_, refl, sym, ap, _∙_, subst}
 use mathlib.Core.Bool.{Bool, true, false, not, _&&_, cond}
 use Prim.Native.Nat.{ℕ, zero, suc, _+_, _-_, _*_, _/_, _%_, _≤_, _<_}

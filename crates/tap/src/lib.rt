@@ -21,7 +21,7 @@ pub enum RoundedTap {
     Refused(Refusal),
 }
 
-// x without its sign, but that -0 keeps it. Internal: `tap_set` compares leftovers by it.
+// x without its sign, but that -0 keeps it.
 pub fn magnitude(x: f64) -> f64
     ensures { λ r. ⌜ r ≡ magnitudeOf x ⌝ }
 {

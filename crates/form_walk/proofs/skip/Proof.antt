@@ -1,4 +1,4 @@
--- `form_walk::skip` meets its contract. Assumes nothing.
+-- `form_walk::skip` meets its contract. 2 to the number of zeros below the next link is at most `links`, so that `bit` shifted by it is at most `bit` times `links` and no bit is lost. Assumes nothing.
 use mathlib.Core.Path.{_≡_, refl}
 use Prim.Native.Nat.{_*_, _≤_, _%_, _^_}
 use native.Mathlib.Nat.{mul-le-mul-left}

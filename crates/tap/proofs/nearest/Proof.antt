@@ -1,4 +1,5 @@
--- `tap::nearest` meets its contract. Assumes nothing.
+-- `tap::nearest` meets its contract. The even number that `nearest_even` gives is at most 2^32, so that it is read back as a whole number exactly; the test of
+-- x against it plus 1/2 tells the half where the half rule decides from every other x (`by-half`). Assumes nothing.
 use borrow.Author.Needs.{needs}
 use mathlib.Core.Path.{_≡_, refl, sym, ap, _∙_, subst}
 use mathlib.Core.Bool.{Bool, false}

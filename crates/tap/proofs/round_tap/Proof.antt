@@ -1,4 +1,5 @@
--- `tap::round_tap` meets its contract: each answer is a law of proofs/Answer.antt. Assumes nothing.
+-- `tap::round_tap` meets its contract. Each way out of the code is one row of the table of refusals or one answer, and each is a law of proofs/Answer.antt:
+-- what is left here is to hand that law the facts of the tests passed on the way. Assumes nothing.
 use borrow.Author.Needs.{needs}
 use mathlib.Core.Path.{_≡_, refl, sym, ap, _∙_, subst}
 use mathlib.Core.Bool.{Bool, true, false}

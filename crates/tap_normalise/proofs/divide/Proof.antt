@@ -1,4 +1,5 @@
--- `tap_normalise::divide` meets its contract. The invariant: the quotients of the taps passed stand at the front. Assumes nothing.
+-- `tap_normalise::divide` meets its contract. The invariant of its loop: the first `i` places of the table hold the quotients of the taps passed, and the rest
+-- are as they were. The measure is the number of taps still to come. Assumes nothing.
 use borrow.Author.Needs.{needs}
 use mathlib.Core.Path.{_≡_, refl, ap, _∙_}
 use Prim.Native.Nat.{_-_, _≤_}

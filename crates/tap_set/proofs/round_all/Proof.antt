@@ -1,4 +1,6 @@
--- `tap_set::round_all` meets its contract. The invariant: none of the numbers passed is turned down, the report of the rest from here on is the whole report, and the buffer's front holds the coefficients of the numbers passed. Assumes nothing.
+-- `tap_set::round_all` meets its contract. The invariant of its loop: none of the numbers passed is turned down, so that the lowest place from `i` on that is
+-- turned down is the lowest of all; the report so far, carried on over the numbers still to come, is the whole report; and the first `i` places of the buffer
+-- hold the coefficients of the numbers passed. The measure is the number of numbers still to come. Assumes nothing.
 use borrow.Author.Needs.{needs}
 use mathlib.Core.Path.{_≡_, refl, sym, ap, _∙_, subst}
 use mathlib.Core.List.{List, _++_, map}

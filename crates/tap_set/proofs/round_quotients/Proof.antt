@@ -1,4 +1,5 @@
--- `tap_set::round_quotients` meets its contract. Assumes nothing.
+-- `tap_set::round_quotients` meets its contract. A sum that taps cannot be divided by leads to `no_sum`. Else the front of the table holds the quotients, `settle`
+-- answers for them, and since a finite sum has only finite taps, that answer is the one for the taps. Assumes nothing.
 use borrow.Author.Needs.{needs}
 use borrow.Author.Tests.{not-true, not-false}
 use mathlib.Core.Path.{_≡_, refl, sym, ap, _∙_}

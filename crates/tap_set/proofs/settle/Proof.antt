@@ -1,4 +1,5 @@
--- `tap_set::settle` meets its contract. Assumes nothing.
+-- `tap_set::settle` meets its contract. The copy writes all coefficients where `round_all` accepts them and none where it does not. A refusal of `round_all` has
+-- the lowest place that is turned down; whether that is a number that is not finite or one outside the bounds, the scan that follows settles. Assumes nothing.
 use borrow.Author.Needs.{needs}
 use mathlib.Core.Path.{_≡_, refl, sym, ap, _∙_}
 use mathlib.Core.List.{List, _++_}
