@@ -216,7 +216,7 @@ minus-zero F h =
     none : sizeOf F (fin true 0 (pos 0)) ≡ 0
     none = size-is F true 0 (pos 0) ∙ nearest-whole (0 * 1 * 2 ^ F) 0 1 (lit< tt) (zero-mul (2 ^ F))
 
-    low : (n : ℕ) → n ≡ 0 → n ≤ 2147483648
+    low : (n : ℕ) → n ≡ 0 → n ≤ 2 ^ 31
     low n e = omega arith
 
 -- no leftover is a not-a-number
