@@ -183,9 +183,6 @@ module _ (m : ℕ) (G : Digit → Spot → Type 0) (on : (d : Digit) (s : Spot) 
         go zero e = absurd (omega (arith, A .is-taken, needed-end (A .last) (A .spot) e))
         go (suc y) e = omega arith
 
-    pub odd : w .links % 2 ≡ 1
-    odd = omega (arith, A .stands .links, odd-links (A .last) (A .spot) (A .is-taken))
-
     pub next-fits : (w .forms ≤ 2 ^ 34) × (w .moved ≤ 2 ^ 34) × (w .bit ≤ 2 ^ 33)
     next-fits =
         let r = walked-room 32 m (A .spot) (on-way .0) in

@@ -1,6 +1,6 @@
 -- Filling a table from the front: what each place holds while it goes on.
 use mathlib.Core.Path.{_≡_, refl, sym, ap, _∙_}
-use mathlib.Core.List.{List, _∷_, _++_}
+use mathlib.Core.List.{List, _++_}
 use Prim.Native.Nat.{ℕ, suc, _+_, _<_}
 use native.Mathlib.Numerals.{add-one}
 use native.Mathlib.Omega.{arith}
@@ -25,10 +25,6 @@ module _ {ℓ} {A : Type ℓ} (f : ℕ → A) (r : List A) where
   unfolding front upTo
   front-next k d h =
       rw (add-one k, drop-cons r k d h) (set-at (upTo k f) (getD r k d) (drop (suc k) r) (f k) k (length-upTo k f) ∙ sym (append-snoc (upTo k f) (f k) (drop (suc k) r)))
-
-  pub front-last : (k : ℕ) (v d : A) → k < length r → set (front f r k) k v ≡ upTo k f ++ (v ∷ drop (suc k) r)
-  unfolding front
-  front-last k v d h = rw (drop-cons r k d h) (set-at (upTo k f) (getD r k d) (drop (suc k) r) v k (length-upTo k f))
 
   -- what has been filled
   pub front-done : (n k : ℕ) (d : A) → k < n → getD (front f r n) k d ≡ f k
