@@ -1,23 +1,17 @@
 -- A table with a row written. Assumes nothing.
 use mathlib.Core.Path.{_≡_, refl, _∙_}
 use mathlib.Core.List.{List, [], _∷_, _++_}
-use Prim.Native.Nat.{ℕ, zero, suc, _+_, _*_, _<_, _≤_}
+use Prim.Native.Nat.{ℕ, _+_, _*_, _<_, _≤_}
 use native.Mathlib.Numerals.{add-one}
 use native.Mathlib.Omega.{arith}
 use lib.ListN.{length, getD, set, drop, length-set}
-use lib.Seq.{getD-set-same, getD-set-other, drop-set-lt}
+use lib.Seq.{getD-set-same, drop-set-lt}
 use Rattle.sequence.specs.UpTo.{upTo}
+use Rattle.sequence.proofs.UpTo.{upTo-same}
+use Rattle.sequence.proofs.Front.{set-before}
 use Rattle.network.specs.declared.Row.{Row}
 use Rattle.network.specs.Rows.{rowWords, rowAt, rowsOf}
 use Rattle.build_index.specs.Inner.{withRow}
-
-before : (l : List ℕ) (k j a : ℕ) → j < k → getD (set l k a) j 0 ≡ getD l j 0
-before l k j a h = getD-set-other l k j a 0 (λ (e : j ≡ k). omega arith)
-
-upTo-same : {A : Type 0} (f g : ℕ → A) (n : ℕ) → ((i : ℕ) → i < n → f i ≡ g i) → upTo n f ≡ upTo n g
-unfolding upTo
-upTo-same f g zero h = refl
-upTo-same f g (suc n) h = rw (upTo-same f g n (λ i l. h i (omega arith)), h n (omega arith)) refl
 
 module _ (t : List ℕ) (n : ℕ) (r : Row) where
   word-before : (j : ℕ) → j < rowWords * n → getD (withRow t n r) j 0 ≡ getD t j 0
@@ -26,7 +20,7 @@ module _ (t : List ℕ) (n : ℕ) (r : Row) where
       let h2 : j < rowWords * n + 2 = omega arith in
       let h3 : j < rowWords * n + 3 = omega arith in
       let h4 : j < rowWords * n + 4 = omega arith in
-      simp before
+      simp set-before
 
   pub old-row : (i : ℕ) → i < n → rowAt (withRow t n r) i ≡ rowAt t i
   old-row i h =
@@ -49,22 +43,22 @@ module _ (t : List ℕ) (n : ℕ) (r : Row) where
         let t2 = set t1 (rowWords * n + 2) (r .shift) in
         let t3 = set t2 (rowWords * n + 3) (r .sign) in
         let e0 : getD (withRow t n r) (rowWords * n) 0 ≡ r .left
-        = before t3 (rowWords * n + 4) (rowWords * n) (r .value) (omega arith)
-        ∙ before t2 (rowWords * n + 3) (rowWords * n) (r .sign) (omega arith)
-        ∙ before t1 (rowWords * n + 2) (rowWords * n) (r .shift) (omega arith)
-        ∙ before t0 (rowWords * n + 1) (rowWords * n) (r .right) (omega arith)
+        = set-before t3 (rowWords * n + 4) (rowWords * n) (r .value) 0 (omega arith)
+        ∙ set-before t2 (rowWords * n + 3) (rowWords * n) (r .sign) 0 (omega arith)
+        ∙ set-before t1 (rowWords * n + 2) (rowWords * n) (r .shift) 0 (omega arith)
+        ∙ set-before t0 (rowWords * n + 1) (rowWords * n) (r .right) 0 (omega arith)
         ∙ getD-set-same t (rowWords * n) (r .left) 0 (omega arith) in
         let e1 : getD (withRow t n r) (rowWords * n + 1) 0 ≡ r .right
-        = before t3 (rowWords * n + 4) (rowWords * n + 1) (r .value) (omega arith)
-        ∙ before t2 (rowWords * n + 3) (rowWords * n + 1) (r .sign) (omega arith)
-        ∙ before t1 (rowWords * n + 2) (rowWords * n + 1) (r .shift) (omega arith)
+        = set-before t3 (rowWords * n + 4) (rowWords * n + 1) (r .value) 0 (omega arith)
+        ∙ set-before t2 (rowWords * n + 3) (rowWords * n + 1) (r .sign) 0 (omega arith)
+        ∙ set-before t1 (rowWords * n + 2) (rowWords * n + 1) (r .shift) 0 (omega arith)
         ∙ getD-set-same t0 (rowWords * n + 1) (r .right) 0 (simp length-set (omega arith)) in
         let e2 : getD (withRow t n r) (rowWords * n + 2) 0 ≡ r .shift
-        = before t3 (rowWords * n + 4) (rowWords * n + 2) (r .value) (omega arith)
-        ∙ before t2 (rowWords * n + 3) (rowWords * n + 2) (r .sign) (omega arith)
+        = set-before t3 (rowWords * n + 4) (rowWords * n + 2) (r .value) 0 (omega arith)
+        ∙ set-before t2 (rowWords * n + 3) (rowWords * n + 2) (r .sign) 0 (omega arith)
         ∙ getD-set-same t1 (rowWords * n + 2) (r .shift) 0 (simp length-set (omega arith)) in
         let e3 : getD (withRow t n r) (rowWords * n + 3) 0 ≡ r .sign
-        = before t3 (rowWords * n + 4) (rowWords * n + 3) (r .value) (omega arith)
+        = set-before t3 (rowWords * n + 4) (rowWords * n + 3) (r .value) 0 (omega arith)
         ∙ getD-set-same t2 (rowWords * n + 3) (r .sign) 0 (simp length-set (omega arith)) in
         let e4 : getD (withRow t n r) (rowWords * n + 4) 0 ≡ r .value
         = getD-set-same t3 (rowWords * n + 4) (r .value) 0 (simp length-set (omega arith)) in

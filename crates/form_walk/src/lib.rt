@@ -1,10 +1,10 @@
 // The walk over the links of a coefficient.
 ghost use mathlib.Core.Path.{_≡_};
 ghost use mathlib.Core.Logic.{_≢_};
-ghost use mathlib.Core.Bool.{cond};
 ghost use Prim.Native.Nat.{_*_, _≤_, _<_, _^_};
 ghost use Rattle.form_walk.specs.Inner.{aheadOf, IsTaken, IsStart, skipOf, nextOf};
 use form_masks::Form;
+use word::choose_index;
 
 // Two canonical digits that stand two places apart are linked. A form takes a link by moving its
 // upper digit one place down and turning the sign of its lower digit, as 1 0 -1 becomes 0 1 1. A
@@ -67,12 +67,6 @@ pub fn start(form: Form) -> Walk
     }
 }
 
-fn choose(first: bool, a: usize, b: usize) -> usize
-    ensures { λ r. ⌜ r ≡ cond first a b ⌝ }
-{
-    if first { a } else { b }
-}
-
 // Up to the next link. Where it does not touch the last one, nothing binds it.
 pub fn skip(w: Walk) -> Walk
     requires { ⌜ (w .links ≢ 0) × (w .links ≤ 2 ^ 35) × (w .bit * w .links ≤ 2 ^ 35) ⌝ }
@@ -84,7 +78,7 @@ pub fn skip(w: Walk) -> Walk
         opposite: w.opposite >> places,
         bit: w.bit << places,
         forms: w.forms,
-        moved: choose(places == 0, w.moved, w.forms),
+        moved: choose_index(places == 0, w.moved, w.forms),
     }
 }
 
@@ -99,7 +93,7 @@ pub fn next(w: Walk) -> Walk
         links: w.links / 4,
         opposite: w.opposite / 4,
         bit: w.bit * 4,
-        forms: choose(opposite, both, w.forms),
-        moved: choose(opposite, w.forms, both),
+        forms: choose_index(opposite, both, w.forms),
+        moved: choose_index(opposite, w.forms, both),
     }
 }

@@ -6,7 +6,7 @@ use Prim.Native.Nat.{ℕ, zero, suc, _*_, _^_, _≤_, _<_, _-_}
 use native.Mathlib.Nat.{le-trans, le-of-eq, lt-of-lt-of-le, lt-of-le-of-lt, mul-le-mul-right, mul-right-comm}
 use native.Mathlib.Omega.{arith}
 use lib.IntN.{ℤ, pos, negsuc}
-use lib.Dec.{T, leb, ltb, eqb, ltb→lt, nltb→le, lit≤, lit<}
+use lib.Dec.{T, leb, ltb, eqb, lit≤, lit<}
 use lib.Signed.{ltZ}
 use mir.Syntax.{w32}
 use mir.Val.{SFits}
@@ -15,6 +15,7 @@ use lib.Ieee.Fits.{down-pos}
 use lib.Ieee.Exact.{HasValue}
 use borrow.Author.Tests.{lt-ltb, le-ltb, eqb-false, ltb-true, ltb-false, leb-true, leb-false}
 use Rattle.word.specs.Bounds.{withinBounds}
+use Rattle.word.proofs.Order.{lt-or-le}
 use Rattle.refusal.specs.Answer.{given, refused, refuseIf}
 use Rattle.refusal.proofs.Checks.{check-applies, check-passes}
 use Rattle.tap.specs.Rounding.{exact, rounded, nearestWhole, signed, leftover, split, finite, sizeOf, outside, resultOf, roundedTap, absOf}
@@ -47,6 +48,12 @@ of-finite F x h n = few-bits F x h ∙ check-passes (not (finite x)) 5 _ (ap not
 abbrev pub most : Bool → ℕ
 most s = cond s (2 ^ 31) (2 ^ 31 - 1)
 
+one-more : (n : ℕ) → n ≤ 2 ^ 31 - 1 → suc n ≤ 2 ^ 31
+one-more n h = omega arith
+
+past : (n : ℕ) → 2 ^ 31 - 1 < n → 2 ^ 31 < suc n
+past n h = omega arith
+
 -- ±n is outside the bounds where n is above it
 within-most : (s : Bool) (n : ℕ) → not (withinBounds (signed s n)) ≡ ltb (most s) n
 within-most false n = go (leb n (2 ^ 31 - 1)) refl
@@ -57,12 +64,6 @@ within-most false n = go (leb n (2 ^ 31 - 1)) refl
 within-most true zero = refl
 within-most true (suc n) = go (leb n (2 ^ 31 - 1)) refl
   where
-    one-more : (n : ℕ) → n ≤ 2 ^ 31 - 1 → suc n ≤ 2 ^ 31
-    one-more n h = omega arith
-
-    past : (n : ℕ) → 2 ^ 31 - 1 < n → 2 ^ 31 < suc n
-    past n h = omega arith
-
     go : (b : Bool) → leb n (2 ^ 31 - 1) ≡ b → not (leb n (2 ^ 31 - 1) && true) ≡ ltb (2 ^ 31) (suc n)
     go true h = ap (λ (b : Bool). not (b && true)) h ∙ sym (le-ltb (2 ^ 31) (suc n) (one-more n (leb-true n (2 ^ 31 - 1) h)))
     go false h = ap (λ (b : Bool). not (b && true)) h ∙ sym (lt-ltb (2 ^ 31) (suc n) (past n (leb-false n (2 ^ 31 - 1) h)))
@@ -121,26 +122,19 @@ abs-test F s m e =
     ∙ ap (λ (y : Float). lt (absOf y) (two-to 32)) (scaled-is s m e F)
     ∙ ap (λ (y : Float). lt y (two-to 32)) (round-abs s (m * up e * 2 ^ F) (down e))
 
-either : (a b : ℕ) → (a < b) ⊎ (b ≤ a)
-either a b = go (ltb a b) (ltb→lt a b) (nltb→le a b)
-  where
-    go : (t : Bool) → (T t → a < b) → (T (not t) → b ≤ a) → (a < b) ⊎ (b ≤ a)
-    go true p q = inl (p tt)
-    go false p q = inr (q tt)
-
 module _ (F : ℕ) (s : Bool) (m : ℕ) (e : ℤ) (t : T (fits binary64 (fin s m e))) where
   exactly : m * up e * 2 ^ F < 2 ^ 32 * down e → HasValue (mul binary64 (fin s m e) (two-to F)) s (m * up e * 2 ^ F) (down e)
   exactly l = scaled-exact s m e F t (lt-of-lt-of-le l (mul-le-mul-right (down e) (lit≤ tt)))
 
   under : lt (magnitudeOf (mul binary64 (fin s m e) (two-to F))) (two-to 32) ≡ true → m * up e * 2 ^ F < 2 ^ 32 * down e
-  under h = go (either (m * up e * 2 ^ F) (2 ^ 32 * down e))
+  under h = go (lt-or-le (m * up e * 2 ^ F) (2 ^ 32 * down e))
     where
       go : (m * up e * 2 ^ F < 2 ^ 32 * down e) ⊎ (2 ^ 32 * down e ≤ m * up e * 2 ^ F) → m * up e * 2 ^ F < 2 ^ 32 * down e
       go (inl l) = l
       go (inr l) = absurd (true≢false (sym h ∙ abs-test F s m e ∙ over (m * up e * 2 ^ F) (down e) (down-pos e) l))
 
   not-under : lt (magnitudeOf (mul binary64 (fin s m e) (two-to F))) (two-to 32) ≡ false → 2 ^ 32 * down e ≤ m * up e * 2 ^ F
-  not-under h = go (either (m * up e * 2 ^ F) (2 ^ 32 * down e))
+  not-under h = go (lt-or-le (m * up e * 2 ^ F) (2 ^ 32 * down e))
     where
       go : (m * up e * 2 ^ F < 2 ^ 32 * down e) ⊎ (2 ^ 32 * down e ≤ m * up e * 2 ^ F) → 2 ^ 32 * down e ≤ m * up e * 2 ^ F
       go (inr l) = l
@@ -184,18 +178,12 @@ above-most true (suc c) h = absurd (false≢true h)
 pub below-least : (b : Bool) (c : ℕ) → ltZ (signed b c) (negsuc (2 ^ 31 - 1)) ≡ true → most b < c
 below-least false c h = absurd (false≢true h)
 below-least true zero h = absurd (false≢true h)
-below-least true (suc c) h = go c (ltb-true (2 ^ 31 - 1) c h)
-  where
-    go : (c : ℕ) → 2 ^ 31 - 1 < c → 2 ^ 31 < suc c
-    go c h = omega arith
+below-least true (suc c) h = past c (ltb-true (2 ^ 31 - 1) c h)
 
 pub between : (b : Bool) (c : ℕ) → ltZ (pos (2 ^ 31 - 1)) (signed b c) ≡ false → ltZ (signed b c) (negsuc (2 ^ 31 - 1)) ≡ false → c ≤ most b
 between false c h k = ltb-false (2 ^ 31 - 1) c h
 between true zero h k = lit≤ tt
-between true (suc c) h k = go c (ltb-false (2 ^ 31 - 1) c k)
-  where
-    go : (c : ℕ) → c ≤ 2 ^ 31 - 1 → suc c ≤ 2 ^ 31
-    go c h = omega arith
+between true (suc c) h k = one-more c (ltb-false (2 ^ 31 - 1) c k)
 
 -- a size within them is that of an i32
 pub in-bounds : (b : Bool) (c : ℕ) → c ≤ most b → SFits w32 (signed b c)

@@ -1,11 +1,12 @@
 -- `network_check::fill` meets its contract. The invariant: none of the taps passed breaks the rule, and the buffer's front holds their coefficients. Assumes nothing.
 use mathlib.Core.Bool.{not}
 use mathlib.Core.List.{List, _++_, map}
-use lib.IntN.{ℤ}
+use lib.IntN.{ℤ, pos}
 use mir.Syntax.{w32}
 use mir.Val.{toZ, ofZ}
 use mir.ValLaws.{toZ-ofZ}
-use Rattle.refusal.proofs.Tables.{front, front-next, front-end}
+use Rattle.sequence.specs.Inner.{front}
+use Rattle.sequence.proofs.Front.{front-start, front-next, front-map}
 use Rattle.sequence.proofs.UpTo.{length-upTo, getD-upTo}
 use Rattle.network.specs.Rows.{rowsOf, tapRowsOf, tapRowAt, noTap}
 use Rattle.network.specs.Coefficients.{coefficientOf}
@@ -20,15 +21,21 @@ use borrow.Author.Needs.{needs}
 use Rattle.network_check.proofs.fill.Statement.{statement}
 use Rattle.network_check.proofs.fill.Tie as tie
 
+-- the coefficient at each place
+abbrev at : List ℕ → ℕ → List ℕ → ℕ → ℕ → ℤ
+at rows n taps m j = coefficientOf (rowsOf rows n) (getD (tapRowsOf taps m) j noTap)
+
 abbrev Inv-loop : tie.InvT-loop
 Inv-loop rows n taps m buffer₀ j₀ buffer j =
-    (j ≤ m) × NoneBefore (tapRowAt taps) noTap (breaksTapRowRule (rowsOf rows n)) m j × (buffer ≡ front (coefficientOf (rowsOf rows n)) (tapRowsOf taps m) buffer₀ j)
+    (j ≤ m) × NoneBefore (tapRowAt taps) noTap (breaksTapRowRule (rowsOf rows n)) m j × (buffer ≡ front (at rows n taps m) buffer₀ j)
 
 abbrev μ-loop : tie.MeasureT-loop
 μ-loop rows n taps m buffer₀ j₀ buffer j = m - j
 
 loop-holds : tie.Need-loop-holds Inv-loop μ-loop
-loop-holds c = (search needs, refl, refl)
+loop-holds c =
+    let a = c .before .before .args in
+    (search needs, refl, sym (front-start (at (a .rows .now) (a .n) (a .taps .now) (a .m)) (a .buffer .now)))
 
 tap-product-requires : tie.Need-tap-product-requires Inv-loop μ-loop
 tap-product-requires c κs = search needs
@@ -79,8 +86,8 @@ loop-again c =
       search needs,
       scan-next (tapRowAt (a .taps .now)) noTap (breaksTapRowRule rows) (a .m) j (l .loop .inv .1) (t .loop-test .taken) (ap not (k .0)),
       ap (λ (b : List ℤ). set b j (toZ w32 (ofZ w32 y))) (l .loop .inv .2)
-          ∙ ap (λ (z : ℤ). set (front f (tapRowsOf (a .taps .now) (a .m)) (a .buffer .now) j) j z) (e ∙ g)
-          ∙ front-next f noTap (tapRowsOf (a .taps .now) (a .m)) (a .buffer .now) j (omega (arith, length-upTo (a .m) (tapRowAt (a .taps .now)))) (omega arith),
+          ∙ ap (λ (z : ℤ). set (front (at (a .rows .now) (a .n) (a .taps .now) (a .m)) (a .buffer .now) j) j z) (e ∙ g)
+          ∙ front-next (at (a .rows .now) (a .n) (a .taps .now) (a .m)) (a .buffer .now) j (pos 0) (omega arith),
     )
 
 returns-2 : tie.Need-returns-2 Inv-loop μ-loop
@@ -91,7 +98,7 @@ returns-2 c =
     let s = length-upTo (a .m) (tapRowAt (a .taps .now)) in (
       scan-end (tapRowAt (a .taps .now)) noTap (breaksTapRowRule rows) (a .m) (l .loop .j) (l .loop .inv .1) (c .loop-test .left),
       λ q.
-          l .loop .inv .2 ∙ front-end (coefficientOf rows) (tapRowsOf (a .taps .now) (a .m)) (a .buffer .now) (l .loop .j) (omega (arith, s)) (omega (arith, s))
+          l .loop .inv .2 ∙ front-map (coefficientOf rows) noTap (tapRowsOf (a .taps .now) (a .m)) (a .buffer .now) (l .loop .j) (omega (arith, s)) (omega (arith, s))
           ∙ ap (λ (k : ℕ). map (coefficientOf rows) (tapRowsOf (a .taps .now) (a .m)) ++ drop k (a .buffer .now)) s,
     )
 
