@@ -19,8 +19,8 @@ use Rattle.signed_digit.proofs.Reduction.{reduction}
 use Rattle.coefficient.specs.declared.Reduction.{Reduction}
 use Rattle.coefficient.specs.declared.Reduced.the-variants.{Split}
 use Rattle.coefficient.specs.Parts.{Parts, no-odd-part, parts, partsOf, partsIn}
-use Rattle.coefficient.proofs.TheReduction.{reduction-parts, answer-right}
-use Rattle.coefficient.proofs.PartsOf.{reduction-bounds}
+use Rattle.coefficient.proofs.PartsOf.{reduction-parts, reduction-bounds}
+use Rattle.coefficient.proofs.TheReduction.{answer-right}
 use Rattle.build_steps.specs.Answer.{noSuchForm}
 
 -- the odd part of a coefficient is below 2^31

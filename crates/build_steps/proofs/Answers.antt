@@ -1,9 +1,9 @@
 -- What building answers, case by case in the table's order, for an entry's proof; and what an answer that is given tells. Assumes nothing.
 use mathlib.Core.Path.{_≡_, refl, sym, ap, _∙_}
-use mathlib.Core.Bool.{Bool, true, false, _||_, true≢false}
+use mathlib.Core.Bool.{Bool, true, false, _||_}
 use mathlib.Core.List.{List, [], _∷_}
 use Prim.Native.Nat.{ℕ, zero, suc, _≤_, _<_}
-use native.Mathlib.Nat.{not-suc-le-zero, le-of-suc-le-suc}
+use native.Mathlib.Nat.{not-suc-le-zero, le-of-suc-le-suc, pos-of-ne-zero}
 use native.Mathlib.Omega.{arith}
 use borrow.Author.Tests.{eq-eqb, ne-eqb, lt-ltb, le-ltb, eqb-false, ltb-false}
 use lib.Dec.{eqb, ltb}
@@ -11,7 +11,7 @@ use lib.IntN.{ℤ, pos}
 use lib.ListN.{length, getD}
 use Rattle.word.specs.Bounds.{Coefficient}
 use Rattle.refusal.specs.Answer.{given, refused, refuseIf, refuseAt, Place, nowhere, at-place}
-use Rattle.refusal.proofs.Checks.{check-applies, check-passes, given-if, given-at, lowest-none-at}
+use Rattle.refusal.proofs.Checks.{given-same, neither, check-applies, check-passes, given-if, given-at, lowest-none-at}
 use Rattle.refusal.proofs.Lowest.{is-nowhere}
 use Rattle.coefficient.specs.Parts.{partsOf}
 use Rattle.network.specs.Rows.{Network, rowTable, tapTable}
@@ -96,17 +96,6 @@ module _ (cs : List ℤ) (ks rows taps : List ℕ) where
     pub forms : missingForm cs ks ≡ nowhere
     pub network : net ≡ built cs ks
 
-  neither : (a b : Bool) → (a || b) ≡ false → (a ≡ false) × (b ≡ false)
-  neither true b e = absurd (true≢false e)
-  neither false b e = (refl, e)
-
-  some : (n : ℕ) → (n ≡ 0 → ⊥) → 1 ≤ n
-  some zero f = absurd (f refl)
-  some (suc n) f = omega arith
-
-  same-network : (a b : Network) → given a ≡ given b → a ≡ b
-  same-network a b e = cc
-
   pub given-tells : (net : Network) → buildAnswer cs ks rows taps ≡ given net → Given net
   given-tells net e =
       let a = given-if (eqb (length cs) 0) 1 _ net (sym answer-is ∙ e) in
@@ -116,13 +105,13 @@ module _ (cs : List ℤ) (ks rows taps : List ℕ) where
       let s = neither (ltb (length ks) (length cs)) (shortTables rows taps) (c .0) in
       let t = neither (ltb (length rows) rowTable) (ltb (length taps) tapTable) (s .1) in
       record {
-        taps-from = some (length cs) (eqb-false (length cs) 0 (a .0));
+        taps-from = pos-of-ne-zero (eqb-false (length cs) 0 (a .0));
         taps-to = ltb-false 256 (length cs) (b .0);
         choices-long = ltb-false (length ks) (length cs) (s .0);
         rows-long = ltb-false (length rows) rowTable (t .0);
         taps-long = ltb-false (length taps) tapTable (t .1);
         forms = d .0;
-        network = same-network net (built cs ks) (sym (d .1));
+        network = given-same net (built cs ks) (sym (d .1));
       }
 
   -- "a lent table is under its length": none is

@@ -6,10 +6,9 @@ use mathlib.Core.List.{List, [], _∷_, _++_}
 use Prim.Native.Nat.{ℕ, _*_, _≤_, _<_}
 use native.Mathlib.Omega.{arith}
 use lib.IntN.{ℤ, pos}
-use lib.ListN.{length, getD, drop, length-append, length-drop}
+use lib.ListN.{length, getD, drop, length-append, length-drop, length-map}
 use Rattle.word.specs.Bounds.{Coefficient}
 use Rattle.refusal.specs.Answer.{Answer, given, refused, filled}
-use Rattle.refusal.proofs.Tables.{length-map}
 use Rattle.coefficient.specs.Parts.{partsOf}
 use Rattle.network.specs.declared.Row.{Row}
 use Rattle.network.specs.declared.TapRow.{TapRow}
@@ -38,7 +37,7 @@ network-of-words net more others = ap₂ together (items-of-words row-layout noR
 
 pub length-built-taps : (cs : List ℤ) (ks : List ℕ) → length (built cs ks .taps) ≡ length cs
 unfolding built
-length-built-taps cs ks = length-map (λ (n : ℤ). tapRowOf (builtRows cs ks) (partsOf n)) cs
+length-built-taps cs ks = length-map cs (λ (n : ℤ). tapRowOf (builtRows cs ks) (partsOf n))
 
 filled-length : (words old : List ℕ) → length words ≤ length old → length (words ++ drop (length words) old) ≡ length old
 filled-length words old l = omega (arith, length-append words (drop (length words) old), length-drop (length words) old)

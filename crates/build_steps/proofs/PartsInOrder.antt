@@ -11,8 +11,8 @@ use borrow.Author.Tests.{eqb-true, eqb-false}
 use lib.Dec.{eqb}
 use lib.IntN.{ℤ, pos}
 use lib.ListN.{length, getD}
-use Rattle.signed_digit.specs.Reduction.{Sign}
 use Rattle.coefficient.specs.Parts.{Parts, no-odd-part, parts, partsOf}
+use Rattle.coefficient.proofs.PartsOf.{no-parts, same-parts}
 use Rattle.build_steps.specs.Parts.{Part, comesBefore, insert, insertTap, takenFrom, partsToBuild}
 use Rattle.build_steps.specs.PartOrder.{Before, InOrder, HasOddPart, Earliest, PartsInOrder}
 use Rattle.build_steps.proofs.Order.{before-is, before-apart, before-trans, else-before}
@@ -91,15 +91,12 @@ record TapTaken (n : ℤ) (choice : ℕ) (taken rs : List Part) : Type 0 where
   only : (q : Part) → List·Memᴰ q rs → List·Memᴰ q taken ⊎ (HasOddPart n (q .value) × (choice ≡ q .choice) × Without taken (q .value))
   few : length rs ≤ suc (length taken)
 
-no-part : (s : Sign) (v t : ℕ) → no-odd-part ≡ parts s v t → ⊥
-no-part s v t e = let z : _≡_ {A = ℕ} 0 1 = cc in omega arith
-
 tap-taken : (n : ℤ) (choice : ℕ) (taken : List Part) (x : Parts) → InOrder taken → partsOf n ≡ x → TapTaken n choice taken (insertTap x choice taken)
 unfolding insertTap
 tap-taken n choice taken no-odd-part o e = record {
   ordered = o;
   old = λ q m. m;
-  new = λ v h. absurd (no-part (h .0) v (h .1) (sym e ∙ h .2));
+  new = λ v h. absurd (no-parts (h .0) v (h .1) (sym e ∙ h .2));
   only = λ q m. inl m;
   few = omega arith;
 }
@@ -109,14 +106,11 @@ tap-taken n choice taken (parts s u t) o e =
     record {
       ordered = r .ordered;
       old = r .old;
-      new = λ v h. (r .new .0, r .new .1, r .new .2 ∙ same s (h .0) u v t (h .1) (sym e ∙ h .2));
+      new = λ v h. (r .new .0, r .new .1, r .new .2 ∙ same-parts s (h .0) u v t (h .1) (sym e ∙ h .2) .1);
       only = λ q m. ⊎-elim (λ k. inl k) (λ k. inr (from q (k .0) (k .1))) (r .only q m);
       few = r .few;
     }
   where
-    same : (s s′ : Sign) (u v t t′ : ℕ) → parts s u t ≡ parts s′ v t′ → u ≡ v
-    same s s′ u v t t′ e = cc
-
     from : (q : Part) → q ≡ record { value = u; choice = choice } → Without taken u → HasOddPart n (q .value) × (choice ≡ q .choice) × Without taken (q .value)
     from q h f =
         let v-is : q .value ≡ u = ap (λ (y : Part). y .value) h in

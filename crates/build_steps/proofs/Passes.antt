@@ -6,9 +6,8 @@ use native.Mathlib.Omega.{arith}
 use borrow.Author.Tests.{not-false, ltb-true}
 use lib.Dec.{ltb}
 use lib.IntN.{ℤ, pos}
-use lib.ListN.{length, getD, List·getD-map}
+use lib.ListN.{length, getD, List·getD-map, length-map}
 use Rattle.refusal.specs.Answer.{given}
-use Rattle.refusal.proofs.Tables.{length-map}
 use Rattle.signed_digit.specs.Forms.{listing}
 use Rattle.coefficient.specs.Parts.{Parts, parts, partsOf}
 use Rattle.network.specs.declared.Row.{Row}
@@ -104,7 +103,7 @@ module _ (cs : List ℤ) (ks : List ℕ) (c : CanBuild cs ks) where
         rows-from = lawful-some (r .lawful);
         rows-to = omega (arith, r .few);
         rows = lawful-rule (r .lawful);
-        taps = λ j l. tap-rule j (omega (arith, length-map (λ (n : ℤ). tapRowOf (builtRows cs ks) (partsOf n)) cs));
+        taps = λ j l. tap-rule j (omega (arith, length-map cs (λ (n : ℤ). tapRowOf (builtRows cs ks) (partsOf n))));
         result = products (builtRows cs ks) cs (λ i l. tap-of cs ks c i l .product);
       }
     where

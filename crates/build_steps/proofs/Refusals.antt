@@ -3,20 +3,21 @@ use mathlib.Core.Path.{_≡_, sym, ap, _∙_}
 use mathlib.Core.Bool.{Bool, true, false, not, _||_}
 use mathlib.Core.List.{List}
 use Prim.Native.Nat.{ℕ, _≤_, _<_}
+use native.Mathlib.Nat.{pos-of-ne-zero}
 use native.Mathlib.Omega.{arith}
 use borrow.Author.Tests.{eqb-true, eqb-false, ltb-true, ltb-false, eq-eqb, lt-ltb, not-false}
 use lib.Dec.{eqb, ltb}
 use lib.IntN.{ℤ, pos}
 use lib.ListN.{length, getD}
 use Rattle.refusal.specs.Answer.{Answer, given, refused, at-place}
-use Rattle.refusal.proofs.Checks.{neither, either, refused-if, refused-at}
+use Rattle.refusal.proofs.Checks.{given-refused, neither, either, refused-if, refused-at}
 use Rattle.refusal.proofs.Lowest.{lowest-is}
 use Rattle.signed_digit.specs.Forms.{listing}
 use Rattle.coefficient.specs.Parts.{Parts, no-odd-part, parts, partsOf}
 use Rattle.network.specs.Rows.{Network, rowTable, tapTable}
 use Rattle.network.specs.Check.{shortTables}
 use Rattle.network.specs.Claims.{UnderLength, rows-short, taps-short, another-short, TablesFit}
-use Rattle.network.proofs.Refusals.{some, not-both}
+use Rattle.network.proofs.Refusals.{not-both}
 use Rattle.build_steps.specs.Answer.{Choice, choicesOf, noSuchForm, missingForm, buildAnswer, rowCount}
 use Rattle.build_steps.specs.CanBuild.{Listed}
 use Rattle.build_steps.specs.Claims.{LowestChoice, fewChoices, BuildRefusals, no-coefficients, too-many-coefficients, table-short, no-such-form}
@@ -58,16 +59,13 @@ module _ (cs : List ℤ) (ks rows taps : List ℕ) where
       record { taps-from = from; taps-to = to; rows-long = ltb-false _ _ (t .0); taps-long = ltb-false _ _ (t .1); others-long = s .0 }
 
   module _ (number place : ℕ) where
-    never : {A C : Type 0} (a : A) → given a ≡ refused number place → C
-    never a e = absurd (let z : _≡_ {A = ℕ} 0 1 = cc in omega arith)
-
     meant : buildAnswer cs ks rows taps ≡ refused number place → BuildRefusals cs ks rows taps number place
     unfolding buildAnswer
     meant e =
         refused-if (eqb (length cs) 0) 1 _ number place e
         (λ b q p. no-coefficients q p (eqb-true _ _ b))
         (λ b e.
-        let from = some (length cs) (eqb-false _ _ b) in
+        let from = pos-of-ne-zero (eqb-false _ _ b) in
         refused-if (ltb 256 (length cs)) 2 _ number place e
         (λ b q p. too-many-coefficients q p (ltb-true _ _ b))
         (λ b e.
@@ -78,7 +76,7 @@ module _ (cs : List ℤ) (ks rows taps : List ℕ) where
         let fits = tables-fit from to b in
         refused-at (missingForm cs ks) 9 _ number place e
         (λ w q. no-such-form q fits (lowest-choice place (ltb-false (length ks) (length cs) (fits .others-long)) w))
-        (λ w e. never _ e))))
+        (λ w e. given-refused _ number place e))))
 
     pub built-refusals : refused number place ≡ rowCount (buildAnswer cs ks rows taps) → BuildRefusals cs ks rows taps number place
     built-refusals e = meant (same (buildAnswer cs ks rows taps) e)

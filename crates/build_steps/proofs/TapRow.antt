@@ -22,7 +22,8 @@ use Rattle.build_steps.specs.RowSteps.{HasRow}
 use Rattle.build_steps.specs.PartOrder.{HasOddPart}
 use Rattle.build_steps.specs.Claims.{TapOf}
 use Rattle.build_steps.proofs.Lookup.{row-within, row-value}
-use Rattle.build_steps.proofs.Reduced.{Reduced, parts-reduced, zero-parts, positive-product, negative-product}
+use Rattle.coefficient.proofs.PartsOf.{zero-parts}
+use Rattle.build_steps.proofs.Reduced.{Reduced, parts-reduced, positive-product, negative-product}
 
 module _ (rows : List Row) (n : ℤ) (c : Coefficient n) where
   no-tap : partsOf n ≡ no-odd-part → TapOf rows n noTap

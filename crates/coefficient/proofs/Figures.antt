@@ -1,5 +1,6 @@
 -- The figures of specs/Figures.antt, proved. Assumes nothing.
 use mathlib.Core.Path.{refl, sym}
+use Prim.Native.Nat.{_^_, _-_}
 use Rattle.signed_digit.specs.Reduction.{positive, negative}
 use Rattle.coefficient.specs.Parts.{partsOf}
 use Rattle.coefficient.specs.Stretch.{firstFrom, endOf}
@@ -13,7 +14,7 @@ reduction-figures =
       zero = record { split = refl };
       minus-six = record { split = sym (product-parts negative 3 1 refl) };
       one-hundred-and-eighty = record { split = sym (product-parts positive 45 2 refl) };
-      greatest = record { split = sym (product-parts positive 2147483647 0 refl) };
+      greatest = record { split = sym (product-parts positive (2 ^ 31 - 1) 0 refl) };
       least = record { split = sym (product-parts negative 1 31 refl) };
     }
 

@@ -4,7 +4,6 @@ pub mod Figures
 -- What they and the functions' proofs rest on:
 pub mod TheReduction
 pub mod TheStretch
-pub mod LowZeros
 pub mod PartsOf
 pub mod Words
 pub mod Scans

@@ -1,30 +1,28 @@
 -- The sign, odd part and shift of any reduction of n are those that specs/Parts.antt defines. Assumes nothing.
-use mathlib.Core.Path.{_≡_, refl, ap, _∙_}
+use mathlib.Core.Path.{_≡_, refl, sym, ap, _∙_}
 use mathlib.Core.Bool.{false}
+use mathlib.Core.Logic.{_≢_}
 use Prim.Native.Nat.{ℕ, zero, suc, _*_, _^_, _≤_, _<_}
 use native.Mathlib.Nat.{one-mul}
 use native.Mathlib.Omega.{arith}
 use lib.Count.{trailingZeros}
 use lib.IntN.{ℤ, pos, negsuc, negℤ, natAbs, _*ℤ_}
 use lib.Pow.{shl-shr}
+use Rattle.word.proofs.LowZeros.{low-zeros, product-above, power-above, exponent-below}
+use Rattle.word.proofs.Multiples.{negative-times}
 use Rattle.signed_digit.specs.Reduction.{Sign, positive, negative, signValue, Reduction}
 use Rattle.signed_digit.proofs.Reduction.{zero-irreducible}
 use Rattle.coefficient.specs.Zero.{isZero}
-use Rattle.coefficient.specs.Parts.{parts, signOf, shiftOf, oddPartOf, partsOf}
-use Rattle.coefficient.proofs.LowZeros.{low-zeros, product-above, power-above, exponent-below}
+use Rattle.coefficient.specs.Parts.{no-odd-part, parts, signOf, shiftOf, oddPartOf, partsOf}
 
 -- ---- a sign and a magnitude
 abbrev signed : Sign → ℕ → ℤ
 signed positive m = pos m
 signed negative m = negℤ (pos m)
 
-minus-times : (m y : ℕ) → negℤ (pos m) *ℤ pos y ≡ negℤ (pos (m * y))
-minus-times zero y = let q : 0 * y ≡ 0 = omega arith in rw q
-minus-times (suc m) y = refl
-
 product-signed : (s : Sign) (x y : ℕ) → signValue s *ℤ pos x *ℤ pos y ≡ signed s (x * y)
 product-signed positive x y = ap (λ (z : ℕ). pos (z * y)) (one-mul x)
-product-signed negative x y = minus-times (1 * x) y ∙ ap (λ (z : ℕ). negℤ (pos (z * y))) (one-mul x)
+product-signed negative x y = negative-times (pos y) (pos (1 * x)) ∙ ap (λ (z : ℕ). negℤ (pos (z * y))) (one-mul x)
 
 signed-size : (s : Sign) (m : ℕ) → natAbs (signed s m) ≡ m
 signed-size positive m = refl
@@ -41,6 +39,24 @@ nonzero (pos zero) r = absurd (zero-irreducible r)
 nonzero (pos (suc m)) r = refl
 nonzero (negsuc m) r = refl
 
+-- ---- parts apart from each other
+pub no-parts : (s : Sign) (x i : ℕ) → no-odd-part ≡ parts s x i → ⊥
+no-parts s x i e = let z : _≡_ {A = ℕ} 0 1 = cc in omega arith
+
+pub same-parts : (s t : Sign) (x y i j : ℕ) → parts s x i ≡ parts t y j → (s ≡ t) × (x ≡ y) × (i ≡ j)
+same-parts s t x y i j e = (cc, cc, cc)
+
+-- zero alone has no odd part
+pub zero-parts : (n : ℤ) → partsOf n ≡ no-odd-part → n ≡ pos 0
+unfolding partsOf
+zero-parts (pos zero) e = refl
+zero-parts (pos (suc m)) e = absurd (no-parts (signOf (pos (suc m))) (oddPartOf (pos (suc m))) (shiftOf (pos (suc m))) (sym e))
+zero-parts (negsuc m) e = absurd (no-parts (signOf (negsuc m)) (oddPartOf (negsuc m)) (shiftOf (negsuc m)) (sym e))
+
+pub not-zero : (n : ℤ) (s : Sign) (x i : ℕ) → partsOf n ≡ parts s x i → n ≢ pos 0
+unfolding partsOf
+not-zero n s x i e z = no-parts s x i (sym (ap partsOf z) ∙ e)
+
 -- ---- the parts of a reduction
 module _ (n : ℤ) (r : Reduction n) where
   is-signed : n ≡ signed (r .sign) (r .oddPart * 2 ^ r .shift)
@@ -50,7 +66,7 @@ module _ (n : ℤ) (r : Reduction n) where
   size-is = ap natAbs is-signed ∙ signed-size (r .sign) (r .oddPart * 2 ^ r .shift)
 
   within-size : (r .oddPart ≤ natAbs n) × (2 ^ r .shift ≤ natAbs n)
-  within-size = rw size-is (product-above (r .oddPart) (r .shift) (r .odd))
+  within-size = rw size-is (product-above (r .oddPart) (r .shift) (omega (arith, r .odd)))
 
   shift-below : r .shift < natAbs n
   shift-below = omega (arith, within-size, power-above (r .shift))
@@ -75,4 +91,4 @@ module _ (n : ℤ) (r : Reduction n) where
 
   -- the greatest magnitude of a coefficient, 2^31, is even
   pub reduction-bounds : natAbs n ≤ 2 ^ 31 → (r .oddPart < 2 ^ 31) × (r .shift ≤ 31)
-  reduction-bounds h = (omega (arith, within-size, r .odd), omega (arith, exponent-below (r .shift) (omega (arith, within-size))))
+  reduction-bounds h = (omega (arith, within-size, r .odd), omega (arith, exponent-below (r .shift) 32 (omega (arith, within-size))))

@@ -16,7 +16,7 @@ use Rattle.signed_digit.specs.Weight.{weight}
 use Rattle.signed_digit.specs.Masks.{mask, plusBit, minusBit}
 use Rattle.signed_digit.specs.CanonicalForm.{opposite, canonicalNat}
 use Rattle.signed_digit.specs.Forms.{top, forms, listing}
-use Rattle.signed_digit.proofs.Strings.{small, opposite-bits}
+use Rattle.signed_digit.proofs.Strings.{small, opposite-bits, opposite-twice}
 use Rattle.signed_digit.proofs.Forms.{sound}
 use Rattle.signed_digit.proofs.Listing.{listing-forms, listing-is}
 use Rattle.form_links.specs.Inner.{shifted}
@@ -60,11 +60,6 @@ fronts-cast {needed} {e} {e′} {κ} {t} {t′} {A} {A′} {S} {S′} {O} {O′}
 
 opposite-nonzero : (s : Digit) → nonzero s ≡ 1 → nonzero (opposite s) ≡ 1
 opposite-nonzero s u = opposite-bits s .2 ∙ u
-
-opposite-twice : (s : Digit) → opposite (opposite s) ≡ s
-opposite-twice one = refl
-opposite-twice nought = refl
-opposite-twice minus-one = refl
 
 module _ (s : Digit) (v : nonzero s ≡ 1) (n m y : ℕ) (w : Passed n m y) (needed : Type 0) (first : ℕ) (t : List ℕ) (C : Column s w needed first t) (h : 1 ≤ y)
     (later : Type 0) where

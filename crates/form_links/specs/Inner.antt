@@ -1,5 +1,5 @@
--- How the minimal forms of a value hang together, and what copies within a mask table leave in it. Definitions of the algorithm's own: contracts of the
--- lister's inner functions cite them, and no statement of document 01 rests on them.
+-- How the minimal forms of a value hang together, and what copies within a mask table leave in it. Definitions of the algorithm's own:
+-- no statement of document 01 rests on them.
 use Prim.Native.Nat.{ℕ, _+_, _*_, _%_, _^_}
 use mathlib.Core.List.{List, [], _∷_, _++_, map}
 use lib.ListN.{take, drop}

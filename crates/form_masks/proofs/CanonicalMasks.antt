@@ -10,6 +10,7 @@ use Rattle.signed_digit.specs.String.{DigitString}
 use Rattle.signed_digit.specs.Masks.{minusBit, plusMask, minusMask}
 use Rattle.signed_digit.specs.CanonicalForm.{lowestDigit, canonicalNat}
 use Rattle.signed_digit.proofs.Strings.{small}
+use Rattle.signed_digit.proofs.Masks.{half-of, rest-of}
 use Rattle.signed_digit.proofs.CanonicalForm.{canonicalNat-worth, canonicalNat-places}
 
 -- ---- 3n + c xor n, by the lowest digit of n
@@ -19,17 +20,11 @@ tripled c n = bitXor (3 * n + c) n
 by-bits : (c n i j x y : ℕ) → i < 2 → j < 2 → 3 * n + c ≡ i + 2 * x → n ≡ j + 2 * y → tripled c n ≡ differ i j + 2 * bitXor x y
 by-bits c n i j x y h k e f = ap₂ bitXor e f ∙ xor-step (i + 2 * x) (j + 2 * y) ∙ ap₂ (λ (u v : ℕ). u * 2 + v) rest low ∙ swap (bitXor x y) (differ i j)
   where
-    half : (x i : ℕ) → i < 2 → (i + 2 * x) / 2 ≡ x
-    half x i h = omega arith
-
-    odd : (x i : ℕ) → i < 2 → (i + 2 * x) % 2 ≡ i
-    odd x i h = omega arith
-
     rest : bitXor ((i + 2 * x) / 2) ((j + 2 * y) / 2) ≡ bitXor x y
-    rest = ap₂ bitXor (half x i h) (half y j k)
+    rest = ap₂ bitXor (half-of x i h) (half-of y j k)
 
     low : differ ((i + 2 * x) % 2) ((j + 2 * y) % 2) ≡ differ i j
-    low = ap₂ differ (odd x i h) (odd y j k)
+    low = ap₂ differ (rest-of x i h) (rest-of y j k)
 
     swap : (u v : ℕ) → u * 2 + v ≡ v + 2 * u
     swap u v = omega arith

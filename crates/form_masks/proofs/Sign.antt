@@ -12,10 +12,6 @@ use Rattle.signed_digit.proofs.Strings.{negated-is}
 use Rattle.form_masks.specs.declared.Form.{Form}
 use Rattle.form_masks.specs.Form.{formOf}
 
-pub negative : (n : ℤ) → ltZ n (pos 0) ≡ true → (k : ℕ) × (n ≡ negsuc k)
-negative (pos k) h = absurd (omega (arith, ltb-true k 0 h))
-negative (negsuc k) h = (k, refl)
-
 pub not-negative : (n : ℤ) → ltZ n (pos 0) ≡ false → n ≡ pos (natAbs n)
 not-negative (pos k) h = refl
 not-negative (negsuc k) h = absurd (subst T h tt)

@@ -2,7 +2,7 @@
 pub mod bytes;
 
 ghost use mathlib.Core.Path.{_≡_};
-ghost use Prim.Native.Nat.{_≤_, _<_};
+ghost use Prim.Native.Nat.{_≤_, _<_, _^_};
 ghost use lib.Count as Count;
 ghost use Rattle.refusal.specs.Answer.{at-place};
 ghost use Rattle.signed_digit.specs.CanonicalForm.{canonicalNat};
@@ -40,10 +40,10 @@ fn wide(x: u8) -> u32
 pub fn ones(x: u32) -> u32
     ensures { λ r. ⌜ r ≡ Count.ones x ⌝ }
 {
-    let a = wide(bytes::byte_ones((x % 256) as u8));
-    let b = wide(bytes::byte_ones((x / 256 % 256) as u8));
-    let c = wide(bytes::byte_ones((x / 65536 % 256) as u8));
-    let d = wide(bytes::byte_ones((x / 16777216) as u8));
+    let a = wide(bytes::byte_ones((x % 0x100) as u8));
+    let b = wide(bytes::byte_ones((x / 0x100 % 0x100) as u8));
+    let c = wide(bytes::byte_ones((x / 0x1_0000 % 0x100) as u8));
+    let d = wide(bytes::byte_ones((x / 0x100_0000) as u8));
     a + b + c + d
 }
 
@@ -86,7 +86,7 @@ pub fn weight(form: Form) -> FormWeight
 // The canonical form of m: its nonzero digits stand one place below the ones of 3m xor m, and its
 // masks differ by m.
 fn canonical_of(m: u64) -> Form
-    requires { ⌜ m ≤ 2147483648 ⌝ }
+    requires { ⌜ m ≤ 2 ^ 31 ⌝ }
     ensures { λ r. ⌜ r ≡ formOf (canonicalNat 32 m) ⌝ }
 {
     let nonzero = ((3 * m) ^ m) / 2;

@@ -1,4 +1,3 @@
-pub mod TrailingZeros
 pub mod Stands
 pub mod Parts
 pub mod Counted

@@ -12,6 +12,7 @@ use lib.Count.{trailingZeros}
 use lib.Dec.{eqb}
 use lib.ListN.{length}
 use lib.Pow.{pow-mono, pow-add, shl-shr}
+use Rattle.word.proofs.LowZeros.{product-above, zeros-are}
 use Rattle.signed_digit.specs.Digit.{Digit, one, nought, minus-one, nonzero}
 use Rattle.signed_digit.specs.CanonicalForm.{lowestDigit, canonicalNat}
 use Rattle.signed_digit.proofs.CanonicalForm.{canonicalNat-places}
@@ -22,7 +23,6 @@ use Rattle.form_links.proofs.Needed.{Sided, needed, needed-nought, needed-digit
 use Rattle.form_links.proofs.Found.{linksAt, opposedAt, takes-nought, links-first, links-digit, links-start, past-bit, Found, Ended, find}
 use Rattle.form_walk.specs.declared.Walk.{Walk}
 use Rattle.form_walk.specs.Inner.{startOf, skipOf, nextOf}
-use Rattle.form_walk.proofs.TrailingZeros.{factors, zeros-are}
 
 -- the walk w stands at the spot s, d being the digit two places below
 pub record Stands (d : Digit) (s : Spot) (w : Walk) : Type 0 where
@@ -126,7 +126,7 @@ module _ (m : ℕ) (G : Digit → Spot → Type 0) (on : (d : Digit) (s : Spot) 
       is-opposite = A .stands .opposite ∙ f .opposites
 
       zeros : trailingZeros 64 (w .links) ≡ f .z
-      zeros = zeros-are 64 (f .z) (linksAt (f .last) (f .spot)) (w .links) (odd-links (f .last) (f .spot) (f .is-taken)) is-links (omega (arith, small))
+      zeros = zeros-are 64 (w .links) (omega (arith, small)) (linksAt (f .last) (f .spot)) (f .z) (odd-links (f .last) (f .spot) (f .is-taken)) is-links
 
       beside : (z : ℕ) → z ≡ f .z → cond (eqb z 0) (w .moved) (w .forms) ≡ f .spot .above + f .spot .below
       beside zero e =
@@ -165,7 +165,7 @@ module _ (m : ℕ) (G : Digit → Spot → Type 0) (on : (d : Digit) (s : Spot) 
     at-link h v e = ⊎-elim (λ f. skipped f v e) (λ n. absurd (h (A .stands .links ∙ n .none))) way
 
     pub at-end : w .links ≡ 0 → AtEnd w
-    at-end z = ⊎-elim (λ f. absurd (omega (arith, is-links f, factors (linksAt (f .last) (f .spot)) (f .z) (omega (arith, odd-links (f .last) (f .spot) (f .is-taken))))))
+    at-end z = ⊎-elim (λ f. absurd (omega (arith, is-links f, product-above (linksAt (f .last) (f .spot)) (f .z) (omega (arith, odd-links (f .last) (f .spot) (f .is-taken))))))
         (λ n. record { last = n .last; spot = n .spot; known = n .known; none-left = n .rest; forms = A .stands .forms ∙ sym (n .forms) }) way
 
   -- ---- at a link: which digit comes next, and where the walk stands past it
@@ -182,9 +182,6 @@ module _ (m : ℕ) (G : Digit → Spot → Type 0) (on : (d : Digit) (s : Spot) 
         go : (y : ℕ) → A .spot .rest ≡ y → 1 ≤ A .spot .rest
         go zero e = absurd (omega (arith, A .is-taken, needed-end (A .last) (A .spot) e))
         go (suc y) e = omega arith
-
-    pub odd : w .links % 2 ≡ 1
-    odd = omega (arith, A .stands .links, odd-links (A .last) (A .spot) (A .is-taken))
 
     pub next-fits : (w .forms ≤ 2 ^ 34) × (w .moved ≤ 2 ^ 34) × (w .bit ≤ 2 ^ 33)
     next-fits =

@@ -1,11 +1,10 @@
-// The walk over the links of a coefficient. All functions here are internal: they serve the crate
-// `form_listing`.
+// The walk over the links of a coefficient.
 ghost use mathlib.Core.Path.{_≡_};
 ghost use mathlib.Core.Logic.{_≢_};
-ghost use mathlib.Core.Bool.{cond};
 ghost use Prim.Native.Nat.{_*_, _≤_, _<_, _^_};
 ghost use Rattle.form_walk.specs.Inner.{aheadOf, IsTaken, IsStart, skipOf, nextOf};
 use form_masks::Form;
+use word::choose_index;
 
 // Two canonical digits that stand two places apart are linked. A form takes a link by moving its
 // upper digit one place down and turning the sign of its lower digit, as 1 0 -1 becomes 0 1 1. A
@@ -68,12 +67,6 @@ pub fn start(form: Form) -> Walk
     }
 }
 
-fn choose(first: bool, a: usize, b: usize) -> usize
-    ensures { λ r. ⌜ r ≡ cond first a b ⌝ }
-{
-    if first { a } else { b }
-}
-
 // Up to the next link. Where it does not touch the last one, nothing binds it.
 pub fn skip(w: Walk) -> Walk
     requires { ⌜ (w .links ≢ 0) × (w .links ≤ 2 ^ 35) × (w .bit * w .links ≤ 2 ^ 35) ⌝ }
@@ -85,11 +78,11 @@ pub fn skip(w: Walk) -> Walk
         opposite: w.opposite >> places,
         bit: w.bit << places,
         forms: w.forms,
-        moved: choose(places == 0, w.moved, w.forms),
+        moved: choose_index(places == 0, w.moved, w.forms),
     }
 }
 
-// Past the next link. Nobody can guess its kind, so that chooses among numbers and not among branches.
+// Past the next link. Its kind is not to be guessed, so numbers are chosen and no branch is taken.
 pub fn next(w: Walk) -> Walk
     requires { ⌜ (w .forms ≤ 2 ^ 34) × (w .moved ≤ 2 ^ 34) × (w .bit ≤ 2 ^ 33) ⌝ }
     ensures { λ r. ⌜ r ≡ nextOf w ⌝ }
@@ -100,7 +93,7 @@ pub fn next(w: Walk) -> Walk
         links: w.links / 4,
         opposite: w.opposite / 4,
         bit: w.bit * 4,
-        forms: choose(opposite, both, w.forms),
-        moved: choose(opposite, w.forms, both),
+        forms: choose_index(opposite, both, w.forms),
+        moved: choose_index(opposite, w.forms, both),
     }
 }

@@ -10,6 +10,7 @@ use lib.Dec.{ltb}
 use lib.IntN.{ℤ, pos, _*ℤ_, zero-*ℤ}
 use lib.ListN.{length, getD, length-append, List·getD-append}
 use lib.Seq.{getD-at}
+use Rattle.word.proofs.Multiples.{one-times}
 use Rattle.network.specs.declared.Row.{Row}
 use Rattle.network.specs.declared.TapRow.{TapRow}
 use Rattle.network.specs.Rows.{Network, rowIn, tapRowIn}
@@ -17,7 +18,7 @@ use Rattle.network.specs.RowRule.{RowRule, combined, lifted}
 use Rattle.network.specs.Coefficients.{withSign, coefficientOf}
 use Rattle.network.specs.TapRowRule.{TapRowRule, is-empty, is-product}
 use Rattle.network.specs.Evaluation.{shiftedUp, rowGives, rowResults, tapGives, tapResults}
-use Rattle.network.proofs.Multiples.{one-times, combined-times, signed-times, shifted-times}
+use Rattle.network.proofs.Multiples.{combined-times, signed-times, shifted-times}
 use Rattle.network.specs.Accepted.{KeepsRules}
 
 length-results : (rows : List Row) (x : ℤ) (n : ℕ) → length (rowResults rows x n) ≡ n

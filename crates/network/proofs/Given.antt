@@ -6,13 +6,12 @@ use mathlib.Core.List.{List}
 use Prim.Native.Nat.{ℕ, _<_}
 use native.Mathlib.Omega.{arith}
 use lib.IntN.{ℤ, pos}
-use lib.ListN.{length, getD, List·getD-map}
+use lib.ListN.{length, getD, List·getD-map, length-map}
 use mir.Syntax.{w32}
 use mir.Val.{SFits}
 use Rattle.word.specs.Bounds.{Coefficient}
 use Rattle.word.proofs.Bounds.{coefficient-i32}
 use Rattle.refusal.specs.Answer.{given}
-use Rattle.refusal.proofs.Tables.{length-map}
 use Rattle.sequence.proofs.UpTo.{length-upTo}
 use Rattle.network.specs.declared.Row.{Row}
 use Rattle.network.specs.declared.TapRow.{TapRow}
@@ -24,7 +23,7 @@ use Rattle.network.specs.Accepted.{KeepsRules}
 use Rattle.network.proofs.Passed.{given-accepted}
 
 pub length-coefficients : (rows : List ℕ) (n : ℕ) (taps : List ℕ) (m : ℕ) → length (coefficients (networkOf rows n taps m)) ≡ m
-length-coefficients rows n taps m = length-map (coefficientOf (rowsOf rows n)) (tapRowsOf taps m) ∙ length-upTo m (tapRowAt taps)
+length-coefficients rows n taps m = length-map (tapRowsOf taps m) (coefficientOf (rowsOf rows n)) ∙ length-upTo m (tapRowAt taps)
 
 -- ---- the coefficient of each tap is within bounds
 

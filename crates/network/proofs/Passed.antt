@@ -1,16 +1,18 @@
 -- Checks and rules: `checked-passed` and `passed-checked` of the checks 10 and 11, `given-accepted` and `accepted-given` of all checks of an entry.
 -- Assumes nothing.
 use mathlib.Core.Path.{_≡_, refl, sym, ap, _∙_}
-use mathlib.Core.Bool.{Bool, true, false, not, cond, _||_, true≢false}
-use mathlib.Core.List.{List, [], _∷_}
-use Prim.Native.Nat.{ℕ, zero, suc, _≤_, _<_, zero-le, suc-le-suc}
+use mathlib.Core.Bool.{Bool, true, false, not, _||_}
+use mathlib.Core.List.{List}
+use Prim.Native.Nat.{ℕ, _≤_, _<_}
+use native.Mathlib.Nat.{pos-of-ne-zero}
 use native.Mathlib.Omega.{arith}
 use borrow.Author.Tests.{ltb-false, eqb-false, le-ltb, ne-eqb, not-false}
 use lib.Dec.{eqb, ltb}
 use lib.IntN.{ℤ}
 use lib.ListN.{length, getD}
-use Rattle.refusal.specs.Answer.{given, refuseIf, refuseAt, Place, nowhere, at-place, lowestFrom, lowest}
-use Rattle.refusal.proofs.Checks.{check-passes, given-if, given-at, lowest-none-at}
+use Rattle.refusal.specs.Answer.{given, refuseIf, refuseAt, Place, lowest}
+use Rattle.refusal.proofs.Lowest.{is-nowhere}
+use Rattle.refusal.proofs.Checks.{given-same, neither, check-passes, given-if, given-at, lowest-none-at}
 use Rattle.sequence.proofs.UpTo.{length-upTo, getD-upTo}
 use Rattle.network.specs.Rows.{Network, networkOf, tapRowIn, noTap, rowTable, tapTable}
 use Rattle.network.specs.RowRule.{keepsRowRule}
@@ -32,24 +34,6 @@ checked-is : (net : Network) → checked net ≡ refuseIf (eqb (length (net .row
 unfolding checked
 checked-is net = refl
 
-neither : (a b : Bool) → (a || b) ≡ false → (a ≡ false) × (b ≡ false)
-neither true b e = absurd (true≢false e)
-neither false b e = (refl, e)
-
--- a rule that no element breaks
-all-keep : {A : Type 0} (a : A) (breaks : A → Bool) (k : ℕ) (xs : List A) → ((i : ℕ) → i < length xs → breaks (getD xs i a) ≡ false) → lowestFrom k breaks xs ≡ nowhere
-unfolding lowestFrom
-all-keep a breaks k [] f = refl
-all-keep a breaks k (x ∷ xs) f =
-    ap (λ (b : Bool). cond b (at-place k) (lowestFrom (suc k) breaks xs)) (f 0 (suc-le-suc zero-le)) ∙ all-keep a breaks (suc k) xs (λ i l. f (suc i) (suc-le-suc l))
-
-same-result : (a b : List ℤ) → given a ≡ given b → a ≡ b
-same-result a b e = cc
-
-some : (n : ℕ) → (n ≡ 0 → ⊥) → 1 ≤ n
-some zero f = absurd (f refl)
-some (suc n) f = suc-le-suc zero-le
-
 above : (n : ℕ) → 1 ≤ n → n ≡ 0 → ⊥
 above n l e = omega arith
 
@@ -64,11 +48,11 @@ checked-passed net h e =
     let kept : (i : ℕ) → i < n → keepsRowRule rs i ≡ true =
     λ i l. not-false (keepsRowRule rs i) (ap (breaksRowRule rs) (sym (number-at n i l)) ∙ lowest-none-at 0 (breaksRowRule rs) 0 (numbers n) i (r .0) (omega (arith, length-numbers n))) in
     record {
-      rows-from = some n (eqb-false n 0 (w .0));
+      rows-from = pos-of-ne-zero (eqb-false n 0 (w .0));
       rows-to = ltb-false 4096 n (w .1);
       rows = λ i l. row-rule rs i (kept i l);
       taps = λ j l. tap-rule rs (tapRowIn (net .taps) j) (not-false _ (lowest-none-at noTap (breaksTapRowRule rs) 0 (net .taps) j (t .0) l));
-      result = sym (same-result (coefficients net) h (t .1));
+      result = sym (given-same (coefficients net) h (t .1));
     }
 
 pub passed-checked : (net : Network) (h : List ℤ) → KeepsRules net h → checked net ≡ given h
@@ -78,9 +62,9 @@ passed-checked net h p =
     checked-is net
     ∙ check-passes (eqb n 0 || ltb 4096 n) 10 _ (rw (ne-eqb n 0 (above n (p .rows-from)), le-ltb 4096 n (p .rows-to)))
     ∙ ap (λ (w : Place). refuseAt w 10 (refuseAt (lowest (breaksTapRowRule rs) (net .taps)) 11 (given (coefficients net))))
-    (all-keep 0 (breaksRowRule rs) 0 (numbers n) (λ i l. row-at i (omega (arith, length-numbers n))))
+    (is-nowhere 0 (breaksRowRule rs) (numbers n) 0 (λ i l. row-at i (omega (arith, length-numbers n))))
     ∙ ap (λ (w : Place). refuseAt w 11 (given (coefficients net)))
-    (all-keep noTap (breaksTapRowRule rs) 0 (net .taps) (λ j l. ap not (tap-kept rs (tapRowIn (net .taps) j) (p .taps j l))))
+    (is-nowhere noTap (breaksTapRowRule rs) (net .taps) 0 (λ j l. ap not (tap-kept rs (tapRowIn (net .taps) j) (p .taps j l))))
     ∙ ap given (sym (p .result))
   where
     row-at : (i : ℕ) → i < length (net .rows) → breaksRowRule (net .rows) (getD (numbers (length (net .rows))) i 0) ≡ false
@@ -100,7 +84,7 @@ module _ (short : Bool) (rows : List ℕ) (rowCount : ℕ) (taps : List ℕ) (ta
       let s = neither (shortTables rows taps) short (c .0) in
       let t = neither (ltb (length rows) rowTable) (ltb (length taps) tapTable) (s .0) in
       record {
-        taps-from = some tapCount (eqb-false tapCount 0 (a .0));
+        taps-from = pos-of-ne-zero (eqb-false tapCount 0 (a .0));
         taps-to = ltb-false 256 tapCount (b .0);
         rows-long = ltb-false (length rows) rowTable (t .0);
         taps-long = ltb-false (length taps) tapTable (t .1);

@@ -2,14 +2,15 @@
 use mathlib.Core.Path.{_≡_, refl, sym, ap, _∙_}
 use mathlib.Core.Bool.{Bool, true, false, _||_, true≢false}
 use mathlib.Core.List.{List}
-use Prim.Native.Nat.{ℕ, zero, suc, _≤_, _<_, zero-le, suc-le-suc}
+use Prim.Native.Nat.{ℕ, _≤_, _<_}
+use native.Mathlib.Nat.{pos-of-ne-zero}
 use native.Mathlib.Omega.{arith}
 use borrow.Author.Tests.{ltb-true, ltb-false, eqb-true, eqb-false, not-true, not-false}
 use lib.Dec.{eqb, ltb}
 use lib.IntN.{ℤ}
 use lib.ListN.{length, getD}
 use Rattle.refusal.specs.Answer.{Answer, given, refused, nowhere, at-place, lowest}
-use Rattle.refusal.proofs.Checks.{neither, either, refused-if, refused-at, lowest-none-at}
+use Rattle.refusal.proofs.Checks.{given-refused, neither, either, refused-if, refused-at, lowest-none-at}
 use Rattle.refusal.proofs.Lowest.{lowest-is}
 use Rattle.sequence.proofs.UpTo.{length-upTo, getD-upTo}
 use Rattle.network.specs.Rows.{Network, networkOf, rowAt, tapRowIn, noTap, rowTable, tapTable}
@@ -17,10 +18,6 @@ use Rattle.network.specs.RowRule.{RowRule}
 use Rattle.network.specs.Check.{breaksRowRule, breaksTapRowRule, numbers, checked, shortTables, networkAnswer, outcome}
 use Rattle.network.specs.Claims.{UnderLength, rows-short, taps-short, another-short, TablesFit, LowestRow, LowestTapRow, NetworkRefusals, no-taps, too-many-taps, short-table, no-rows, too-many-rows, row-broken, tap-row-broken}
 use Rattle.network.proofs.Rules.{row-rule, row-kept, tap-rule, tap-kept}
-
-pub some : (n : ℕ) → (n ≡ 0 → ⊥) → 1 ≤ n
-some zero f = absurd (f refl)
-some (suc n) f = suc-le-suc zero-le
 
 pub not-both : (b : Bool) → b ≡ true → b ≡ false → ⊥
 not-both b p q = true≢false (sym p ∙ q)
@@ -84,9 +81,6 @@ module _ (short : Bool) (rows : List ℕ) (n : ℕ) (taps : List ℕ) (m number 
   rows-are : length (net .rows) ≡ n
   rows-are = length-upTo n (rowAt rows)
 
-  never : {C : Type 0} {A : Type 0} (a : A) → given a ≡ refused number place → C
-  never a e = absurd (let z : _≡_ {A = ℕ} 0 1 = cc in omega arith)
-
   -- the checks of the network
   of-network : TablesFit short rows taps m → checked net ≡ refused number place → Meant
   unfolding checked
@@ -95,11 +89,11 @@ module _ (short : Bool) (rows : List ℕ) (n : ℕ) (taps : List ℕ) (m number 
       (λ b q p. either _ _ b (λ c. no-rows q p fits (sym rows-are ∙ eqb-true _ _ c)) (λ c. too-many-rows q p fits (omega (arith, ltb-true 4096 (length (net .rows)) c, rows-are))))
       (λ b e.
       let c = neither (eqb (length (net .rows)) 0) (ltb 4096 (length (net .rows))) b in
-      let from = some (length (net .rows)) (eqb-false _ _ (c .0)) in
+      let from = pos-of-ne-zero (eqb-false _ _ (c .0)) in
       let to = ltb-false _ _ (c .1) in
       refused-at _ 10 _ number place e
       (λ w q. row-broken q fits (lowest-row net from to place w))
-      (λ w e. refused-at _ 11 _ number place e (λ v q. tap-row-broken q fits (lowest-tap net from to place w v)) (λ v e. never _ e)))
+      (λ w e. refused-at _ 11 _ number place e (λ v q. tap-row-broken q fits (lowest-tap net from to place w v)) (λ v e. given-refused _ number place e)))
 
   pub network-refusals : networkAnswer short rows n taps m ≡ refused number place → Meant
   unfolding networkAnswer
@@ -107,7 +101,7 @@ module _ (short : Bool) (rows : List ℕ) (n : ℕ) (taps : List ℕ) (m number 
       refused-if (eqb m 0) 1 _ number place e
       (λ b q p. no-taps q p (eqb-true _ _ b))
       (λ b e.
-      let from = some m (eqb-false _ _ b) in
+      let from = pos-of-ne-zero (eqb-false _ _ b) in
       refused-if (ltb 256 m) 2 _ number place e
       (λ b q p. too-many-taps q p (ltb-true _ _ b))
       (λ b e.

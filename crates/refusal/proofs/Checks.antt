@@ -1,4 +1,4 @@
--- Laws on the checks of specs/Answer.antt, for the proofs of the crates above. Assumes nothing.
+-- Laws on the checks of specs/Answer.antt. Assumes nothing.
 use mathlib.Core.Path.{_≡_, refl, sym, ap, _∙_}
 use mathlib.Core.Bool.{Bool, true, false, cond, _||_, true≢false, false≢true}
 use mathlib.Core.List.{List, [], _∷_}
@@ -12,6 +12,13 @@ use Rattle.refusal.specs.Answer.{Answer, given, refused, refuseIf, refus
 
 no-one : _≡_ {A = ℕ} 0 1 → ⊥
 no-one z = omega arith
+
+-- an answer that is given has one result, and is no refusal
+pub given-same : {A : Type 0} (a b : A) → given a ≡ given b → a ≡ b
+given-same a b e = cc
+
+pub given-refused : {A C : Type 0} (a : A) (number place : ℕ) → given a ≡ refused number place → C
+given-refused a number place e = let z : _≡_ {A = ℕ} 0 1 = cc in absurd (no-one z)
 
 -- two tests of one check: neither applies
 pub neither : (a b : Bool) → (a || b) ≡ false → (a ≡ false) × (b ≡ false)

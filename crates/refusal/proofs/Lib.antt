@@ -1,6 +1,5 @@
 -- What specs/Claims.antt states:
 pub mod Claims
--- What the proofs of the crates above may cite:
+-- Laws on checks and places:
 pub mod Lowest
 pub mod Checks
-pub mod Tables

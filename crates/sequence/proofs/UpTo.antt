@@ -1,13 +1,13 @@
--- The length and the elements of a list given place by place.
+-- The length and the elements of a list given place by place. Assumes nothing.
 use mathlib.Core.Path.{_≡_, refl, sym, ap, _∙_}
 use mathlib.Core.Bool.{Bool, true, false}
-use mathlib.Core.List.{List, [], _∷_, _++_}
+use mathlib.Core.List.{List, [], _∷_, _++_, map}
 use Prim.Native.Nat.{ℕ, zero, suc, _<_, _≤_}
 use native.Mathlib.Omega.{arith}
 use borrow.Author.Tests.{ltb-true, ltb-false}
 use lib.Dec.{ltb}
-use lib.ListN.{length, getD, take, length-append, List·getD-append}
-use lib.Seq.{getD-at, take-suc}
+use lib.ListN.{length, getD, take, length-append, length-map, List·getD-append, List·getD-map}
+use lib.Seq.{getD-at, take-suc, ext-getD}
 use Rattle.sequence.specs.UpTo.{upTo}
 
 module _ {ℓ} {A : Type ℓ} where
@@ -35,3 +35,16 @@ module _ {ℓ} {A : Type ℓ} where
   unfolding upTo
   upTo-take s d zero h = refl
   upTo-take s d (suc n) h = ap (λ r. r ++ (getD s n d ∷ [])) (upTo-take s d n (omega arith)) ∙ sym (take-suc s n d h)
+
+-- two lists that agree at each place
+pub upTo-same : {A : Type 0} (f g : ℕ → A) (n : ℕ) → ((i : ℕ) → i < n → f i ≡ g i) → upTo n f ≡ upTo n g
+unfolding upTo
+upTo-same f g zero h = refl
+upTo-same f g (suc n) h = rw (upTo-same f g n (λ i l. h i (omega arith)), h n (omega arith))
+
+-- f of each element of a list, place by place
+pub upTo-map : {A B : Type 0} (f : A → B) (s : List A) (d : A) → upTo (length s) (λ k. f (getD s k d)) ≡ map f s
+upTo-map f s d =
+    let n : length (upTo (length s) (λ k. f (getD s k d))) ≡ length s = length-upTo (length s) _ in
+    ext-getD (f d) (upTo (length s) (λ k. f (getD s k d))) (map f s) (n ∙ sym (length-map s f))
+    (λ k h. getD-upTo (length s) (λ k. f (getD s k d)) (f d) k (omega (arith, n)) ∙ sym (List·getD-map f s k d))

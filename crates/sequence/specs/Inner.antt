@@ -1,4 +1,4 @@
--- For the contracts of inner functions that fill a table place by place. Definitions only.
+-- A table that is filled from the front, place by place. Definitions only.
 use mathlib.Core.List.{List, _++_}
 use Prim.Native.Nat.{ℕ}
 use lib.ListN.{drop}

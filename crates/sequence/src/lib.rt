@@ -5,8 +5,7 @@ ghost use mathlib.Core.List.{_++_};
 ghost use Prim.Native.Nat.{_≤_};
 ghost use lib.ListN.{length, take, drop};
 
-// The first n elements, from one table to the other. Internal: for the crates above, which have
-// tested the lengths.
+// The first n elements, from one table to the other.
 pub fn copy(from: &[i32], n: usize, to: &mut [i32])
     requires { ⌜ (n ≤ length (now from)) × (n ≤ length (now to)) ⌝ }
     ensures { λ r. ⌜ now (to .exit) ≡ take n (now (from .entry)) ++ drop n (now (to .entry)) ⌝ }

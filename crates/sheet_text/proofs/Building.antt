@@ -10,6 +10,7 @@ use lib.Dec.{T, eqb}
 use lib.IntN.{ℤ, pos}
 use lib.ListN.{length, getD, replicate, length-replicate, getD-replicate}
 use Rattle.refusal.specs.Answer.{given, refused, filled}
+use Rattle.refusal.proofs.Checks.{given-same, given-refused}
 use Rattle.sequence.proofs.UpTo.{getD-upTo}
 use Rattle.word.proofs.Bounds.{coefficient-i32}
 use Rattle.coefficient.specs.Parts.{partsOf}
@@ -118,15 +119,12 @@ module _ (cs : List ℤ) (h : Coefficients cs) where
       pub network : networkOf rows′ n taps′ (length cs) ≡ net
       pub ready : NetworkIn rows′ n taps′ cs
 
-    same-count : (a b : ℕ) → given a ≡ given b → a ≡ b
-    same-count a b e = cc
-
     pub printable : (n : ℕ) (rows′ taps′ : List ℕ) → given n ≡ rowCount (buildAnswer cs choices rows taps)
         → rows′ ≡ filled (buildAnswer cs choices rows taps) (wordsOfRows (built cs choices .rows)) rows
         → taps′ ≡ filled (buildAnswer cs choices rows taps) (wordsOfTapRows (built cs choices .taps)) taps → Printable n rows′ taps′
     unfolding built
     printable n rows′ taps′ e f g =
-        let c = same-count n (length (net .rows)) (e ∙ ap rowCount build-given) in
+        let c = given-same n (length (net .rows)) (e ∙ ap rowCount build-given) in
         let w : networkOf rows′ n taps′ (length cs) ≡ net = ap (λ (k : ℕ). networkOf rows′ k taps′ (length cs)) c
         ∙ ap (λ (x : List ℕ). networkOf x (length (net .rows)) taps′ (length cs)) f
         ∙ ap (λ (x : List ℕ). networkOf (filled (buildAnswer cs choices rows taps) (wordsOfRows (net .rows)) rows) (length (net .rows)) x (length cs)) g
@@ -136,8 +134,5 @@ module _ (cs : List ℤ) (h : Coefficients cs) where
           ready = holds n rows′ taps′ c w (ap length f ∙ length-rows-left cs choices rows taps net build-given (h .bounds)) (ap length g ∙ length-taps-left cs choices rows taps net build-given (h .bounds));
         }
 
-    none-refused : (a : ℕ) (x y : ℕ) → refused x y ≡ given a → ⊥
-    none-refused a x y e = let z : _≡_ {A = ℕ} 0 1 = cc in omega arith
-
     pub never-refused : (x y : ℕ) → refused x y ≡ rowCount (buildAnswer cs choices rows taps) → ⊥
-    never-refused x y e = none-refused (length (net .rows)) x y (e ∙ ap rowCount build-given)
+    never-refused x y e = given-refused (length (net .rows)) x y (sym (e ∙ ap rowCount build-given))

@@ -5,11 +5,10 @@ use mathlib.Core.List.{List, _++_}
 use Prim.Native.Nat.{ℕ, _+_, _≤_}
 use native.Mathlib.Omega.{arith}
 use lib.Ieee.{Float}
-use lib.ListN.{length, take, drop}
+use lib.ListN.{length, take, drop, length-map}
 use lib.Seq.{sets-eq, length-sets, length-take-le, take-at}
 use lib.IntN.{ℤ}
 use Rattle.refusal.specs.Answer.{Answer, given, refused, filled}
-use Rattle.refusal.proofs.Tables.{length-map}
 use Rattle.sequence.specs.UpTo.{upTo}
 use Rattle.sequence.specs.Inner.{front}
 use Rattle.sequence.proofs.UpTo.{length-upTo}
@@ -77,4 +76,4 @@ pub coefficients-held : (F n : ℕ) (xs taps : List Float) (old new : List ℤ) 
     → take n new ≡ coefficientsOf F taps
 coefficients-held F n xs taps old new a r e g w l =
     ap (take n) (e ∙ ap (λ (b : Answer Report). filled b (coefficientsOf F xs) old) g ∙ ap (λ (x : List Float). coefficientsOf F x ++ drop (length (coefficientsOf F x)) old) w)
-    ∙ take-at (coefficientsOf F taps) (drop (length (coefficientsOf F taps)) old) n (length-map (λ (x : Float). wholeOf (resultOf F x)) taps ∙ l)
+    ∙ take-at (coefficientsOf F taps) (drop (length (coefficientsOf F taps)) old) n (length-map taps (λ (x : Float). wholeOf (resultOf F x)) ∙ l)

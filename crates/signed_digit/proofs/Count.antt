@@ -1,6 +1,6 @@
 -- How many strings have a property, leading zeros aside: all lists that hold exactly those strings, once each, have the same length.
 use mathlib.Core.Path.{_≡_, refl, ap, sym, _∙_}
-use mathlib.Core.List.{List, [], _∷_, List·Memᴰ, List·Memᴰ·head, List·Memᴰ·tail, List·Memᴰ·not-nil, List·Memᴰ·cases-cons}
+use mathlib.Core.List.{List, [], _∷_, List·Memᴰ, List·Memᴰ·head, List·Memᴰ·tail, List·Memᴰ·not-nil, List·Memᴰ·cases-cons, Pairwise·of-cons}
 use mathlib.Core.Logic.{_⊎_, inl, inr, ⊎-elim, _↔_}
 use Prim.Native.Nat.{suc, _≤_}
 use native.Mathlib.Omega.{arith}
@@ -8,6 +8,7 @@ use lib.ListN.{length}
 use Rattle.signed_digit.specs.String.{DigitString}
 use Rattle.signed_digit.specs.Same.{stripped, Same}
 use Rattle.signed_digit.specs.Listing.{Once, StandsIn}
+use Rattle.signed_digit.proofs.Pairs.{to-later}
 
 -- a list with one member taken out
 record Without (f : DigitString) (m : List DigitString) : Type 0 where
@@ -34,7 +35,7 @@ length-at-most [] m o h = omega arith
 length-at-most (x ∷ l) m o h =
     let a = h x (List·Memᴰ·head refl) in
     let w = without (a .0) m (a .1) in
-    omega (arith, length-at-most l (w .rest) (o .1) (λ s k. go w s (a .2) (o .0 s k) (h s (List·Memᴰ·tail k))))
+    omega (arith, length-at-most l (w .rest) (Pairwise·of-cons o) (λ s k. go w s (a .2) (to-later o s k) (h s (List·Memᴰ·tail k))))
   where
     go : {f : DigitString} (w : Without f m) (s : DigitString) → Same f x → (Same x s → ⊥) → StandsIn s m → StandsIn s (w .rest)
     go w s e d b = ⊎-elim (λ q. absurd (d (sym e ∙ ap stripped (sym q) ∙ b .2))) (λ n. (b .0, n, b .2)) (w .others (b .0) (b .1))

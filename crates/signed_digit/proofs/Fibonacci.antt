@@ -18,6 +18,7 @@ use Rattle.signed_digit.specs.CanonicalForm.{opposite}
 use Rattle.signed_digit.proofs.Strings.{bit, opposite-bits}
 use Rattle.signed_digit.proofs.Minimal.{Lightest, Worth}
 use Rattle.signed_digit.proofs.Forms.{Form}
+use Rattle.signed_digit.proofs.Pairs.{to-later}
 use Rattle.signed_digit.proofs.Tails.{tails, tails-member, tails-once, tails-length, Begins, tails-all}
 
 fibonacci-positive : (n : ℕ) → 1 ≤ fibonacci (suc n)
@@ -98,7 +99,7 @@ no-places k a b (s ∷ []) g = omega (arith, fibonacci-positive k)
 no-places k a b (s ∷ t ∷ l) g =
     let x = nil s (g .form s (List·Memᴰ·head refl) .places) in
     let y = nil t (g .form t (List·Memᴰ·tail (List·Memᴰ·head refl)) .places) in
-    absurd (g .once .0 t (List·Memᴰ·head refl) (ap stripped (x ∙ sym y)))
+    absurd (to-later (g .once) t (List·Memᴰ·head refl) (ap stripped (x ∙ sym y)))
   where
     nil : (s : DigitString) → length s ≡ 0 → s ≡ []
     nil [] h = refl

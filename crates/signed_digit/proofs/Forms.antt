@@ -2,7 +2,7 @@
 use mathlib.Core.Path.{_≡_, refl, ap, sym, _∙_, subst}
 use mathlib.Core.Bool.{Bool, true, false}
 use mathlib.Core.List.{List, [], _∷_, _++_, map, List·Memᴰ, List·Memᴰ·head, List·Memᴰ·not-nil, List·Memᴰ·eq-of-singleton}
-use mathlib.Core.List.{List·Memᴰ·append-cases, Memᴰ·cast, Memᴰ·append-left, Memᴰ·append-right, Memᴰ·map, Memᴰ·of-map}
+use mathlib.Core.List.{List·Memᴰ·append-cases, Memᴰ·cast, Memᴰ·append-left, Memᴰ·append-right, Memᴰ·map, Memᴰ·of-map, Pairwise·nil}
 use mathlib.Core.Logic.{⊎-elim}
 use Prim.Native.Nat.{ℕ, zero, suc, _+_, _*_, _<_, _^_}
 use native.Mathlib.Omega.{arith}
@@ -18,7 +18,7 @@ use Rattle.signed_digit.specs.Masks.{plusBit, minusBit}
 use Rattle.signed_digit.specs.Forms.{top, emptyIf, forms}
 use Rattle.signed_digit.proofs.Strings.{small, top-places, top-weight, top-mask, topped}
 use Rattle.signed_digit.proofs.Minimal.{Worth}
-use Rattle.signed_digit.proofs.Pairs.{pairs-map, pairs-append}
+use Rattle.signed_digit.proofs.Pairs.{before-all, pairs-map, pairs-append}
 
 pub record Form (p k a b : ℕ) (s : DigitString) : Type 0 where
   pub places : length s ≡ p
@@ -139,8 +139,8 @@ earlier-high d s t u l = record {
     past d s i h = List·getD-eq-default (top d s) nought (omega (arith, top-places d s))
 
 empty-ordered : (x : Bool) → Ordered (emptyIf x)
-empty-ordered true = (λ t m. absurd (List·Memᴰ·not-nil m), tt)
-empty-ordered false = tt
+empty-ordered true = before-all (λ t m. absurd (List·Memᴰ·not-nil m)) Pairwise·nil
+empty-ordered false = Pairwise·nil
 
 module _ (p : ℕ) (d : Digit) (k a b : ℕ) where
   top-ordered : Ordered (forms p k a b) → Ordered (map (top d) (forms p k a b))
@@ -165,7 +165,7 @@ not-opposite p k a b s t f g = omega (arith, small s, small t, ap (λ (n : ℕ).
 pub forms-ordered : (p k a b : ℕ) → Ordered (forms p k a b)
 unfolding forms
 forms-ordered zero zero a b = empty-ordered (eqb a b)
-forms-ordered zero (suc k) a b = tt
+forms-ordered zero (suc k) a b = Pairwise·nil
 forms-ordered (suc p) zero a b = top-ordered p nought zero a b (forms-ordered p zero a b)
 forms-ordered (suc p) (suc k) a b =
     let l = map (top one) (forms p k a (b + 2 ^ p)) in

@@ -1,7 +1,7 @@
 -- The claims of specs/Claims.antt and the figures of specs/Figures.antt:
 pub mod Claims
 pub mod Figures
--- What they rest on, and a caller's proof may cite too:
+-- What they rest on:
 pub mod Demand
 pub mod Written
 pub mod FormCount

@@ -25,7 +25,7 @@ use Rattle.signed_digit.proofs.Value.{value-eq, values-eq}
 use Rattle.signed_digit.proofs.Minimal.{Worth, minimal-lightest, same-minimal}
 use Rattle.signed_digit.proofs.Canonical.{canonical-first, canonical-unique, canonical-minimal, minimal-weight}
 use Rattle.signed_digit.proofs.CanonicalForm.{canonical-canonical, canonical-places, canonical-value}
-use Rattle.signed_digit.proofs.Pairs.{ordered-once, ordered-unique}
+use Rattle.signed_digit.proofs.Pairs.{to-later, ordered-once, ordered-unique}
 use Rattle.signed_digit.proofs.Forms.{Form, sound, complete, forms-ordered}
 use Rattle.signed_digit.proofs.AnyLength.{short}
 use Rattle.signed_digit.proofs.Fibonacci.{fibonacci-bound}
@@ -124,7 +124,7 @@ at-head c (s ∷ l) o m h = go (List·Memᴰ·cases-cons m)
   where
     go : (c ≡ s) ⊎ List·Memᴰ c l → (rest : List DigitString) × (s ∷ l ≡ c ∷ rest)
     go (inl e) = (l, ap (λ (x : DigitString). x ∷ l) (sym e))
-    go (inr n) = absurd (h s (List·Memᴰ·head refl) (o .0 c n))
+    go (inr n) = absurd (h s (List·Memᴰ·head refl) (to-later o c n))
 
 pub listing-first : (p : ℕ) (n : ℤ) (c : DigitString) → length c ≡ p → Canonical c → value c ≡ n → (rest : List DigitString) × (listing p n ≡ c ∷ rest)
 listing-first p n c l h v = at-head c (listing p n) (listing-is p n .ordered) (listing-is p n .holds c l (canonical-minimal n c h v)) none-earlier

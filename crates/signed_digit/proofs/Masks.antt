@@ -15,10 +15,10 @@ use Rattle.signed_digit.specs.Masks.{mask, plusBit, minusBit, plusMask, 
 use Rattle.signed_digit.proofs.Strings.{bit}
 
 -- ---- a number by its lowest bit
-half-of : (x i : ℕ) → i < 2 → (i + 2 * x) / 2 ≡ x
+pub half-of : (x i : ℕ) → i < 2 → (i + 2 * x) / 2 ≡ x
 half-of x i h = omega arith
 
-rest-of : (x i : ℕ) → i < 2 → (i + 2 * x) % 2 ≡ i
+pub rest-of : (x i : ℕ) → i < 2 → (i + 2 * x) % 2 ≡ i
 rest-of x i h = omega arith
 
 plusBit-small : (d : Digit) → plusBit d < 2
@@ -51,7 +51,7 @@ masks-disjoint (d ∷ s) =
     let y = ap₂ min (rest-of (plusMask s) (plusBit d) u) (rest-of (minusMask s) (minusBit d) v) in
     omega (arith, masks-disjoint s, bit d, and-step (plusBit d + 2 * plusMask s) (minusBit d + 2 * minusMask s))
 
-ones-bit : (x i : ℕ) → i < 2 → ones (i + 2 * x) ≡ i + ones x
+pub ones-bit : (x i : ℕ) → i < 2 → ones (i + 2 * x) ≡ i + ones x
 ones-bit x i h = ones-step (i + 2 * x) ∙ ap₂ (λ (u v : ℕ). u + v) (rest-of x i h) (ap ones (half-of x i h))
 
 pub masks-weight : (s : DigitString) → ones (plusMask s) + ones (minusMask s) ≡ weight s

@@ -1,45 +1,15 @@
--- Every nonzero number is sign × odd part × 2^shift in exactly one way; zero is not.
+-- Every nonzero number is sign × odd part × 2^shift in exactly one way; zero is not. Assumes nothing.
 use mathlib.Core.Path.{_≡_, refl, ap, sym, _∙_, subst}
 use mathlib.Core.Logic.{_≢_}
-use Prim.Native.Nat.{ℕ, zero, suc, _+_, _*_, _≤_, _^_, _/_, _%_}
-use native.Mathlib.Nat.{pow-suc, one-mul}
+use Prim.Native.Nat.{ℕ, zero, suc, _+_, _*_, _≤_, _^_, _%_}
+use native.Mathlib.Nat.{one-mul}
 use native.Mathlib.Omega.{arith}
 use lib.IntN.{ℤ, pos, negsuc, negℤ, _*ℤ_}
+use Rattle.word.proofs.LowZeros.{odd-part, one-odd-part, product-above}
+use Rattle.word.proofs.Multiples.{negative-times}
 use Rattle.signed_digit.specs.Reduction.{Sign, positive, negative, signValue, Reduction}
 use Rattle.signed_digit.specs.Forms.{positivePart, negativePart}
 use Rattle.signed_digit.proofs.Value.{parts-eq, negative-parts}
-
--- ---- natural numbers
-record OddPart (m : ℕ) : Type 0 where
-  part : ℕ
-  shift : ℕ
-  odd : part % 2 ≡ 1
-  product : m ≡ part * 2 ^ shift
-
--- n bounds m
-odd-part : (n m : ℕ) → m ≤ n → 1 ≤ m → OddPart m
-odd-part zero m h p = absurd (omega arith)
-odd-part (suc n) m h p = go (m % 2) refl (odd-part n (m / 2))
-  where
-    go : (r : ℕ) → m % 2 ≡ r → (m / 2 ≤ n → 1 ≤ m / 2 → OddPart (m / 2)) → OddPart m
-    go zero e ih =
-        let o = ih (omega arith) (omega arith) in
-        let q = ap (λ (x : ℕ). o .part * x) (pow-suc 2 (o .shift)) in
-        record { part = o .part; shift = suc (o .shift); odd = o .odd; product = omega (arith, o .product) }
-    go (suc zero) e ih = record { part = m; shift = 0; odd = e; product = omega arith }
-    go (suc (suc r)) e ih = absurd (omega arith)
-
-one-odd-part : (x y i j : ℕ) → x % 2 ≡ 1 → y % 2 ≡ 1 → x * 2 ^ i ≡ y * 2 ^ j → (x ≡ y) × (i ≡ j)
-one-odd-part x y zero zero p q e = (omega arith, refl)
-one-odd-part x y zero (suc j) p q e = absurd (omega (arith, ap (λ (z : ℕ). y * z) (pow-suc 2 j)))
-one-odd-part x y (suc i) zero p q e = absurd (omega (arith, ap (λ (z : ℕ). x * z) (pow-suc 2 i)))
-one-odd-part x y (suc i) (suc j) p q e =
-    let r = one-odd-part x y i j p q (omega (arith, ap (λ (z : ℕ). x * z) (pow-suc 2 i), ap (λ (z : ℕ). y * z) (pow-suc 2 j))) in
-    (r .0, ap suc (r .1))
-
-at-least-one : (x i : ℕ) → x % 2 ≡ 1 → 1 ≤ x * 2 ^ i
-at-least-one x zero h = omega arith
-at-least-one x (suc i) h = omega (arith, at-least-one x i h, ap (λ (z : ℕ). x * z) (pow-suc 2 i))
 
 -- ---- with a sign
 abbrev whenPositive : Sign → ℕ → ℕ
@@ -55,20 +25,16 @@ record Signed (g : Sign) (m : ℕ) (n : ℤ) : Type 0 where
   above : positivePart n ≡ whenPositive g m
   under : negativePart n ≡ whenNegative g m
 
-negative-times : (m y : ℕ) → negℤ (pos m) *ℤ pos y ≡ negℤ (pos (m * y))
-negative-times zero y = let q : 0 * y ≡ 0 = omega arith in ap pos q ∙ sym (ap (λ (z : ℕ). negℤ (pos z)) q)
-negative-times (suc m) y = refl
-
 product-signed : (g : Sign) (x i : ℕ) → Signed g (x * 2 ^ i) (signValue g *ℤ pos x *ℤ pos (2 ^ i))
 product-signed positive x i = record { above = ap (λ (z : ℕ). z * 2 ^ i) (one-mul x); under = refl }
 product-signed negative x i =
-    let q = negative-times (1 * x) (2 ^ i) ∙ ap (λ (z : ℕ). negℤ (pos (z * 2 ^ i))) (one-mul x) in
+    let q = negative-times (pos (2 ^ i)) (pos (1 * x)) ∙ ap (λ (z : ℕ). negℤ (pos (z * 2 ^ i))) (one-mul x) in
     let r = negative-parts (x * 2 ^ i) in
     record { above = ap positivePart q ∙ r .0; under = ap negativePart q ∙ r .1 }
 
 reduced : (g : Sign) (m : ℕ) (n : ℤ) → 1 ≤ m → Signed g m n → Reduction n
 reduced g m n h s =
-    let o = odd-part m m (omega arith) h in
+    let o = odd-part m h in
     let p = product-signed g (o .part) (o .shift) in
     let q = ap (whenPositive g) (o .product) in
     let r = ap (whenNegative g) (o .product) in
@@ -90,6 +56,9 @@ signed-of : {n : ℤ} (r : Reduction n) → Signed (r .sign) (r .oddPart * 2 ^ r
 signed-of r =
     let p = product-signed (r .sign) (r .oddPart) (r .shift) in
     record { above = ap positivePart (r .product) ∙ p .above; under = ap negativePart (r .product) ∙ p .under }
+
+at-least-one : (x i : ℕ) → x % 2 ≡ 1 → 1 ≤ x * 2 ^ i
+at-least-one x i h = omega (arith, product-above x i (omega arith))
 
 magnitude : (g : Sign) (m : ℕ) (n : ℤ) → Signed g m n → m ≡ positivePart n + negativePart n
 magnitude positive m n s = omega (arith, s .above, s .under)

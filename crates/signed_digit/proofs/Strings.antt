@@ -85,7 +85,7 @@ negated-is (d ∷ s) =
     let r = negated-is s in
     record { places = omega arith; weighs = omega arith; plus = omega arith; minus = omega arith }
 
-opposite-twice : (d : Digit) → opposite (opposite d) ≡ d
+pub opposite-twice : (d : Digit) → opposite (opposite d) ≡ d
 opposite-twice one = refl
 opposite-twice nought = refl
 opposite-twice minus-one = refl

@@ -1,6 +1,6 @@
 -- The strings of a list whose lowest digit is d, without that digit.
 use mathlib.Core.Path.{_≡_, refl}
-use mathlib.Core.List.{List, [], _∷_, List·Memᴰ, List·Memᴰ·head, List·Memᴰ·tail, List·Memᴰ·not-nil, List·Memᴰ·cases-cons}
+use mathlib.Core.List.{List, [], _∷_, List·Memᴰ, List·Memᴰ·head, List·Memᴰ·tail, List·Memᴰ·not-nil, List·Memᴰ·cases-cons, Pairwise·nil, Pairwise·of-cons}
 use mathlib.Core.Logic.{⊎-elim}
 use Prim.Native.Nat.{suc, _+_, _≤_}
 use native.Mathlib.Omega.{arith}
@@ -8,6 +8,7 @@ use lib.ListN.{length}
 use Rattle.signed_digit.specs.Digit.{Digit, one, nought, minus-one, Digit-discrete}
 use Rattle.signed_digit.specs.String.{DigitString}
 use Rattle.signed_digit.specs.Listing.{Once}
+use Rattle.signed_digit.proofs.Pairs.{before-all, to-later}
 
 abbrev pub keep : {A : Type 0} → Dec A → DigitString → List DigitString → List DigitString
 keep (yes h) s l = s ∷ l
@@ -28,12 +29,12 @@ tails-member d ((e ∷ s) ∷ l) t m = go (Digit-discrete d e) m (tails-member d
     go (no q) n ih = List·Memᴰ·tail (ih n)
 
 pub tails-once : (d : Digit) (l : List DigitString) → Once l → Once (tails d l)
-tails-once d [] h = tt
-tails-once d ([] ∷ l) h = tails-once d l (h .1)
-tails-once d ((e ∷ s) ∷ l) h = go (Digit-discrete d e) (tails-once d l (h .1))
+tails-once d [] h = Pairwise·nil
+tails-once d ([] ∷ l) h = tails-once d l (Pairwise·of-cons h)
+tails-once d ((e ∷ s) ∷ l) h = go (Digit-discrete d e) (tails-once d l (Pairwise·of-cons h))
   where
     go : (x : Dec (d ≡ e)) → Once (tails d l) → Once (keep x s (tails d l))
-    go (yes q) r = (λ t m w. h .0 (d ∷ t) (tails-member d l t m) (cc), r)
+    go (yes q) r = before-all (λ t m w. to-later h (d ∷ t) (tails-member d l t m) (cc)) r
     go (no q) r = r
 
 pub tails-length : (l : List DigitString) → ((s : DigitString) → List·Memᴰ s l → 1 ≤ length s)

@@ -2,7 +2,6 @@
 -- what the other proofs work with.
 use mathlib.Core.Path.{_≡_, refl, ap}
 use mathlib.Core.Bool.{Bool, true, false, not, cond}
-use mathlib.Core.List.{[], _∷_}
 use mathlib.Core.Logic.{_↔_}
 use Prim.Native.Nat.{ℕ, zero, suc, _+_, _*_, _-_, _≤_, _<_, _^_}
 use native.Mathlib.Omega.{arith}
@@ -92,22 +91,3 @@ value-masks s =
     let p : ℤ = pos (plusMask s) in
     let m : ℤ = negℤ (pos (minusMask s)) in
     value-eq s (p +ℤ m) .1 (omega (arith, sum-parts p m, negative-parts (minusMask s)))
-
--- ---- the value by recursion from the low end
-pub value-nil : value [] ≡ pos 0
-unfolding value
-value-nil = refl
-
-double-parts : (n : ℤ) → (positivePart (pos 2 *ℤ n) ≡ 2 * positivePart n) × (negativePart (pos 2 *ℤ n) ≡ 2 * negativePart n)
-double-parts (pos n) = (refl, refl)
-double-parts (negsuc n) = negative-parts (2 * suc n)
-
-digit-parts : (d : Digit) → (positivePart (digitValue d) ≡ plusBit d) × (negativePart (digitValue d) ≡ minusBit d)
-digit-parts one = (refl, refl)
-digit-parts nought = (refl, refl)
-digit-parts minus-one = (refl, refl)
-
-pub value-cons : (d : Digit) (s : DigitString) → value (d ∷ s) ≡ digitValue d +ℤ pos 2 *ℤ value s
-value-cons d s =
-    value-eq (d ∷ s) (digitValue d +ℤ pos 2 *ℤ value s) .1
-    (omega (arith, value-parts s, double-parts (value s), digit-parts d, sum-parts (digitValue d) (pos 2 *ℤ value s)))

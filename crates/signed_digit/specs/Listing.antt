@@ -1,7 +1,7 @@
 -- Document 01: "The listing of N holds each form of N's value with the least weight, once". Its order is that of `Earlier`.
 use Prim.Native.Nat.{ℕ}
 use mathlib.Core.Path.{_≡_}
-use mathlib.Core.List.{List, [], _∷_, List·Memᴰ}
+use mathlib.Core.List.{List, List·Memᴰ, Pairwise}
 use lib.IntN.{ℤ}
 use lib.ListN.{length}
 use Rattle.signed_digit.specs.String.{DigitString}
@@ -9,18 +9,13 @@ use Rattle.signed_digit.specs.Same.{Same}
 use Rattle.signed_digit.specs.Minimal.{Minimal}
 use Rattle.signed_digit.specs.Order.{Earlier}
 
--- R holds between each member of the list and every one after it
-abbrev pub AllPairs : (DigitString → DigitString → Type 0) → List DigitString → Type 0
-AllPairs R [] = Unit {0}
-AllPairs R (s ∷ l) = ((t : DigitString) → List·Memᴰ t l → R s t) × AllPairs R l
-
 -- each member is earlier than every one after it
 abbrev pub Ordered : List DigitString → Type 0
-Ordered l = AllPairs Earlier l
+Ordered l = Pairwise Earlier l
 
 -- no two members are the same, leading zeros aside
 abbrev pub Once : List DigitString → Type 0
-Once l = AllPairs (λ s t. Same s t → ⊥) l
+Once l = Pairwise (λ s t. Same s t → ⊥) l
 
 -- s stands in the list, leading zeros aside
 abbrev pub StandsIn : DigitString → List DigitString → Type 0

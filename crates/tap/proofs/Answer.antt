@@ -2,11 +2,11 @@
 use mathlib.Core.Path.{_≡_, refl, sym, ap, _∙_, subst}
 use mathlib.Core.Logic.{_⊎_, inl, inr}
 use mathlib.Core.Bool.{Bool, true, false, not, _&&_, cond, true≢false, false≢true}
-use Prim.Native.Nat.{ℕ, zero, suc, _*_, _^_, _≤_, _<_}
+use Prim.Native.Nat.{ℕ, zero, suc, _*_, _^_, _≤_, _<_, _-_}
 use native.Mathlib.Nat.{le-trans, le-of-eq, lt-of-lt-of-le, lt-of-le-of-lt, mul-le-mul-right, mul-right-comm}
 use native.Mathlib.Omega.{arith}
 use lib.IntN.{ℤ, pos, negsuc}
-use lib.Dec.{T, leb, ltb, eqb, ltb→lt, nltb→le, lit≤, lit<}
+use lib.Dec.{T, leb, ltb, eqb, lit≤, lit<}
 use lib.Signed.{ltZ}
 use mir.Syntax.{w32}
 use mir.Val.{SFits}
@@ -15,6 +15,7 @@ use lib.Ieee.Fits.{down-pos}
 use lib.Ieee.Exact.{HasValue}
 use borrow.Author.Tests.{lt-ltb, le-ltb, eqb-false, ltb-true, ltb-false, leb-true, leb-false}
 use Rattle.word.specs.Bounds.{withinBounds}
+use Rattle.word.proofs.Order.{lt-or-le}
 use Rattle.refusal.specs.Answer.{given, refused, refuseIf}
 use Rattle.refusal.proofs.Checks.{check-applies, check-passes}
 use Rattle.tap.specs.Rounding.{exact, rounded, nearestWhole, signed, leftover, split, finite, sizeOf, outside, resultOf, roundedTap, absOf}
@@ -45,27 +46,27 @@ of-finite F x h n = few-bits F x h ∙ check-passes (not (finite x)) 5 _ (ap not
 
 -- the largest n for which ±n is a coefficient
 abbrev pub most : Bool → ℕ
-most s = cond s 2147483648 2147483647
+most s = cond s (2 ^ 31) (2 ^ 31 - 1)
+
+one-more : (n : ℕ) → n ≤ 2 ^ 31 - 1 → suc n ≤ 2 ^ 31
+one-more n h = omega arith
+
+past : (n : ℕ) → 2 ^ 31 - 1 < n → 2 ^ 31 < suc n
+past n h = omega arith
 
 -- ±n is outside the bounds where n is above it
 within-most : (s : Bool) (n : ℕ) → not (withinBounds (signed s n)) ≡ ltb (most s) n
-within-most false n = go (leb n 2147483647) refl
+within-most false n = go (leb n (2 ^ 31 - 1)) refl
   where
-    go : (b : Bool) → leb n 2147483647 ≡ b → not (leb n 2147483647) ≡ ltb 2147483647 n
-    go true h = ap not h ∙ sym (le-ltb 2147483647 n (leb-true n 2147483647 h))
-    go false h = ap not h ∙ sym (lt-ltb 2147483647 n (leb-false n 2147483647 h))
+    go : (b : Bool) → leb n (2 ^ 31 - 1) ≡ b → not (leb n (2 ^ 31 - 1)) ≡ ltb (2 ^ 31 - 1) n
+    go true h = ap not h ∙ sym (le-ltb (2 ^ 31 - 1) n (leb-true n (2 ^ 31 - 1) h))
+    go false h = ap not h ∙ sym (lt-ltb (2 ^ 31 - 1) n (leb-false n (2 ^ 31 - 1) h))
 within-most true zero = refl
-within-most true (suc n) = go (leb n 2147483647) refl
+within-most true (suc n) = go (leb n (2 ^ 31 - 1)) refl
   where
-    one-more : (n : ℕ) → n ≤ 2147483647 → suc n ≤ 2147483648
-    one-more n h = omega arith
-
-    past : (n : ℕ) → 2147483647 < n → 2147483648 < suc n
-    past n h = omega arith
-
-    go : (b : Bool) → leb n 2147483647 ≡ b → not (leb n 2147483647 && true) ≡ ltb 2147483648 (suc n)
-    go true h = ap (λ (b : Bool). not (b && true)) h ∙ sym (le-ltb 2147483648 (suc n) (one-more n (leb-true n 2147483647 h)))
-    go false h = ap (λ (b : Bool). not (b && true)) h ∙ sym (lt-ltb 2147483648 (suc n) (past n (leb-false n 2147483647 h)))
+    go : (b : Bool) → leb n (2 ^ 31 - 1) ≡ b → not (leb n (2 ^ 31 - 1) && true) ≡ ltb (2 ^ 31) (suc n)
+    go true h = ap (λ (b : Bool). not (b && true)) h ∙ sym (le-ltb (2 ^ 31) (suc n) (one-more n (leb-true n (2 ^ 31 - 1) h)))
+    go false h = ap (λ (b : Bool). not (b && true)) h ∙ sym (lt-ltb (2 ^ 31) (suc n) (past n (leb-false n (2 ^ 31 - 1) h)))
 
 pub outside-bounds : (F : ℕ) (s : Bool) (m : ℕ) (e : ℤ) → outside F (fin s m e) ≡ not (withinBounds (signed s (sizeOf F (fin s m e))))
 unfolding outside
@@ -83,7 +84,7 @@ pub split-is : (s : Bool) (a d n : ℕ) → split s a d n ≡ cond (eqb (n * d) 
 unfolding split
 split-is s a d n = refl
 
-parted-is : (X : Float) (s : Bool) (a d n : ℕ) → 0 < d → n ≤ 2147483648 → HasValue X s a d → parted X (signed s n) ≡ split s a d n
+parted-is : (X : Float) (s : Bool) (a d n : ℕ) → 0 < d → n ≤ 2 ^ 31 → HasValue X s a d → parted X (signed s n) ≡ split s a d n
 parted-is X s a d n D h v = go (eqb (n * d) a) refl ∙ sym (split-is s a d n)
   where
     w : (t : Bool) × HasValue (ofInt binary64 (signed s n)) t n 1 × ((t ≡ s) ⊎ (n ≡ 0))
@@ -121,26 +122,19 @@ abs-test F s m e =
     ∙ ap (λ (y : Float). lt (absOf y) (two-to 32)) (scaled-is s m e F)
     ∙ ap (λ (y : Float). lt y (two-to 32)) (round-abs s (m * up e * 2 ^ F) (down e))
 
-either : (a b : ℕ) → (a < b) ⊎ (b ≤ a)
-either a b = go (ltb a b) (ltb→lt a b) (nltb→le a b)
-  where
-    go : (t : Bool) → (T t → a < b) → (T (not t) → b ≤ a) → (a < b) ⊎ (b ≤ a)
-    go true p q = inl (p tt)
-    go false p q = inr (q tt)
-
 module _ (F : ℕ) (s : Bool) (m : ℕ) (e : ℤ) (t : T (fits binary64 (fin s m e))) where
   exactly : m * up e * 2 ^ F < 2 ^ 32 * down e → HasValue (mul binary64 (fin s m e) (two-to F)) s (m * up e * 2 ^ F) (down e)
   exactly l = scaled-exact s m e F t (lt-of-lt-of-le l (mul-le-mul-right (down e) (lit≤ tt)))
 
   under : lt (magnitudeOf (mul binary64 (fin s m e) (two-to F))) (two-to 32) ≡ true → m * up e * 2 ^ F < 2 ^ 32 * down e
-  under h = go (either (m * up e * 2 ^ F) (2 ^ 32 * down e))
+  under h = go (lt-or-le (m * up e * 2 ^ F) (2 ^ 32 * down e))
     where
       go : (m * up e * 2 ^ F < 2 ^ 32 * down e) ⊎ (2 ^ 32 * down e ≤ m * up e * 2 ^ F) → m * up e * 2 ^ F < 2 ^ 32 * down e
       go (inl l) = l
       go (inr l) = absurd (true≢false (sym h ∙ abs-test F s m e ∙ over (m * up e * 2 ^ F) (down e) (down-pos e) l))
 
   not-under : lt (magnitudeOf (mul binary64 (fin s m e) (two-to F))) (two-to 32) ≡ false → 2 ^ 32 * down e ≤ m * up e * 2 ^ F
-  not-under h = go (either (m * up e * 2 ^ F) (2 ^ 32 * down e))
+  not-under h = go (lt-or-le (m * up e * 2 ^ F) (2 ^ 32 * down e))
     where
       go : (m * up e * 2 ^ F < 2 ^ 32 * down e) ⊎ (2 ^ 32 * down e ≤ m * up e * 2 ^ F) → 2 ^ 32 * down e ≤ m * up e * 2 ^ F
       go (inr l) = l
@@ -165,37 +159,31 @@ module _ (F : ℕ) (s : Bool) (m : ℕ) (e : ℤ) (t : T (fits binary64 (fin s m
           ap nearestOf (w .1) ∙ nearest-is (w .0) p g ∙ nearest-same (p * up g) (down g) (m * up e * 2 ^ F) (down e) (down-pos g) (down-pos e) (v .1)
 
 -- a size that is counted is at most 2 ^ 32
-pub size-small : (F : ℕ) (tap : Float) (c : ℕ) → T (fits binary64 tap) → lt (magnitudeOf (mul binary64 tap (two-to F))) (two-to 32) ≡ true → c ≡ nearestOf (magnitudeOf (mul binary64 tap (two-to F))) → c ≤ 4294967296
+pub size-small : (F : ℕ) (tap : Float) (c : ℕ) → T (fits binary64 tap) → lt (magnitudeOf (mul binary64 tap (two-to F))) (two-to 32) ≡ true → c ≡ nearestOf (magnitudeOf (mul binary64 tap (two-to F))) → c ≤ 2 ^ 32
 size-small F nan c t h q = absurd (true≢false (sym h ∙ never F nan refl))
 size-small F (inf s) c t h q = absurd (true≢false (sym h ∙ never F (inf s) refl))
 size-small F (fin s m e) c t h q =
     le-trans (le-of-eq (q ∙ size-of F s m e t h ∙ size-is F s m e))
-    (nearest-le (m * up e * 2 ^ F) (down e) 4294967296 (down-pos e) (lt-of-lt-of-le (double (m * up e * 2 ^ F) (2 ^ 32 * down e) (under F s m e t h)) (le-of-eq (mul-right-comm (2 ^ 32) (down e) 2))))
+    (nearest-le (m * up e * 2 ^ F) (down e) (2 ^ 32) (down-pos e) (lt-of-lt-of-le (double (m * up e * 2 ^ F) (2 ^ 32 * down e) (under F s m e t h)) (le-of-eq (mul-right-comm (2 ^ 32) (down e) 2))))
   where
     double : (a b : ℕ) → a < b → a * 2 < b * 2
     double a b h = omega arith
 
 -- ---- N against the bounds, as the code tests it
-pub above-most : (b : Bool) (c : ℕ) → ltZ (pos 2147483647) (signed b c) ≡ true → most b < c
-above-most false c h = ltb-true 2147483647 c h
+pub above-most : (b : Bool) (c : ℕ) → ltZ (pos (2 ^ 31 - 1)) (signed b c) ≡ true → most b < c
+above-most false c h = ltb-true (2 ^ 31 - 1) c h
 above-most true zero h = absurd (false≢true h)
 above-most true (suc c) h = absurd (false≢true h)
 
-pub below-least : (b : Bool) (c : ℕ) → ltZ (signed b c) (negsuc 2147483647) ≡ true → most b < c
+pub below-least : (b : Bool) (c : ℕ) → ltZ (signed b c) (negsuc (2 ^ 31 - 1)) ≡ true → most b < c
 below-least false c h = absurd (false≢true h)
 below-least true zero h = absurd (false≢true h)
-below-least true (suc c) h = go c (ltb-true 2147483647 c h)
-  where
-    go : (c : ℕ) → 2147483647 < c → 2147483648 < suc c
-    go c h = omega arith
+below-least true (suc c) h = past c (ltb-true (2 ^ 31 - 1) c h)
 
-pub between : (b : Bool) (c : ℕ) → ltZ (pos 2147483647) (signed b c) ≡ false → ltZ (signed b c) (negsuc 2147483647) ≡ false → c ≤ most b
-between false c h k = ltb-false 2147483647 c h
+pub between : (b : Bool) (c : ℕ) → ltZ (pos (2 ^ 31 - 1)) (signed b c) ≡ false → ltZ (signed b c) (negsuc (2 ^ 31 - 1)) ≡ false → c ≤ most b
+between false c h k = ltb-false (2 ^ 31 - 1) c h
 between true zero h k = lit≤ tt
-between true (suc c) h k = go c (ltb-false 2147483647 c k)
-  where
-    go : (c : ℕ) → c ≤ 2147483647 → suc c ≤ 2147483648
-    go c h = omega arith
+between true (suc c) h k = one-more c (ltb-false (2 ^ 31 - 1) c k)
 
 -- a size within them is that of an i32
 pub in-bounds : (b : Bool) (c : ℕ) → c ≤ most b → SFits w32 (signed b c)
@@ -203,7 +191,7 @@ in-bounds false c h = record { sfits = lt-of-le-of-lt h (lit< tt) }
 in-bounds true zero h = record { sfits = lit< tt }
 in-bounds true (suc c) h = record { sfits = h }
 
-most-le : (s : Bool) → most s ≤ 2147483648
+most-le : (s : Bool) → most s ≤ 2 ^ 31
 most-le true = le-of-eq refl
 most-le false = lit≤ tt
 
@@ -235,9 +223,9 @@ refused-size F (inf s) t h n u = absurd (false≢true n)
 refused-size F (fin s m e) t h n u =
     outside-stop F s m e h
     (lt-of-lt-of-le (largest s)
-    (subst (λ (k : ℕ). 4294967296 ≤ k) (sym (size-is F s m e)) (nearest-ge (m * up e * 2 ^ F) (down e) 4294967296 (down-pos e) (le-trans (le-of-eq (mul-right-comm (2 ^ 32) 2 (down e))) (mul-le-mul-right 2 (not-under F s m e t u))))))
+    (subst (λ (k : ℕ). 2 ^ 32 ≤ k) (sym (size-is F s m e)) (nearest-ge (m * up e * 2 ^ F) (down e) (2 ^ 32) (down-pos e) (le-trans (le-of-eq (mul-right-comm (2 ^ 32) 2 (down e))) (mul-le-mul-right 2 (not-under F s m e t u))))))
   where
-    largest : (s : Bool) → most s < 4294967296
+    largest : (s : Bool) → most s < 2 ^ 32
     largest true = lit< tt
     largest false = lit< tt
 

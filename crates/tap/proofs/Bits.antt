@@ -1,7 +1,7 @@
 -- A finite float by its bits. Assumes nothing.
 use mathlib.Core.Path.{_≡_, refl, sym, subst, ap, _∙_}
 use mathlib.Core.Bool.{Bool, true, false, not, cond}
-use Prim.Native.Nat.{ℕ, zero, suc, _+_, _/_, _%_}
+use Prim.Native.Nat.{ℕ, zero, suc, _+_, _/_, _%_, _^_}
 use lib.Pow.{field}
 use lib.Dec.{T, eqb, leb}
 use lib.Ieee.{Float, binary64, nan, inf, fin, eq, ne, isNan, odd, ofFields, ofBits, toBits, fits, top, hid}
@@ -31,9 +31,9 @@ pick false d s y h = h
 fields-finite : (s : Bool) (x t : ℕ) → finite (ofFields binary64 s x t) ≡ not (eqb x 2047)
 unfolding ofFields
 fields-finite s zero t = odd-finite 53 s t 0 1074
-fields-finite s (suc x) t = pick (eqb (suc x) 2047) (eqb t 0) s _ (odd-finite 53 s (4503599627370496 + t) x 1074)
+fields-finite s (suc x) t = pick (eqb (suc x) 2047) (eqb t 0) s _ (odd-finite 53 s (2 ^ 52 + t) x 1074)
 
-pub bits-finite : (x : Float) → T (fits binary64 x) → not (eqb (toBits binary64 x / 4503599627370496 % 2048) 2047) ≡ finite x
+pub bits-finite : (x : Float) → T (fits binary64 x) → not (eqb (toBits binary64 x / 2 ^ 52 % 2048) 2047) ≡ finite x
 unfolding ofBits
 bits-finite x h =
     let b = toBits binary64 x in

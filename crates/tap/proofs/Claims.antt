@@ -12,6 +12,7 @@ use borrow.Author.Tests.{ltb-true, not-true}
 use Rattle.word.specs.Bounds.{Coefficient, withinBounds}
 use Rattle.word.proofs.Bounds.{within-bounds, bounds-within}
 use Rattle.refusal.specs.Answer.{Answer, given, refused, refuseIf}
+use Rattle.refusal.proofs.Checks.{given-refused}
 use Rattle.tap.specs.Rounding.{TapResult, signed, finite, sizeOf, outside, resultOf, roundedTap, wholeOf, TapRounded}
 use Rattle.tap.specs.Claims.{NearestAway, TapRefusals, TapClaims}
 use Rattle.tap.proofs.Distance.{none-nearer, none-larger, no-other}
@@ -46,9 +47,6 @@ by-bounds F (fin s m g) N b f h w e =
     (outside-bounds F s m g ∙ ap (λ (z : ℤ). not (withinBounds z)) (only-at F s m g N w) ∙ ap not e)
 
 -- answers that are not the same
-never-given : (r : TapResult) (n : ℕ) → given r ≡ refused n 0 → ⊥
-never-given r n q = let z : _≡_ {A = ℕ} 0 1 = cc in omega arith
-
 same-number : (m n : ℕ) → _≡_ {A = Answer TapResult} (refused m 0) (refused n 0) → m ≡ n
 same-number m n q = cc
 
@@ -63,7 +61,7 @@ by-four false false true r q = absurd (no (same-number 6 4 q))
   where
     no : _≡_ {A = ℕ} 6 4 → ⊥
     no z = omega arith
-by-four false false false r q = absurd (never-given r 4 q)
+by-four false false false r q = given-refused r 4 0 q
 
 by-five : (b c d : Bool) (r : TapResult) → refuseIf b 4 (refuseIf c 5 (refuseIf d 6 (given r))) ≡ refused 5 0 → c ≡ true
 by-five true c d r q = absurd (no (same-number 4 5 q))
@@ -75,7 +73,7 @@ by-five false false true r q = absurd (no (same-number 6 5 q))
   where
     no : _≡_ {A = ℕ} 6 5 → ⊥
     no z = omega arith
-by-five false false false r q = absurd (never-given r 5 q)
+by-five false false false r q = given-refused r 5 0 q
 
 module _ (F : ℕ) (tap : Float) (a : Answer TapResult) (w : TapRounded F tap a) where
   out : F ≤ 31 → finite tap ≡ true → (N : ℤ) → NearestAway F tap N → a ≡ refused 6 0 ↔ (Coefficient N → ⊥)
@@ -84,7 +82,7 @@ module _ (F : ℕ) (tap : Float) (a : Answer TapResult) (w : TapRounded F tap a)
       go : (b : Bool) → withinBounds N ≡ b → a ≡ refused 6 0 ↔ (Coefficient N → ⊥)
       go true e =
           let g = w .answer ∙ by-bounds F tap N true f h near e in
-          (λ q. absurd (never-given (resultOf F tap) 6 (sym g ∙ q)), λ no. absurd (no (bounds-within N e)))
+          (λ q. given-refused (resultOf F tap) 6 0 (sym g ∙ q), λ no. absurd (no (bounds-within N e)))
       go false e = (λ q. λ c. true≢false (sym (within-bounds N c) ∙ e), λ no. w .answer ∙ by-bounds F tap N false f h near e)
 
   inside : F ≤ 31 → finite tap ≡ true → (N : ℤ) → NearestAway F tap N → Coefficient N → (r : TapResult) × (a ≡ given r) × (wholeOf r ≡ N)

@@ -6,21 +6,15 @@ use Prim.Native.Nat.{ℕ, zero, suc, _+_, _-_, _*_, _≤_, _<_}
 use native.Mathlib.Nat.{le-trans, le-of-eq, add-mul, one-mul, zero-mul, mul-le-mul-right, le-antisymm}
 use native.Mathlib.Omega.{arith}
 use lib.IntN.{ℤ, pos, negsuc, negℤ, natAbs, _+ℤ_, _-ℤ_, _*ℤ_, negℤ-negℤ, negℤ-+ℤ}
-use lib.Dec.{T, ltb, leb, ltb→lt, nltb→le}
+use lib.Dec.{leb}
 use borrow.Author.Tests.{lt-ltb, le-ltb, lt-leb, le-leb}
+use Rattle.word.proofs.Order.{lt-or-le}
 use Rattle.tap.specs.Rounding.{nearestWhole, signed}
 use Rattle.tap.proofs.Whole.{nearest-near}
 use Rattle.tap.proofs.Rule.{nearest-within}
 use Rattle.tap.proofs.Exact.{apart, side, apart-le}
 
 -- ---- sizes of sums and differences
-order : (a b : ℕ) → (a < b) ⊎ (b ≤ a)
-order a b = go (ltb a b) (ltb→lt a b) (nltb→le a b)
-  where
-    go : (t : Bool) → (T t → a < b) → (T (not t) → b ≤ a) → (a < b) ⊎ (b ≤ a)
-    go true p q = inl (p tt)
-    go false p q = inr (q tt)
-
 pub size-neg : (z : ℤ) → natAbs (negℤ z) ≡ natAbs z
 size-neg (pos zero) = refl
 size-neg (pos (suc n)) = refl
@@ -31,7 +25,7 @@ size-signed true n = size-neg (pos n)
 size-signed false n = refl
 
 order-leb : (x a : ℕ) → ((leb x a ≡ true) × (x ≤ a)) ⊎ ((leb x a ≡ false) × (a < x))
-order-leb x a = go (order a x)
+order-leb x a = go (lt-or-le a x)
   where
     go : (a < x) ⊎ (x ≤ a) → ((leb x a ≡ true) × (x ≤ a)) ⊎ ((leb x a ≡ false) × (a < x))
     go (inl h) = inr (lt-leb x a h, h)
@@ -117,7 +111,7 @@ beyond : (a d x y : ℕ) → 0 < d → a * 2 < x * 2 + d → x + d ≤ y → apa
 beyond a d x y D h l = omega arith
 
 compared : (k n d : ℕ) → (k * d ≡ n * d) ⊎ ((k * d + d ≤ n * d) ⊎ (n * d + d ≤ k * d))
-compared k n d = go (order k n) (order n k)
+compared k n d = go (lt-or-le k n) (lt-or-le n k)
   where
     go : (k < n) ⊎ (n ≤ k) → (n < k) ⊎ (k ≤ n) → (k * d ≡ n * d) ⊎ ((k * d + d ≤ n * d) ⊎ (n * d + d ≤ k * d))
     go (inl h) q = inr (inl (next k n d h))
@@ -154,7 +148,7 @@ module _ (s : Bool) (a d : ℕ) (D : 0 < d) where
       size = size-signed s (nearestWhole a d)
 
       go : Sided s z → natAbs z ≤ natAbs N
-      go (inl w) = le-trans (le-of-eq (ap natAbs (sym (w .1)) ∙ size-signed s (w .0))) (le-trans (at-most (order (nearestWhole a d) (w .0))) (le-of-eq (sym size)))
+      go (inl w) = le-trans (le-of-eq (ap natAbs (sym (w .1)) ∙ size-signed s (w .0))) (le-trans (at-most (lt-or-le (nearestWhole a d) (w .0))) (le-of-eq (sym size)))
         where
           irr : (x y : ℕ) → x ≡ y → y < x → ⊥
           irr x y p q = omega arith

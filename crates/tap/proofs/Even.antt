@@ -21,7 +21,7 @@ use lib.Ieee.Back.{round-whole, whole-unique, positive-back}
 use borrow.Author.Tests.{lt-ltb, le-leb, eq-eqb, ne-eqb, eqb-true, eqb-false}
 use Rattle.tap.specs.Rounding.{halfOf, nearestWhole}
 use Rattle.tap.specs.Inner.{evenOf, nearestOf}
-use Rattle.tap.proofs.Rest.{rest-is, leftover-is}
+use Rattle.tap.proofs.Rest.{of-pos, rest-is, leftover-is}
 use Rattle.tap.proofs.Value.{Plain, two-to, below, unsigned, nought}
 
 -- 2 ^ 52
@@ -125,10 +125,6 @@ lifted s m e p h =
     add-le a b c h = omega arith
 
 -- ---- and 2 ^ 52 taken off again
-of-pos : (n : ℕ) → ofInt binary64 (pos n) ≡ round binary64 false n 1
-unfolding ofInt
-of-pos n = refl
-
 M-value : HasValue M false (2 ^ 52) 1
 M-value = (refl, refl)
 

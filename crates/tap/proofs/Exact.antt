@@ -1,28 +1,26 @@
 -- The leftover of a binary64 tap is exact: `leftover-exact`. Assumes nothing.
-use mathlib.Core.Path.{_≡_, refl, sym, ap, _∙_, subst}
+use mathlib.Core.Path.{_≡_, sym, ap, _∙_, subst}
 use mathlib.Core.Logic.{_⊎_, inl, inr}
 use mathlib.Core.Bool.{Bool, true, false, not, cond}
 use Prim.Native.Nat.{ℕ, zero, suc, _+_, _-_, _*_, _^_, _≤_, _<_}
-use native.Mathlib.Nat.{le-trans, le-of-eq, le-of-lt, lt-of-lt-of-le, lt-of-le-of-lt, zero-lt-suc, add-mul, mul-one, one-mul, zero-mul, mul-comm, mul-assoc, mul-sub, mul-le-mul-right, le-of-mul-le-mul-right}
+use native.Mathlib.Nat.{le-trans, le-of-eq, le-of-lt, lt-of-lt-of-le, lt-of-le-of-lt, zero-lt-suc, add-mul, mul-one, one-mul, zero-mul, mul-comm, mul-assoc, mul-le-mul-right, le-of-mul-le-mul-right}
 use native.Mathlib.Omega.{arith}
 use lib.IntN.{ℤ, pos, negsuc}
-use lib.Dec.{T, leb, ltb, leb→le, nleb→lt, ltb→lt, nltb→le, lit<}
+use lib.Dec.{T, leb, leb→le, nleb→lt, lit<}
 use lib.Pow.{pow-add, pow-pos, pow-mono, shl-lt}
 use lib.Ieee.{Float, fin, binary64, up, down, round, fits}
 use lib.Ieee.Fits.{round-fits}
 use lib.Ieee.Digits.{back}
 use lib.Ieee.Exact.{HasValue, round-exact}
+use Rattle.word.proofs.Order.{lt-or-le}
 use Rattle.tap.specs.Rounding.{nearestWhole, leftover}
 use Rattle.tap.proofs.Whole.{nearest-near, nearest-whole}
 use Rattle.tap.proofs.Value.{held, place}
+use Rattle.tap.proofs.Rest.{sub-mul, leftover-is}
 
 -- ---- the difference, whichever is the larger
 abbrev pub apart : ℕ → ℕ → ℕ
 apart x y = x - y + (y - x)
-
-leftover-is : (s : Bool) (a d n : ℕ) → leftover s a d n ≡ cond (leb (n * d) a) (round binary64 s (a - n * d) d) (round binary64 (not s) (n * d - a) d)
-unfolding leftover
-leftover-is s a d n = refl
 
 -- the sign: the tap's where the tap is at least the whole number in size, and the other one where it is less
 abbrev pub side : Bool → ℕ → ℕ → ℕ → Bool
@@ -71,9 +69,6 @@ whole-apart a c d D h = zero-apart a (nearestWhole a d * d) (h ∙ ap (λ (x : �
     zero-apart x y e = omega arith
 
 -- ---- the leftover is a value of binary64: no digit is rounded away
-sub-mul : (a b c : ℕ) → (a - b) * c ≡ a * c - b * c
-sub-mul a b c = mul-comm (a - b) c ∙ mul-sub c a b ∙ ap (λ (x : ℕ). x - c * b) (mul-comm c a) ∙ ap (λ (x : ℕ). a * c - x) (mul-comm c b)
-
 apart-mul : (x y c : ℕ) → apart (x * c) (y * c) ≡ apart x y * c
 apart-mul x y c = sym (add-mul (x - y) (y - x) c ∙ ap (λ (z : ℕ). z + (y - x) * c) (sub-mul x y c) ∙ ap (λ (z : ℕ). x * c - y * c + z) (sub-mul y x c))
 
@@ -105,24 +100,18 @@ few-value s q f k r F Q K e =
     room : (f : ℕ) → f ≤ 31 → 53 + (f + 1074) ≤ 2098
     room f h = omega arith
 
-either : (a b : ℕ) → (a ≤ b) ⊎ (b ≤ a)
-either a b = go (ltb a b) (ltb→lt a b) (nltb→le a b)
-  where
-    go : (t : Bool) → (T t → a < b) → (T (not t) → b ≤ a) → (a ≤ b) ⊎ (b ≤ a)
-    go true p q = inl (le-of-lt (p tt))
-    go false p q = inr (q tt)
-
 exact-at : (s t : Bool) (m : ℕ) (e : ℤ) (f : ℕ) → f ≤ 31 → T (fits binary64 (fin t m e))
     → HasValue (round binary64 s (apart (m * up e * 2 ^ f) (nearestWhole (m * up e * 2 ^ f) (down e) * down e)) (down e)) s (apart (m * up e * 2 ^ f) (nearestWhole (m * up e * 2 ^ f) (down e) * down e)) (down e)
 exact-at s t m (pos k) f F h = zero-value s _ 1 (zero-lt-suc 0) (whole-apart (m * 2 ^ k * 2 ^ f) (m * 2 ^ k * 2 ^ f) 1 (zero-lt-suc 0) (sym (mul-one (m * 2 ^ k * 2 ^ f))))
-exact-at s t m (negsuc k) f F h = go (either (suc k) f)
+exact-at s t m (negsuc k) f F h = go (lt-or-le f (suc k))
   where
-    go : (suc k ≤ f) ⊎ (f ≤ suc k) → HasValue (round binary64 s (apart (m * 1 * 2 ^ f) (nearestWhole (m * 1 * 2 ^ f) (2 ^ suc k) * 2 ^ suc k)) (2 ^ suc k)) s (apart (m * 1 * 2 ^ f) (nearestWhole (m * 1 * 2 ^ f) (2 ^ suc k) * 2 ^ suc k)) (2 ^ suc k)
-    go (inl l) =
+    go : (f < suc k) ⊎ (suc k ≤ f) → HasValue (round binary64 s (apart (m * 1 * 2 ^ f) (nearestWhole (m * 1 * 2 ^ f) (2 ^ suc k) * 2 ^ suc k)) (2 ^ suc k)) s (apart (m * 1 * 2 ^ f) (nearestWhole (m * 1 * 2 ^ f) (2 ^ suc k) * 2 ^ suc k)) (2 ^ suc k)
+    go (inr l) =
         zero-value s _ (2 ^ suc k) (pow-pos (suc k))
         (whole-apart (m * 1 * 2 ^ f) (m * 1 * 2 ^ (f - suc k)) (2 ^ suc k) (pow-pos (suc k))
         (ap (λ (x : ℕ). m * 1 * 2 ^ x) (sym (back f (suc k) l)) ∙ ap (λ (x : ℕ). m * 1 * x) (pow-add 2 (f - suc k) (suc k)) ∙ sym (mul-assoc (m * 1) (2 ^ (f - suc k)) (2 ^ suc k))))
-    go (inr l) =
+    go (inl lt) =
+        let l = le-of-lt lt in
         let d = 2 ^ suc k in
         let g = suc k - f in
         let n = nearestWhole (m * 1 * 2 ^ f) d in

@@ -18,11 +18,11 @@ no-number : div binary64 (ofBits binary64 0) (ofBits binary64 0) ≡ nan
 unfolding div ofBits
 no-number = refl
 
-nan-test : (b : ℕ) → nanBits binary64 b ≡ ltb 9218868437227405312 (bitAnd b 9223372036854775807)
-nan-test b = nanBits-above binary64 b ∙ ap (λ (x : ℕ). ltb 9218868437227405312 x) (sym (and-mask b 63))
+nan-test : (b : ℕ) → nanBits binary64 b ≡ ltb 0x7ff0_0000_0000_0000 (bitAnd b 0x7fff_ffff_ffff_ffff)
+nan-test b = nanBits-above binary64 b ∙ ap (λ (x : ℕ). ltb 0x7ff0_0000_0000_0000 x) (sym (and-mask b 63))
 
-pub nan-read : (b : ℕ) → 9218868437227405312 < bitAnd b 9223372036854775807 → div binary64 (ofBits binary64 0) (ofBits binary64 0) ≡ ofBits binary64 b
+pub nan-read : (b : ℕ) → 0x7ff0_0000_0000_0000 < bitAnd b 0x7fff_ffff_ffff_ffff → div binary64 (ofBits binary64 0) (ofBits binary64 0) ≡ ofBits binary64 b
 nan-read b h = no-number ∙ sym (nan-of (ofBits binary64 b) (sym (nanBits-is binary64 b) ∙ nan-test b ∙ lt-ltb _ _ h))
 
-pub not-nan : (b : ℕ) → bitAnd b 9223372036854775807 ≤ 9218868437227405312 → T (not (nanBits binary64 b))
+pub not-nan : (b : ℕ) → bitAnd b 0x7fff_ffff_ffff_ffff ≤ 0x7ff0_0000_0000_0000 → T (not (nanBits binary64 b))
 not-nan b h = subst (λ (t : Bool). T (not t)) (sym (nan-test b ∙ le-ltb _ _ h)) tt

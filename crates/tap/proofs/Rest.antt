@@ -6,16 +6,17 @@ use Prim.Native.Nat.{ℕ, zero, suc, _+_, _-_, _*_, _^_, _≤_, _<_}
 use native.Mathlib.Nat.{le-of-eq, le-of-lt, lt-of-lt-of-le, lt-of-le-of-lt, mul-one, zero-mul, mul-comm, mul-assoc, mul-right-comm, mul-left-comm, mul-sub, mul-lt-mul-of-pos-right, lt-of-mul-lt-mul-right, mul-pos, eq-of-mul-eq-mul-right}
 use native.Mathlib.Omega.{arith}
 use lib.IntN.{ℤ, pos, negsuc}
-use lib.Dec.{T, leb, ltb, eqb, ltb→lt, nltb→le, lit≤}
+use lib.Dec.{leb, ltb, eqb, lit≤}
 use lib.Ieee.{Float, nan, inf, fin, binary64, up, down, round, sum, sub, eq, ofInt}
 use lib.Ieee.Fits.{down-pos}
 use lib.Ieee.Exact.{HasValue}
 use lib.Ieee.Scale.{round-same}
 use lib.Ieee.Back.{round-whole}
 use borrow.Author.Tests.{lt-ltb, le-ltb, le-leb, lt-leb, eq-eqb, ne-eqb, eqb-true, eqb-false}
+use Rattle.word.proofs.Order.{lt-or-le}
 use Rattle.tap.specs.Rounding.{leftover, signed}
 
-sub-mul : (a b c : ℕ) → (a - b) * c ≡ a * c - b * c
+pub sub-mul : (a b c : ℕ) → (a - b) * c ≡ a * c - b * c
 sub-mul a b c = mul-comm (a - b) c ∙ mul-sub c a b ∙ ap (λ (x : ℕ). x - c * b) (mul-comm c a) ∙ ap (λ (x : ℕ). a * c - x) (mul-comm c b)
 
 -- A / C is a / d, and B / C is N / d
@@ -51,14 +52,14 @@ module _ (A B C a d N : ℕ) (P : 0 < C) (Q : 0 < d) (hA : A * d ≡ a * C) (hB 
   against s ne = go (order N a ne)
     where
       order : (x y : ℕ) → (x ≡ y → ⊥) → (y < x) ⊎ (x < y)
-      order x y n = pick (ltb y x) (ltb→lt y x) (nltb→le y x)
+      order x y n = pick (lt-or-le y x)
         where
           strict : (x y : ℕ) → (x ≡ y → ⊥) → x ≤ y → x < y
           strict x y n h = omega arith
 
-          pick : (t : Bool) → (T t → y < x) → (T (not t) → x ≤ y) → (y < x) ⊎ (x < y)
-          pick true p q = inl (p tt)
-          pick false p q = inr (strict x y n (q tt))
+          pick : (y < x) ⊎ (x ≤ y) → (y < x) ⊎ (x < y)
+          pick (inl h) = inl h
+          pick (inr h) = inr (strict x y n h)
 
       and-true : (s : Bool) → (s && true) ≡ s
       and-true true = refl
@@ -158,7 +159,7 @@ equal-is (fin s' m e) (fin t' p g) s t a d n Q v w k =
     (crossA (m * up e) d a (down e) (down g) (v .1)) (crossB (p * up g) n (down g) (down e) d (w .1)) k
 
 -- ---- ±n as a float
-of-pos : (n : ℕ) → ofInt binary64 (pos n) ≡ round binary64 false n 1
+pub of-pos : (n : ℕ) → ofInt binary64 (pos n) ≡ round binary64 false n 1
 unfolding ofInt
 of-pos n = refl
 

@@ -1,7 +1,7 @@
--- What the proofs of the small functions cite. Assumes nothing.
+-- A power of 2 by its bits, a whole number of a size and a sign, and a number as a whole one and the rest. Assumes nothing.
 use mathlib.Core.Path.{_≡_, refl, sym, ap, _∙_, subst}
 use mathlib.Core.Bool.{Bool, true, false, not, _&&_, cond}
-use Prim.Native.Nat.{ℕ, zero, suc, _+_, _-_, _*_, _/_, _%_, _≤_, _<_}
+use Prim.Native.Nat.{ℕ, zero, suc, _+_, _-_, _*_, _/_, _%_, _≤_, _<_, _^_}
 use native.Mathlib.Nat.{lt-of-le-of-lt}
 use native.Mathlib.Omega.{arith}
 use lib.IntN.{ℤ, pos, negsuc, negℤ, _-ℤ_, +ℤ-idl}
@@ -16,21 +16,21 @@ use Rattle.tap.specs.Inner.{parted}
 
 -- ---- scaled: 2 ^ k by its bits, a sign of 0, an exponent's field of 1023 + k and digits of 0
 abbrev bits : ℕ → ℕ
-bits k = (1023 + k) * 4503599627370496
+bits k = (1023 + k) * 2 ^ 52
 
-fields : (k : ℕ) → k ≤ 31 → (leb 9223372036854775808 (bits k) ≡ false) × (bits k % 9223372036854775808 / 4503599627370496 ≡ suc (1022 + k)) × (bits k % 4503599627370496 ≡ 0)
-fields k h = (lt-leb 9223372036854775808 (bits k) (low k h), field k h, digits k)
+fields : (k : ℕ) → k ≤ 31 → (leb (2 ^ 63) (bits k) ≡ false) × (bits k % 2 ^ 63 / 2 ^ 52 ≡ suc (1022 + k)) × (bits k % 2 ^ 52 ≡ 0)
+fields k h = (lt-leb (2 ^ 63) (bits k) (low k h), field k h, digits k)
   where
-    low : (k : ℕ) → k ≤ 31 → bits k < 9223372036854775808
+    low : (k : ℕ) → k ≤ 31 → bits k < 2 ^ 63
     low k h = omega arith
 
-    field : (k : ℕ) → k ≤ 31 → bits k % 9223372036854775808 / 4503599627370496 ≡ suc (1022 + k)
+    field : (k : ℕ) → k ≤ 31 → bits k % 2 ^ 63 / 2 ^ 52 ≡ suc (1022 + k)
     field k h = omega arith
 
-    digits : (k : ℕ) → bits k % 4503599627370496 ≡ 0
+    digits : (k : ℕ) → bits k % 2 ^ 52 ≡ 0
     digits k = omega arith
 
-as-fields : (b : ℕ) → ofBits binary64 b ≡ ofFields binary64 (leb 9223372036854775808 b) (b % 9223372036854775808 / 4503599627370496) (b % 4503599627370496)
+as-fields : (b : ℕ) → ofBits binary64 b ≡ ofFields binary64 (leb (2 ^ 63) b) (b % 2 ^ 63 / 2 ^ 52) (b % 2 ^ 52)
 unfolding ofBits
 as-fields b = refl
 
@@ -54,8 +54,8 @@ pub power-is : (k : ℕ) → k ≤ 31 → ofBits binary64 (bits k) ≡ fin false
 power-is k h =
     let f = fields k h in
     as-fields (bits k)
-    ∙ ap (λ (s : Bool). ofFields binary64 s (bits k % 9223372036854775808 / 4503599627370496) (bits k % 4503599627370496)) (f .0)
-    ∙ ap (λ (x : ℕ). ofFields binary64 false x (bits k % 4503599627370496)) (f .1)
+    ∙ ap (λ (s : Bool). ofFields binary64 s (bits k % 2 ^ 63 / 2 ^ 52) (bits k % 2 ^ 52)) (f .0)
+    ∙ ap (λ (x : ℕ). ofFields binary64 false x (bits k % 2 ^ 52)) (f .1)
     ∙ ap (λ (t : ℕ). ofFields binary64 false (suc (1022 + k)) t) (f .2)
     ∙ of-power k h
 
@@ -63,24 +63,24 @@ pub power-number : (k : ℕ) → k ≤ 31 → T (not (nanBits binary64 (bits k))
 unfolding nanBits
 power-number k h =
     let f = fields k h in
-    subst (λ (t : ℕ). T (not (eqb (bits k % 9223372036854775808 / 4503599627370496) 2047 && not (eqb t 0)))) (sym (f .2)) (no-digits (eqb (bits k % 9223372036854775808 / 4503599627370496) 2047))
+    subst (λ (t : ℕ). T (not (eqb (bits k % 2 ^ 63 / 2 ^ 52) 2047 && not (eqb t 0)))) (sym (f .2)) (no-digits (eqb (bits k % 2 ^ 63 / 2 ^ 52) 2047))
   where
     no-digits : (b : Bool) → T (not (b && false))
     no-digits true = tt
     no-digits false = tt
 
 -- ---- with_sign
-wide : (n : ℕ) → n ≤ 4294967296 → n < 9223372036854775808
+wide : (n : ℕ) → n ≤ 2 ^ 32 → n < 2 ^ 63
 wide n h = lt-of-le-of-lt h (lit< tt)
 
-pub neg-is : (n : ℕ) → n ≤ 4294967296 → toZ w64 0 -ℤ toZ w64 n ≡ negℤ (pos n)
+pub neg-is : (n : ℕ) → n ≤ 2 ^ 32 → toZ w64 0 -ℤ toZ w64 n ≡ negℤ (pos n)
 neg-is n h = ap (λ (z : ℤ). pos 0 -ℤ z) (toZ-pos w64 n (wide n h)) ∙ +ℤ-idl (negℤ (pos n))
 
-pub neg-held : (n : ℕ) → n ≤ 4294967296 → SFits w64 (negℤ (pos n))
+pub neg-held : (n : ℕ) → n ≤ 2 ^ 32 → SFits w64 (negℤ (pos n))
 neg-held zero h = record { sfits = lit< tt }
 neg-held (suc n) h = record { sfits = lt-of-le-of-lt (down n h) (lit< tt) }
   where
-    down : (n : ℕ) → suc n ≤ 4294967296 → n ≤ 4294967296
+    down : (n : ℕ) → suc n ≤ 2 ^ 32 → n ≤ 2 ^ 32
     down n h = omega arith
 
 -- ---- part

@@ -1,6 +1,6 @@
 -- What specs/Claims.antt says of N and of the leftover, of `roundedTap`. Assumes nothing.
 use mathlib.Core.Path.{_≡_, refl, sym, ap, _∙_, subst}
-use mathlib.Core.Bool.{Bool, true, false, not, _&&_, _||_, Bool·beq, cond, true≢false, false≢true}
+use mathlib.Core.Bool.{Bool, true, false, not, _&&_, _||_, Bool·beq, cond, false≢true}
 use Prim.Native.Nat.{ℕ, zero, suc, _+_, _*_, _^_, _≤_, _<_}
 use native.Mathlib.Nat.{le-trans, le-of-eq, zero-mul, mul-one, one-mul, mul-comm, mul-right-comm, mul-pos, mul-le-mul-right, le-of-mul-le-mul-right}
 use native.Mathlib.Omega.{arith}
@@ -10,9 +10,9 @@ use lib.Ieee.{Float, nan, inf, fin, binary64, up, down, round, eq, le, fits, isN
 use lib.Ieee.Fits.{down-pos}
 use lib.Ieee.Exact.{HasValue}
 use lib.Ieee.Order.{round-mono}
-use borrow.Author.Tests.{ltb-false, le-ltb, eqb-true, eqb-false, eq-eqb, ne-eqb}
+use borrow.Author.Tests.{not-false, ltb-false, le-ltb, eqb-true, eqb-false, eq-eqb, ne-eqb}
 use Rattle.refusal.specs.Answer.{given}
-use Rattle.refusal.proofs.Checks.{check-passes, given-if}
+use Rattle.refusal.proofs.Checks.{given-same, check-passes, given-if}
 use Rattle.tap.specs.Rounding.{TapResult, exact, rounded, nearestWhole, signed, leftover, split, finite, sizeOf, outside, resultOf, roundedTap, absOf, wholeOf, leftOf}
 use Rattle.tap.specs.Claims.{numerator, denominator, NearestAway, Exactly, AtMostHalf, ExactLeftover}
 use Rattle.tap.proofs.Whole.{nearest-near, nearest-whole}
@@ -26,17 +26,10 @@ passed F x c h =
     let a = given-if (ltb 31 F) 4 _ c (sym (rounded-is F x) ∙ h) in
     let b = given-if (not (finite x)) 5 _ c (a .1) in
     let d = given-if (outside F x) 6 _ c (b .1) in
-    (ltb-false 31 F (a .0), unnot (finite x) (b .0), d .0, inner (resultOf F x) c (d .1))
-  where
-    unnot : (b : Bool) → not b ≡ false → b ≡ true
-    unnot true h = refl
-    unnot false h = absurd (true≢false h)
-
-    inner : (a b : TapResult) → given a ≡ given b → a ≡ b
-    inner a b h = cc
+    (ltb-false 31 F (a .0), not-false (finite x) (b .0), d .0, given-same (resultOf F x) c (d .1))
 
 -- the two cases of `split`
-whole-is : (s : Bool) (a d n : ℕ) → wholeOf (split s a d n) ≡ signed s n
+pub whole-is : (s : Bool) (a d n : ℕ) → wholeOf (split s a d n) ≡ signed s n
 whole-is s a d n = ap wholeOf (split-is s a d n) ∙ go (eqb (n * d) a)
   where
     go : (b : Bool) → wholeOf (cond b (exact (signed s n)) (rounded (signed s n) (leftover s a d n))) ≡ signed s n
@@ -216,7 +209,7 @@ minus-zero F h =
     none : sizeOf F (fin true 0 (pos 0)) ≡ 0
     none = size-is F true 0 (pos 0) ∙ nearest-whole (0 * 1 * 2 ^ F) 0 1 (lit< tt) (zero-mul (2 ^ F))
 
-    low : (n : ℕ) → n ≡ 0 → n ≤ 2147483648
+    low : (n : ℕ) → n ≡ 0 → n ≤ 2 ^ 31
     low n e = omega arith
 
 -- no leftover is a not-a-number

@@ -111,15 +111,6 @@ nearest-ge a d c D h =
     halve : (n c : ℕ) → c * 2 ≤ n * 2 + 1 → c ≤ n
     halve n c h = omega arith
 
--- a nearest number up to c bounds the fraction
-pub bounded : (a d c : ℕ) → 0 < d → nearestWhole a d ≤ c → a * 2 ≤ (c * 2 + 1) * d
-bounded a d c D h =
-    let n = nearestWhole a d in
-    le-trans (nearest-near a d D .1) (le-trans (le-of-eq (ap (λ (x : ℕ). x + d) (scale n d) ∙ sym (up-one (n * 2) d))) (mul-le-mul-right d (go n c h)))
-  where
-    go : (n c : ℕ) → n ≤ c → n * 2 + 1 ≤ c * 2 + 1
-    go n c h = omega arith
-
 -- a whole number is its own nearest
 pub nearest-whole : (a c d : ℕ) → 0 < d → a ≡ c * d → nearestWhole a d ≡ c
 nearest-whole a c d D h =

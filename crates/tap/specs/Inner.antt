@@ -1,4 +1,4 @@
--- What the internal functions of the crate give. Definitions only.
+-- What the steps of rounding a tap give. Definitions only.
 use Prim.Native.Nat.{ℕ, _*_}
 use mathlib.Core.Bool.{false, cond}
 use lib.IntN.{ℤ, pos}

@@ -10,5 +10,5 @@ pub fn is_finite(x: f64) -> bool
         return false;
     }
     let bits = f64::to_bits(x);
-    bits / 4503599627370496 % 2048 != 2047
+    bits / 0x10_0000_0000_0000 % 0x800 != 0x7ff
 }

@@ -4,7 +4,7 @@ pub mod pattern;
 
 ghost use mathlib.Core.Path.{_≡_};
 ghost use mathlib.Core.Bool.{true, false};
-ghost use Prim.Native.Nat.{_≤_};
+ghost use Prim.Native.Nat.{_≤_, _^_};
 ghost use lib.IntN.{pos};
 ghost use lib.Ieee as Ieee;
 ghost use lib.Ieee.{fin, binary64};
@@ -21,24 +21,24 @@ pub enum RoundedTap {
     Refused(Refusal),
 }
 
-// x without its sign, but that -0 keeps it. Internal: `tap_set` compares leftovers by it.
+// x without its sign, but that -0 keeps it.
 pub fn magnitude(x: f64) -> f64
     ensures { λ r. ⌜ r ≡ magnitudeOf x ⌝ }
 {
     if x < 0.0 { -x } else { x }
 }
 
-// x * 2^f
+// x * 2^f. A power of 2 has no digits beside its exponent, which stands above 52 bits with 1023 added.
 fn scaled(x: f64, f: u32) -> f64
     requires { ⌜ f ≤ 31 ⌝ }
     ensures { λ r. ⌜ r ≡ Ieee.mul binary64 x (fin false 1 (pos f)) ⌝ }
 {
-    x * f64::from_bits((1023 + (f as u64)) * 4503599627370496)
+    x * f64::from_bits((1023 + (f as u64)) * 0x10_0000_0000_0000)
 }
 
 // The half rule: the size that q + 1/2 goes to. Away from zero.
 fn half(q: u64) -> u64
-    requires { ⌜ q ≤ 4294967296 ⌝ }
+    requires { ⌜ q ≤ 2 ^ 32 ⌝ }
     ensures { λ r. ⌜ r ≡ halfOf q ⌝ }
 {
     q + 1
@@ -69,7 +69,7 @@ fn nearest(x: f64) -> u64
 
 // The whole number of a size and a sign.
 fn with_sign(negative: bool, size: u64) -> i64
-    requires { ⌜ size ≤ 4294967296 ⌝ }
+    requires { ⌜ size ≤ 2 ^ 32 ⌝ }
     ensures { λ r. ⌜ r ≡ signed negative size ⌝ }
 {
     if negative {

@@ -1,6 +1,6 @@
 -- The sums that can be divided by. Assumes nothing.
 use mathlib.Core.Path.{_≡_, refl, sym, ap, _∙_}
-use mathlib.Core.Bool.{Bool, true, false, not, _&&_, _||_, Bool·beq, true≢false, false≢true}
+use mathlib.Core.Bool.{Bool, true, false, not, _&&_, _||_, Bool·beq, or-true, true≢false, false≢true}
 use Prim.Native.Nat.{ℕ, zero, suc, _*_, _<_}
 use native.Mathlib.Nat.{zero-mul, mul-pos, zero-lt-suc}
 use native.Mathlib.Omega.{arith}
@@ -17,10 +17,6 @@ use Rattle.tap_normalise.specs.Normalised.{unusable}
 ne-at : (s : Bool) (m : ℕ) (e : ℤ) → ne (fin s m e) nought ≡ not (eqb (m * up e * 1) (0 * 1 * down e) && (Bool·beq s false || eqb (m * up e * 1) 0))
 unfolding ne
 ne-at s m e = refl
-
-or-true : (b : Bool) → (b || true) ≡ true
-or-true true = refl
-or-true false = refl
 
 both-zero : (s : Bool) (A B : ℕ) → A ≡ 0 → B ≡ 0 → (eqb A B && (Bool·beq s false || eqb A 0)) ≡ true
 both-zero s A B p q =

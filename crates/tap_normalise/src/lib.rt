@@ -47,7 +47,7 @@ pub fn is_usable(sum: f64) -> bool
     }
 }
 
-// Each tap divided by the sum, into the front of the table. Internal: the caller sees to the room.
+// Each tap divided by the sum, into the front of the table.
 pub fn divide(taps: &[f64], sum: f64, table: &mut [f64])
     requires { ⌜ length (now taps) ≤ length (now table) ⌝ }
     ensures { λ r. ⌜ now (table .exit) ≡ quotients sum (now (taps .entry)) ++ drop (length (now (taps .entry))) (now (table .entry)) ⌝ }

@@ -7,11 +7,10 @@ use Prim.Native.Nat.{ℕ, zero, suc, _+_, _-_, _≤_, _<_}
 use native.Mathlib.Omega.{arith}
 use native.Mathlib.Nat.{zero-lt-suc, not-suc-le-zero, lt-of-lt-of-le, le-trans, le-of-lt, le-of-eq}
 use lib.IntN.{ℤ, pos}
-use lib.ListN.{length, getD, drop, length-append, length-drop, List·getD-append, List·getD-map}
+use lib.ListN.{length, getD, drop, length-append, length-drop, List·getD-append, List·getD-map, length-map}
 use lib.Seq.{getD-append-add, getD-drop}
 use lib.Ieee.{Float, nan}
 use Rattle.refusal.specs.Answer.{given, refused, filled}
-use Rattle.refusal.proofs.Tables.{length-map}
 use Rattle.tap.specs.Rounding.{exact, finite, resultOf, leftOf}
 use Rattle.tap.proofs.Value.{nought}
 use Rattle.tap.proofs.Theorems.{finite-number, left-finite}
@@ -21,14 +20,10 @@ use Rattle.tap_set.specs.Set.{coefficientsOf, TapsRounded}
 use Rattle.tap_set.specs.Figures.{three}
 use Rattle.tap_set.specs.Claims.{Binary64, Rounds, leftoverAt, EarliestTap, LargestLeftover, SetAccepted, SetClaims}
 use Rattle.tap_set.proofs.Largest.{AtMost, First, Best, smaller-test, at-most-test}
-use Rattle.tap_set.proofs.Rounds.{whole}
+use Rattle.tap_set.proofs.Rounds.{whole, none-whole}
 use Rattle.tap_set.proofs.Figures.{set-figures, three-binary64}
 use Rattle.tap_set.proofs.Refusals.{length-used, is-accepted, accepts-only, refusals}
 use Rattle.tap_set.proofs.Theorems.{leftAt, Accepted, accepted, divisor-is, best-leftover, report-finite, rounds-at, used-fit, fits-at, exact-of}
-
-none-whole : (F : ℕ) → whole F nan ≡ pos 0
-unfolding resultOf
-none-whole F = refl
 
 module _ (F : ℕ) (normalised : Bool) (taps : List Float) (table : List ℤ) (r : Report) (table′ : List ℤ) (t : TapsRounded F normalised taps table (given r) table′) where
   abbrev xs : List Float
@@ -47,13 +42,13 @@ module _ (F : ℕ) (normalised : Bool) (taps : List Float) (table : List ℤ) (r
         result = resultOf F (getD xs i nan);
         rounded = record { answer = sym (rounds-at F normalised taps (length table) r passed i k) };
         held = ap (λ (l : List ℤ). getD l i (pos 0)) written
-            ∙ List·getD-append (coefficientsOf F xs) (drop (length (coefficientsOf F xs)) table) (pos 0) i (lt-of-lt-of-le k (le-of-eq (sym (length-map (whole F) xs))))
+            ∙ List·getD-append (coefficientsOf F xs) (drop (length (coefficientsOf F xs)) table) (pos 0) i (lt-of-lt-of-le k (le-of-eq (sym (length-map xs (whole F)))))
             ∙ ap (getD (coefficientsOf F xs) i) (sym (none-whole F))
             ∙ List·getD-map (whole F) xs i nan;
       }
 
   count : length (coefficientsOf F xs) ≡ length taps
-  count = length-map (whole F) xs ∙ length-used normalised taps
+  count = length-map xs (whole F) ∙ length-used normalised taps
 
   pub past : (length table′ ≡ length table) × ((i : ℕ) → length taps ≤ i → getD table′ i (pos 0) ≡ getD table i (pos 0))
   past = (

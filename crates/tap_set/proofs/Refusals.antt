@@ -1,21 +1,21 @@
 -- A set of taps by the rows of the table that turn it down, and the sets that none does. Assumes nothing.
-use mathlib.Core.Path.{_≡_, refl, sym, ap, _∙_, subst}
-use mathlib.Core.Logic.{_↔_}
-use mathlib.Core.Bool.{Bool, true, false, not, _&&_, cond, true≢false, false≢true}
-use mathlib.Core.List.{List, [], _∷_}
-use Prim.Native.Nat.{ℕ, zero, suc, _+_, _≤_, _<_}
-use native.Mathlib.Nat.{zero-add, zero-lt-suc, le-of-suc-le-suc, not-suc-le-zero, lt-of-lt-of-le, le-of-eq}
+use mathlib.Core.Path.{_≡_, refl, sym, ap, _∙_}
+use mathlib.Core.Logic.{_↔_, Iff·trans}
+use mathlib.Core.Bool.{Bool, true, false, not, _&&_, true≢false, false≢true}
+use mathlib.Core.List.{List}
+use Prim.Native.Nat.{ℕ, _≤_, _<_}
+use native.Mathlib.Nat.{lt-trans, lt-of-lt-of-le, le-of-eq, pos-of-ne-zero}
 use native.Mathlib.Omega.{arith}
 use lib.IntN.{ℤ}
 use lib.Dec.{ltb, eqb}
-use lib.ListN.{length, getD}
+use lib.ListN.{length, getD, length-map}
 use lib.Ieee.{Float, nan}
 use borrow.Author.Tests.{ltb-true, lt-ltb, eqb-true, eqb-false, eq-eqb, not-true}
 use Rattle.word.specs.Bounds.{Coefficient, withinBounds}
 use Rattle.word.proofs.Bounds.{within-bounds, bounds-within}
-use Rattle.refusal.specs.Answer.{Answer, given, refused, refuseIf, refuseAt, Place, nowhere, at-place, lowestFrom, lowest}
-use Rattle.refusal.proofs.Checks.{check-applies, check-passes, lowest-none-at}
-use Rattle.refusal.proofs.Tables.{length-map}
+use Rattle.refusal.specs.Answer.{Answer, given, refused, refuseIf, refuseAt, Place, nowhere, at-place, lowest}
+use Rattle.refusal.proofs.Checks.{given-refused, check-applies, check-passes, lowest-none-at}
+use Rattle.refusal.proofs.Lowest.{lowest-is, is-lowest, is-nowhere}
 use Rattle.tap.specs.Rounding.{finite, outside, resultOf, roundedTap}
 use Rattle.tap.specs.Claims.{NearestAway}
 use Rattle.tap.proofs.Answer.{of-finite}
@@ -25,13 +25,13 @@ use Rattle.tap_set.specs.declared.Report.{Report}
 use Rattle.tap_set.specs.Set.{reportOf, bounded, roundedTaps}
 use Rattle.tap_set.specs.Inner.{settled}
 use Rattle.tap_set.specs.Claims.{SetSized, EachFinite, Divisible, SetAccepted, OutsideBounds, LowestPlace, SetRefusals}
-use Rattle.tap_set.proofs.Rounds.{notFinite, unnot}
+use Rattle.tap_set.proofs.Rounds.{notFinite, all-finite}
 use Rattle.tap_set.proofs.Settled as Settled
 use Rattle.tap_set.proofs.Theorems.{Accepted, bounded-is, used-finite}
 
 pub length-used : (normalised : Bool) (taps : List Float) → length (used normalised taps) ≡ length taps
 length-used false taps = refl
-length-used true taps = length-map _ taps
+length-used true taps = length-map taps _
 
 no-one : _≡_ {A = ℕ} 0 1 → ⊥
 no-one z = omega arith
@@ -40,94 +40,34 @@ is-false : (b : Bool) → (b ≡ true → ⊥) → b ≡ false
 is-false true h = absurd (h refl)
 is-false false h = refl
 
--- ---- the lowest place that breaks a rule
-module _ (breaks : Float → Bool) where
-  pub none-breaks : (k : ℕ) (xs : List Float) → ((i : ℕ) → i < length xs → breaks (getD xs i nan) ≡ false) → lowestFrom k breaks xs ≡ nowhere
-  unfolding lowestFrom
-  none-breaks k [] h = refl
-  none-breaks k (x ∷ xs) h =
-      ap (λ (b : Bool). cond b (at-place k) (lowestFrom (suc k) breaks xs)) (h 0 (zero-lt-suc (length xs)))
-      ∙ none-breaks (suc k) xs (λ i l. h (suc i) (up i (length xs) l))
+-- ---- the lowest place that breaks a rule, the rule being in words
+module _ (breaks : Float → Bool) (Breaks : Float → Type 0) (xs : List Float) (agree : (i : ℕ) → i < length xs → breaks (getD xs i nan) ≡ true ↔ Breaks (getD xs i nan)) where
+  pub lowest-place : (place : ℕ) → lowest breaks xs ≡ at-place place ↔ LowestPlace Breaks xs place
+  lowest-place place = (there, here)
     where
-      up : (i n : ℕ) → i < n → suc i < suc n
-      up i n h = omega arith
+      there : lowest breaks xs ≡ at-place place → LowestPlace Breaks xs place
+      there h =
+          let w = lowest-is nan breaks xs place h in
+          record {
+            within = w .within;
+            broken = agree place (w .within) .0 (w .holds);
+            earlier = λ j l b. true≢false (sym (agree j (lt-trans l (w .within)) .1 b) ∙ w .not-before j l);
+          }
 
-  first-at : (k : ℕ) (xs : List Float) (p : ℕ) → p < length xs → breaks (getD xs p nan) ≡ true → ((j : ℕ) → j < p → breaks (getD xs j nan) ≡ true → ⊥) → lowestFrom k breaks xs ≡ at-place (k + p)
-  unfolding lowestFrom
-  first-at k [] p w b e = absurd (not-suc-le-zero w)
-  first-at k (x ∷ xs) zero w b e = ap (λ (t : Bool). cond t (at-place k) (lowestFrom (suc k) breaks xs)) b ∙ ap at-place (same k)
-    where
-      same : (k : ℕ) → k ≡ k + 0
-      same k = omega arith
-  first-at k (x ∷ xs) (suc p) w b e =
-      ap (λ (t : Bool). cond t (at-place k) (lowestFrom (suc k) breaks xs)) (is-false (breaks x) (e 0 (zero-lt-suc p)))
-      ∙ first-at (suc k) xs p (le-of-suc-le-suc w) b (λ j l. e (suc j) (up j p l))
-      ∙ ap at-place (same k p)
-    where
-      up : (i n : ℕ) → i < n → suc i < suc n
-      up i n h = omega arith
-
-      same : (k p : ℕ) → suc k + p ≡ k + suc p
-      same k p = omega arith
-
-  found-at : (k : ℕ) (xs : List Float) (q : ℕ) → lowestFrom k breaks xs ≡ at-place q → (p : ℕ) × (q ≡ k + p) × LowestPlace (λ (x : Float). breaks x ≡ true) xs p
-  unfolding lowestFrom
-  found-at k [] q h = let z : _≡_ {A = ℕ} 0 1 = cc in absurd (no-one z)
-  found-at k (x ∷ xs) q h = go (breaks x) refl h (found-at (suc k) xs q)
-    where
-      here : (k q : ℕ) → k ≡ q → q ≡ k + 0
-      here k q e = omega arith
-
-      later : (k p q : ℕ) → q ≡ suc k + p → q ≡ k + suc p
-      later k p q e = omega arith
-
-      up : (i n : ℕ) → i < n → suc i < suc n
-      up i n h = omega arith
-
-      go : (b : Bool) → breaks x ≡ b → cond b (at-place k) (lowestFrom (suc k) breaks xs) ≡ at-place q
-          → (lowestFrom (suc k) breaks xs ≡ at-place q → (p : ℕ) × (q ≡ suc k + p) × LowestPlace (λ (x : Float). breaks x ≡ true) xs p)
-          → (p : ℕ) × (q ≡ k + p) × LowestPlace (λ (x : Float). breaks x ≡ true) (x ∷ xs) p
-      go true e h rest = (0, here k q (cc), record { within = zero-lt-suc (length xs); broken = e; earlier = λ j l. absurd (not-suc-le-zero l) })
-      go false e h rest =
-          let r = rest h in (
-            suc (r .0),
-            later k (r .0) q (r .1),
-            record { within = up (r .0) (length xs) (r .2 .within); broken = r .2 .broken; earlier = before (r .0) (r .2 .earlier) },
-          )
-        where
-          before : (p : ℕ) → ((j : ℕ) → j < p → breaks (getD xs j nan) ≡ true → ⊥) → (j : ℕ) → j < suc p → breaks (getD (x ∷ xs) j nan) ≡ true → ⊥
-          before p w zero l b = true≢false (sym b ∙ e)
-          before p w (suc j) l b = w j (le-of-suc-le-suc l) b
-
-  -- the rule in words
-  module _ (Breaks : Float → Type 0) (xs : List Float) (agree : (i : ℕ) → i < length xs → breaks (getD xs i nan) ≡ true ↔ Breaks (getD xs i nan)) where
-    lower : {i j k : ℕ} → i < j → j < k → i < k
-    lower h l = omega arith
-
-    pub lowest-place : (place : ℕ) → lowest breaks xs ≡ at-place place ↔ LowestPlace Breaks xs place
-    lowest-place place = (there, here)
-      where
-        here : LowestPlace Breaks xs place → lowest breaks xs ≡ at-place place
-        here w =
-            first-at 0 xs place (w .within) (agree place (w .within) .1 (w .broken)) (λ j l b. w .earlier j l (agree j (lower l (w .within)) .0 b))
-            ∙ ap at-place (zero-add place)
-
-        there : lowest breaks xs ≡ at-place place → LowestPlace Breaks xs place
-        there h =
-            let r = found-at 0 xs place h in
-            subst (LowestPlace Breaks xs) (sym (r .1 ∙ zero-add (r .0)))
-            (record {
-              within = r .2 .within;
-              broken = agree (r .0) (r .2 .within) .0 (r .2 .broken);
-              earlier = λ j l b. r .2 .earlier j l (agree j (lower l (r .2 .within)) .1 b);
-            })
+      here : LowestPlace Breaks xs place → lowest breaks xs ≡ at-place place
+      here w =
+          is-lowest nan breaks xs place (record {
+            within = w .within;
+            holds = agree place (w .within) .1 (w .broken);
+            not-before = λ j l. is-false (breaks (getD xs j nan)) (λ b. w .earlier j l (agree j (lt-trans l (w .within)) .0 b));
+          })
 
 -- ---- answers that are not turned down with a number
 abbrev Never : {A : Type 0} → ℕ → Answer A → Type 0
 Never k a = (place : ℕ) → a ≡ refused k place → ⊥
 
 never-given : {A : Type 0} (k : ℕ) (r : A) → Never k (given r)
-never-given k r place q = let z : _≡_ {A = ℕ} 0 1 = cc in no-one z
+never-given k r place q = given-refused r k place q
 
 never-if : {A : Type 0} (k n : ℕ) (b : Bool) (rest : Answer A) → eqb n k ≡ false → Never k rest → Never k (refuseIf b n rest)
 never-if k n true rest d w place q = eqb-false n k d (cc)
@@ -148,9 +88,6 @@ if-row a false n rest w e = (λ q. absurd (w 0 (sym e ∙ q)), λ h. absurd (fal
 at-row : {A : Type 0} (a : Answer A) (p : Place) (n : ℕ) (rest : Answer A) → Never n rest → a ≡ refuseAt p n rest → (place : ℕ) → a ≡ refused n place ↔ p ≡ at-place place
 at-row a nowhere n rest w e place = (λ q. absurd (w place (sym e ∙ q)), λ h. let z : _≡_ {A = ℕ} 0 1 = cc in absurd (no-one z))
 at-row a (at-place j) n rest w e place = (λ q. let z : refused n j ≡ refused n place = sym e ∙ q in cc, λ h. cc)
-
-both : {A B C : Type 0} → A ↔ B → B ↔ C → A ↔ C
-both p q = (λ a. q .0 (p .0 a), λ c. p .1 (q .1 c))
 
 -- ---- N of a finite number, and the check on it
 outside-words : (F : ℕ) (x : Float) → F ≤ 31 → finite x ≡ true → outside F x ≡ true ↔ OutsideBounds F x
@@ -188,7 +125,7 @@ module _ (F : ℕ) (normalised : Bool) (taps : List Float) where
   never-settled k b c d = never-same k _ _ (Settled.settled-open F normalised taps) (never-at k 5 (lowest notFinite taps) sum-row b (never-sum k c d))
 
   finite-none : EachFinite taps → lowest notFinite taps ≡ nowhere
-  finite-none n = none-breaks notFinite 0 taps (λ i h. ap not (n i h))
+  finite-none n = is-nowhere nan notFinite taps 0 (λ i h. ap not (n i h))
 
   finite-open : EachFinite taps → settled F normalised taps ≡ sum-row
   finite-open n = Settled.settled-open F normalised taps ∙ ap (λ (p : Place). refuseAt p 5 sum-row) (finite-none n)
@@ -200,7 +137,7 @@ usable-sum true taps d = d .by-sum refl
 
 none-infinite : (normalised : Bool) (taps : List Float) → Divisible normalised taps → lowest (λ (q : Float). normalised && infinite q) (used normalised taps) ≡ nowhere
 none-infinite false taps d = Settled.never 0 taps
-none-infinite true taps d = none-breaks infinite 0 (used true taps) (λ i h. d .quotients-number refl i (lt-of-lt-of-le h (le-of-eq (length-used true taps))))
+none-infinite true taps d = is-nowhere nan infinite (used true taps) 0 (λ i h. d .quotients-number refl i (lt-of-lt-of-le h (le-of-eq (length-used true taps))))
 
 never-plain : (F : ℕ) (normalised : Bool) (taps : List Float) → normalised ≡ false → Never 7 (settled F normalised taps)
 never-plain F true taps n = absurd (true≢false n)
@@ -219,8 +156,7 @@ module _ (F : ℕ) (normalised : Bool) (taps : List Float) (n : EachFinite taps)
 
   pub used-number : (i : ℕ) → i < length (used normalised taps) → finite (getD (used normalised taps) i nan) ≡ true
   used-number i h =
-      unnot (finite (getD (used normalised taps) i nan))
-      (lowest-none-at nan notFinite 0 (used normalised taps) i (used-finite normalised taps (finite-none F normalised taps n) (usable-sum normalised taps d) (none-infinite normalised taps d) .0) h)
+      all-finite (used normalised taps) (used-finite normalised taps (finite-none F normalised taps n) (usable-sum normalised taps d) (none-infinite normalised taps d) .0) i h
 
 -- ---- the claims
 module _ (F : ℕ) (normalised : Bool) (taps : List Float) (room : ℕ) where
@@ -234,7 +170,7 @@ module _ (F : ℕ) (normalised : Bool) (taps : List Float) (room : ℕ) where
   is-accepted w =
       sym (sized-open (w .sized))
       ∙ last-open F normalised taps (w .each-finite) (w .divisible)
-      ∙ ap (λ (p : Place). refuseAt p 6 (given (reportOf F (divisorOf normalised taps) (used normalised taps)))) (none-breaks (outside F) 0 (used normalised taps) inside)
+      ∙ ap (λ (p : Place). refuseAt p 6 (given (reportOf F (divisorOf normalised taps) (used normalised taps)))) (is-nowhere nan (outside F) (used normalised taps) 0 inside)
     where
       inside : (i : ℕ) → i < length (used normalised taps) → outside F (getD (used normalised taps) i nan) ≡ false
       inside i h =
@@ -245,8 +181,8 @@ module _ (F : ℕ) (normalised : Bool) (taps : List Float) (room : ℕ) where
 
   pub accepts-only : (r : Report) → Accepted F normalised taps room r → SetAccepted F normalised taps room
   accepts-only r w = record {
-    sized = record { some-taps = some (length taps) (w .some-taps); at-most-256 = at-most (length taps) (w .few-taps); room-for = w .room-for; fraction-bits = w .few-bits };
-    each-finite = λ i h. unnot (finite (getD taps i nan)) (lowest-none-at nan notFinite 0 taps i (w .taps-finite) h);
+    sized = record { some-taps = pos-of-ne-zero (w .some-taps); at-most-256 = at-most (length taps) (w .few-taps); room-for = w .room-for; fraction-bits = w .few-bits };
+    each-finite = all-finite taps (w .taps-finite);
     divisible = record {
       by-sum = λ n. ap (λ (b : Bool). b && unusable (sumOf taps)) (sym n) ∙ w .usable;
       quotients-number = λ n i h. ap (λ (b : Bool). b && infinite (getD (used normalised taps) i nan)) (sym n)
@@ -258,17 +194,13 @@ module _ (F : ℕ) (normalised : Bool) (taps : List Float) (room : ℕ) where
       at-most : (n : ℕ) → n ≤ Settled.most-taps → n ≤ 256
       at-most n h = omega arith
 
-      some : (n : ℕ) → (n ≡ 0 → ⊥) → 0 < n
-      some zero h = absurd (h refl)
-      some (suc n) h = zero-lt-suc n
-
       counted : (i : ℕ) → i < length taps → i < length (used normalised taps)
       counted i h = lt-of-lt-of-le h (le-of-eq (sym (length-used normalised taps)))
 
       inside : (i : ℕ) → i < length taps → (N : ℤ) → NearestAway F (getD (used normalised taps) i nan) N → Coefficient N
       inside i h N near =
           let x = getD (used normalised taps) i nan in
-          let number : finite x ≡ true = unnot (finite x) (lowest-none-at nan notFinite 0 (used normalised taps) i (w .numbers) (counted i h)) in
+          let number : finite x ≡ true = all-finite (used normalised taps) (w .numbers) i (counted i h) in
           let o : outside F x ≡ false = lowest-none-at nan (outside F) 0 (used normalised taps) i (w .inside) (counted i h) in
           go (withinBounds N) refl (λ v. true≢false (sym (outside-words F x (w .few-bits) number .1 v) ∙ o))
         where
@@ -294,7 +226,7 @@ module _ (F : ℕ) (normalised : Bool) (taps : List Float) (room : ℕ) where
 
     no-taps : a ≡ refused 1 0 ↔ length taps ≡ 0
     no-taps =
-        both
+        Iff·trans
         (if-row a (eqb n 0) 1 many-row (never-if 1 2 (ltb Settled.most-taps n) room-row refl (never-room 1 refl refl (never-settled F normalised taps 1 refl refl refl))) (e ∙ Settled.all-is F normalised taps room))
         (eqb-true n 0, eq-eqb n 0)
 
@@ -315,18 +247,18 @@ module _ (F : ℕ) (normalised : Bool) (taps : List Float) (room : ℕ) where
 
     short-table : 0 < length taps → length taps ≤ 256 → a ≡ refused 3 0 ↔ room < length taps
     short-table h l =
-        both
+        Iff·trans
         (if-row a (ltb room n) 3 bits-row (never-if 3 4 (ltb 31 F) _ refl (never-settled F normalised taps 3 refl refl refl)) (e ∙ Settled.few-taps F normalised taps room (not-none h) l))
         (ltb-true room n, lt-ltb room n)
 
     fraction-bits : 0 < length taps → length taps ≤ 256 → length taps ≤ room → a ≡ refused 4 0 ↔ 31 < F
     fraction-bits h l k =
-        both (if-row a (ltb 31 F) 4 _ (never-settled F normalised taps 4 refl refl refl) (e ∙ Settled.with-room F normalised taps room (not-none h) l k))
+        Iff·trans (if-row a (ltb 31 F) 4 _ (never-settled F normalised taps 4 refl refl refl) (e ∙ Settled.with-room F normalised taps room (not-none h) l k))
         (ltb-true 31 F, lt-ltb 31 F)
 
     not-finite : SetSized F taps room → (place : ℕ) → a ≡ refused 5 place ↔ LowestPlace (λ (x : Float). finite x ≡ false) taps place
     not-finite s place =
-        both
+        Iff·trans
         (at-row a (lowest notFinite taps) 5 (sum-row F normalised taps) (never-sum F normalised taps 5 refl refl) (e ∙ sym (sized-open s) ∙ Settled.settled-open F normalised taps) place)
         (lowest-place notFinite (λ (x : Float). finite x ≡ false) taps (λ i h. (not-true (finite (getD taps i nan)), ap not)) place)
 
@@ -339,7 +271,7 @@ module _ (F : ℕ) (normalised : Bool) (taps : List Float) (room : ℕ) where
 
       infinite-quotient : normalised ≡ true → unusable (sumOf taps) ≡ false → (place : ℕ) → a ≡ refused 7 place ↔ LowestPlace (λ (x : Float). infinite x ≡ true) (used normalised taps) place
       infinite-quotient m u place =
-          both
+          Iff·trans
           (at-row a (lowest (λ (q : Float). normalised && infinite q) (used normalised taps)) 7 (last F normalised taps) (never-last F normalised taps 7 refl)
           (opened ∙ check-passes (normalised && unusable (sumOf taps)) 7 _ (ap (λ (b : Bool). b && unusable (sumOf taps)) m ∙ u)) place)
           (lowest-place (λ (q : Float). normalised && infinite q) (λ (x : Float). infinite x ≡ true) (used normalised taps) (λ i h. asked (infinite (getD (used normalised taps) i nan))) place)
@@ -349,7 +281,7 @@ module _ (F : ℕ) (normalised : Bool) (taps : List Float) (room : ℕ) where
 
       out-of-bounds : Divisible normalised taps → (place : ℕ) → a ≡ refused 6 place ↔ LowestPlace (OutsideBounds F) (used normalised taps) place
       out-of-bounds d place =
-          both
+          Iff·trans
           (at-row a (lowest (outside F) (used normalised taps)) 6 _ (never-given 6 (reportOf F (divisorOf normalised taps) (used normalised taps))) (e ∙ sym (sized-open s) ∙ last-open F normalised taps f d) place)
           (lowest-place (outside F) (OutsideBounds F) (used normalised taps)
           (λ i h. outside-words F (getD (used normalised taps) i nan) (s .fraction-bits) (used-number F normalised taps f d i h)) place)

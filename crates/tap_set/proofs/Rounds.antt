@@ -1,34 +1,38 @@
 -- `round_all`, turn by turn, and what its answer says of the numbers. Assumes nothing.
 use mathlib.Core.Path.{_≡_, refl, sym, ap, _∙_}
-use mathlib.Core.Bool.{Bool, true, false, not, cond, true≢false, false≢true}
+use mathlib.Core.Bool.{Bool, true, false, not, cond, true≢false}
+use borrow.Author.Tests.{not-false}
 use mathlib.Core.List.{List, [], _∷_}
 use Prim.Native.Nat.{ℕ, suc, _+_, _≤_, _<_}
 use native.Mathlib.Numerals.{add-one}
-use lib.IntN.{ℤ}
+use lib.IntN.{ℤ, pos}
 use lib.Dec.{ltb}
 use lib.ListN.{length, drop, getD, drop-of-length-le}
 use lib.Seq.{drop-cons}
 use lib.Ieee.{Float, nan}
 use Rattle.refusal.specs.Answer.{Answer, given, refused, refuseIf, refuseAt, Place, nowhere, at-place, lowestFrom, lowest}
-use Rattle.refusal.proofs.Checks.{check-passes, given-at, lowest-here, lowest-none, lowest-all, lowest-alike}
+use Rattle.refusal.proofs.Checks.{check-passes, given-at, lowest-here, lowest-none, lowest-all, lowest-alike, lowest-none-at}
 use Rattle.tap.specs.Rounding.{TapResult, finite, outside, resultOf, roundedTap, wholeOf, leftOf}
 use Rattle.tap.proofs.Answer.{rounded-is, of-finite}
 use Rattle.tap_set.specs.declared.Report.{Report}
-use Rattle.tap_set.specs.Set.{reported, reportFrom, reportOf}
+use Rattle.tap_set.specs.Set.{reported, reportFrom, reportOf, bounded}
 use Rattle.tap_set.specs.Inner.{isRefused, wholeIn, leftIn, withLeftover, turned, tried, finiteRule, checked}
 
 abbrev pub notFinite : Float → Bool
 notFinite x = not (finite x)
 
+pub all-finite : (xs : List Float) → lowest notFinite xs ≡ nowhere → (i : ℕ) → i < length xs → finite (getD xs i nan) ≡ true
+all-finite xs h i l = not-false (finite (getD xs i nan)) (lowest-none-at nan notFinite 0 xs i h l)
+
 -- the whole number that x is rounded to
 abbrev pub whole : ℕ → Float → ℤ
 whole f x = wholeOf (resultOf f x)
 
--- ---- one number: what is not turned down has a coefficient
-pub unnot : (b : Bool) → not b ≡ false → b ≡ true
-unnot true h = refl
-unnot false h = absurd (false≢true (sym h))
+pub none-whole : (F : ℕ) → whole F nan ≡ pos 0
+unfolding resultOf
+none-whole F = refl
 
+-- ---- one number: what is not turned down has a coefficient
 passes : {A : Type 0} (b : Bool) (number : ℕ) (rest : Answer A) → isRefused (refuseIf b number rest) ≡ false → (b ≡ false) × (isRefused rest ≡ false)
 passes true number rest h = absurd (true≢false h)
 passes false number rest h = (refl, h)
@@ -38,7 +42,7 @@ kept F x h =
     let a = passes (ltb 31 F) 4 _ (ap isRefused (sym (rounded-is F x)) ∙ h) in
     let b = passes (not (finite x)) 5 _ (a .1) in
     let d = passes (outside F x) 6 _ (b .1) in (
-      unnot (finite x) (b .0),
+      not-false (finite x) (b .0),
       d .0,
       rounded-is F x ∙ check-passes (ltb 31 F) 4 _ (a .0) ∙ check-passes (not (finite x)) 5 _ (b .0) ∙ check-passes (outside F x) 6 _ (d .0),
     )
@@ -91,7 +95,7 @@ tried-end F d xs i r p q h =
     ∙ ap given (sym q ∙ report-end F r xs i h))
 
 -- ---- from `tried` to `checked`
-checked-is : (b : Bool) (F : ℕ) (d : Float) (xs : List Float) → checked b F d xs ≡ refuseAt (lowest notFinite xs) (finiteRule b) (refuseAt (lowest (outside F) xs) 6 (given (reportOf F d xs)))
+pub checked-is : (b : Bool) (F : ℕ) (d : Float) (xs : List Float) → checked b F d xs ≡ refuseAt (lowest notFinite xs) (finiteRule b) (bounded F d xs)
 unfolding checked
 checked-is b F d xs = refl
 
@@ -120,20 +124,22 @@ unfolding lowestFrom
 only-outside F k j [] f h = refl
 only-outside F k j (x ∷ xs) f h =
     let w = lowest-all notFinite k x xs h in
-    lowest-alike (turned F) (outside F) j x xs (turned-finite F x f (unnot (finite x) (w .0))) (only-outside F (suc k) (suc j) xs f (w .1))
+    lowest-alike (turned F) (outside F) j x xs (turned-finite F x f (not-false (finite x) (w .0))) (only-outside F (suc k) (suc j) xs f (w .1))
 
 pub checked-all : (b : Bool) (F : ℕ) (d : Float) (xs : List Float) (r : Report) → given r ≡ tried F d xs → given r ≡ checked b F d xs
+unfolding bounded
 checked-all b F d xs r e =
     let g = given-at (lowest (turned F) xs) 6 (given (reportOf F d xs)) r (sym (tried-is F d xs) ∙ sym e) in
     let p = all-pass F 0 xs (g .0) in
     sym (g .1)
-    ∙ sym (checked-is b F d xs ∙ ap (λ (w : Place). refuseAt w (finiteRule b) (refuseAt (lowest (outside F) xs) 6 (given (reportOf F d xs)))) (p .0) ∙ ap (λ (w : Place). refuseAt w 6 (given (reportOf F d xs))) (p .1))
+    ∙ sym (checked-is b F d xs ∙ ap (λ (w : Place). refuseAt w (finiteRule b) (bounded F d xs)) (p .0) ∙ ap (λ (w : Place). refuseAt w 6 (given (reportOf F d xs))) (p .1))
 
 pub checked-stop : (b : Bool) (F : ℕ) (d : Float) (xs : List Float) (i : ℕ) → lowest notFinite xs ≡ at-place i → refused (finiteRule b) i ≡ checked b F d xs
-checked-stop b F d xs i p = sym (checked-is b F d xs ∙ ap (λ (w : Place). refuseAt w (finiteRule b) (refuseAt (lowest (outside F) xs) 6 (given (reportOf F d xs)))) p)
+checked-stop b F d xs i p = sym (checked-is b F d xs ∙ ap (λ (w : Place). refuseAt w (finiteRule b) (bounded F d xs)) p)
 
 pub checked-tried : (b : Bool) (F : ℕ) (d : Float) (xs : List Float) → F ≤ 31 → lowest notFinite xs ≡ nowhere → tried F d xs ≡ checked b F d xs
+unfolding bounded
 checked-tried b F d xs f p =
     tried-is F d xs
     ∙ ap (λ (w : Place). refuseAt w 6 (given (reportOf F d xs))) (only-outside F 0 0 xs f p)
-    ∙ sym (checked-is b F d xs ∙ ap (λ (w : Place). refuseAt w (finiteRule b) (refuseAt (lowest (outside F) xs) 6 (given (reportOf F d xs)))) p)
+    ∙ sym (checked-is b F d xs ∙ ap (λ (w : Place). refuseAt w (finiteRule b) (bounded F d xs)) p)

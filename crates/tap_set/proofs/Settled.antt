@@ -7,14 +7,14 @@ use lib.IntN.{pos}
 use lib.Dec.{ltb, eqb}
 use lib.ListN.{length}
 use lib.Ieee.{Float, nan, inf, fin, binary64, round, nearest, size, units, odd, add, div, isNan, up, down, unlike}
-use borrow.Author.Tests.{lt-ltb, le-ltb, eq-eqb, ne-eqb}
+use borrow.Author.Tests.{not-false, lt-ltb, le-ltb, eq-eqb, ne-eqb}
 use Rattle.refusal.specs.Answer.{refused, refuseIf, refuseAt, Place, nowhere, at-place, lowestFrom, lowest}
 use Rattle.refusal.proofs.Checks.{check-applies, check-passes, lowest-all, lowest-alike}
 use Rattle.tap.specs.Rounding.{finite}
 use Rattle.tap_normalise.specs.Normalised.{sumFrom, sumOf, unusable, infinite, quotients, used, divisorOf}
 use Rattle.tap_set.specs.Set.{bounded, roundedTaps}
-use Rattle.tap_set.specs.Inner.{finiteRule, checked, settled}
-use Rattle.tap_set.proofs.Rounds.{notFinite, unnot}
+use Rattle.tap_set.specs.Inner.{checked, settled}
+use Rattle.tap_set.proofs.Rounds.{notFinite, checked-is}
 
 -- ---- a quotient of finite numbers is a number: it is infinite where it is not finite
 odd-number : (d : ℕ) (s : Bool) (q k l : ℕ) → isNan (odd d s q k l) ≡ false
@@ -60,12 +60,8 @@ unfolding lowestFrom
 infinite-quotients y k j [] u h = refl
 infinite-quotients y k j (x ∷ xs) u h =
     let w = lowest-all notFinite k x xs h in
-    let n = div-number x y (unnot (finite x) (w .0)) u in
+    let n = div-number x y (not-false (finite x) (w .0)) u in
     lowest-alike notFinite infinite j (div binary64 x y) (quotients y xs) (infinite-number (div binary64 x y) n) (infinite-quotients y (suc k) (suc j) xs u (w .1))
-
-checked-is : (b : Bool) (F : ℕ) (d : Float) (xs : List Float) → checked b F d xs ≡ refuseAt (lowest notFinite xs) (finiteRule b) (bounded F d xs)
-unfolding checked
-checked-is b F d xs = refl
 
 -- ---- a sum that is finite has only finite taps
 add-finite : (x y : Float) → finite (add binary64 x y) ≡ true → (finite x ≡ true) × (finite y ≡ true)

@@ -1,6 +1,6 @@
 -- The larger of two leftovers. Assumes nothing.
-use mathlib.Core.Path.{_≡_, refl, sym, ap, _∙_, subst}
-use mathlib.Core.Bool.{Bool, true, false, cond}
+use mathlib.Core.Path.{_≡_, refl, sym, ap, _∙_}
+use mathlib.Core.Bool.{Bool, cond}
 use lib.Ieee.{Float, lt}
 use Rattle.tap.specs.Rounding.{absOf}
 use Rattle.tap.specs.Inner.{magnitudeOf}
@@ -13,11 +13,3 @@ larger-is x y = refl
 
 pub larger-at : (x y : Float) (b : Bool) → lt (magnitudeOf x) (magnitudeOf y) ≡ b → cond b y x ≡ largerOf x y
 larger-at x y b h = sym (larger-is x y ∙ ap (λ (t : Bool). cond t y x) (sym (smaller-is x y) ∙ h))
-
--- one of the two
-pub larger-one : (P : Float → Type 0) (x y : Float) → P x → P y → P (largerOf x y)
-larger-one P x y p q = subst P (sym (larger-is x y)) (go (lt (absOf x) (absOf y)))
-  where
-    go : (b : Bool) → P (cond b y x)
-    go true = q
-    go false = p

@@ -1,6 +1,6 @@
 -- What an accepted set has passed, and its report. Assumes nothing.
 use mathlib.Core.Path.{_≡_, refl, sym, ap, _∙_, subst}
-use mathlib.Core.Bool.{Bool, true, false, _&&_, _||_, Bool·beq, true≢false, false≢true}
+use mathlib.Core.Bool.{Bool, true, false, _&&_, _||_, Bool·beq, or-true, true≢false, false≢true}
 use mathlib.Core.List.{List, [], _∷_}
 use Prim.Native.Nat.{ℕ, zero, suc, _*_, _≤_, _<_}
 use native.Mathlib.Nat.{zero-mul}
@@ -10,9 +10,9 @@ use lib.Dec.{T, ltb, eqb}
 use lib.ListN.{length, getD}
 use lib.Ieee.{Float, nan, inf, fin, binary64, up, down, eq, fits}
 use lib.Ieee.Fits.{div-fits, nan-fits}
-use borrow.Author.Tests.{ltb-false, eqb-false, eq-eqb}
+use borrow.Author.Tests.{not-false, ltb-false, eqb-false, eq-eqb}
 use Rattle.refusal.specs.Answer.{given, refuseAt, nowhere, lowestFrom, lowest}
-use Rattle.refusal.proofs.Checks.{check-passes, given-if, given-at, lowest-all, lowest-none-at}
+use Rattle.refusal.proofs.Checks.{given-same, check-passes, given-if, given-at, lowest-all, lowest-none-at}
 use Rattle.tap.specs.Rounding.{TapResult, exact, rounded, finite, outside, resultOf, roundedTap, leftOf}
 use Rattle.tap.proofs.Value.{nought}
 use Rattle.tap.proofs.Answer.{of-finite}
@@ -22,7 +22,7 @@ use Rattle.tap_normalise.specs.Normalised.{sumOf, unusable, infinite, quotients
 use Rattle.tap_set.specs.Set.{largerOf, reported, reportFrom, reportOf, bounded, roundedTaps}
 use Rattle.tap_set.specs.Claims.{Binary64, Finite}
 use Rattle.tap_set.proofs.Largest.{AtMost, best, AllFinite, Best, best-is}
-use Rattle.tap_set.proofs.Rounds.{notFinite, unnot, report-one, report-none}
+use Rattle.tap_set.proofs.Rounds.{notFinite, all-finite, report-one, report-none}
 use Rattle.tap_set.proofs.Settled.{most-taps, all-is, settled-open, infinite-quotients, usable-number}
 
 -- the leftover of a number
@@ -104,11 +104,8 @@ accepted F normalised taps room r h =
       numbers = u .0;
       divisor = u .1;
       inside = c6 .0;
-      report = inner (reportOf F (divisorOf normalised taps) (used normalised taps)) r (c6 .1);
+      report = given-same (reportOf F (divisorOf normalised taps) (used normalised taps)) r (c6 .1);
     }
-  where
-    inner : (p q : Report) → given p ≡ given q → p ≡ q
-    inner p q h = cc
 
 -- a number that is finite and within the bounds is rounded
 pub rounds : (F : ℕ) (x : Float) → F ≤ 31 → finite x ≡ true → outside F x ≡ false → roundedTap F x ≡ given (resultOf F x)
@@ -119,7 +116,7 @@ lefts-finite F f k [] n o = tt
 lefts-finite F f k (x ∷ xs) n o =
     let w = lowest-all notFinite k x xs n in
     let v = lowest-all (outside F) k x xs o in
-    (left-finite F x (resultOf F x) (rounds F x f (unnot (finite x) (w .0)) (v .0)), lefts-finite F f (suc k) xs (w .1) (v .1))
+    (left-finite F x (resultOf F x) (rounds F x f (not-false (finite x) (w .0)) (v .0)), lefts-finite F f (suc k) xs (w .1) (v .1))
 
 module _ (F : ℕ) (normalised : Bool) (taps : List Float) (room : ℕ) (r : Report) (w : Accepted F normalised taps room r) where
   abbrev xs : List Float
@@ -138,7 +135,7 @@ module _ (F : ℕ) (normalised : Bool) (taps : List Float) (room : ℕ) (r : Rep
   report-finite = record { divisor = ap finite divisor-is ∙ w .divisor; leftover = best-leftover .number }
 
   pub number-at : (i : ℕ) → i < length (used normalised taps) → finite (getD (used normalised taps) i nan) ≡ true
-  number-at i h = unnot (finite (getD xs i nan)) (lowest-none-at nan notFinite 0 xs i (w .numbers) h)
+  number-at i h = all-finite xs (w .numbers) i h
 
   pub rounds-at : (i : ℕ) → i < length (used normalised taps) → roundedTap F (getD (used normalised taps) i nan) ≡ given (resultOf F (getD (used normalised taps) i nan))
   rounds-at i h = rounds F (getD xs i nan) (w .few-bits) (number-at i h) (lowest-none-at nan (outside F) 0 xs i (w .inside) h)
@@ -161,10 +158,6 @@ zero-eq (fin s m e) h z =
   where
     same : (a b : ℕ) → b ≡ 0 → a ≤ b → a ≡ b
     same a b e h = omega arith
-
-    or-true : (b : Bool) → (b || true) ≡ true
-    or-true true = refl
-    or-true false = refl
 
 pub exact-of : (F : ℕ) (x : Float) (c : TapResult) → T (fits binary64 x) → roundedTap F x ≡ given c → AtMost (leftOf c) nought → (N : ℤ) × (c ≡ exact N)
 exact-of F x (exact N) t h z = (N, refl)

@@ -1,4 +1,4 @@
--- What the internal functions of the crate give. Definitions only.
+-- What the steps of rounding a set of taps give. Definitions only.
 use Prim.Native.Nat.{ℕ}
 use mathlib.Core.Bool.{Bool, true, false, not, _&&_, cond}
 use mathlib.Core.List.{List, _++_}

@@ -1,2 +1,5 @@
+pub mod Order
+pub mod LowZeros
+pub mod Multiples
 pub mod Signed
 pub mod Bounds

@@ -1,4 +1,6 @@
--- `form_listing::form_count` meets its contract. Assumes nothing.
+-- `form_listing::form_count` meets its contract. The invariant of its loop: the walk over the links stands where a walk over the canonical digits of the
+-- magnitude stands too, with the forms of the digits passed as its `forms`; a number and its negative have as many. At the end, where no link is left, these are
+-- all forms. The measure is `links`, since the next link is taken out of it in each turn. Assumes nothing.
 use mathlib.Core.Path.{_≡_, ap, _∙_}
 use Prim.Native.Nat.{_≤_, _^_}
 use native.Mathlib.Omega.{arith}

@@ -1,4 +1,5 @@
--- `form_listing::grow` meets its contract. Assumes nothing.
+-- `form_listing::grow` meets its contract. The invariant of its loop: the copies of the elements from `i` on stand at their places, and below `at + i` the table
+-- is as it was; so the next element read, `i - 1`, has not been written over. The measure is `i`. Assumes nothing.
 use mathlib.Core.Path.{_≡_, refl, _∙_}
 use Prim.Native.Nat.{_≤_, _+_, _-_}
 use native.Mathlib.Omega.{arith}

@@ -1,4 +1,16 @@
--- `form_listing::list` meets its contract. Assumes nothing.
+-- `form_listing::list` meets its contract.
+--
+-- The idea: beside the walk over the links goes a walk over the canonical digits of the magnitude, one by one from the low end, which the code does not do. Its
+-- laws (form_links) say what the tables hold after each digit. Between two links that some form takes nothing is written; at such a link the forms that take it
+-- follow those that do not, as `widen` writes them.
+--
+-- The invariant of the loop (`Listing` of proofs/Listed.antt): the walk stands at a spot between two digits, its numbers are that spot's, and the front of the
+-- tables holds the masks of every minimal form of the digits passed, in order, each with the canonical digits still to come above them. From the count of
+-- all forms on the tables are as they were. For a negative number the two tables change parts.
+--
+-- The measure is `links`, since the next link is taken out of it in each turn. Where no link is left, the digits that remain add no form, and the front of the
+-- tables is the listing. There is room for each copy, since the forms passed with those that follow them are at most all forms, and these at most 1597.
+-- Assumes nothing.
 use mathlib.Core.Path.{_≡_, ap, _∙_}
 use mathlib.Core.List.{List, _++_, map}
 use Prim.Native.Nat.{ℕ, _≤_, _^_}

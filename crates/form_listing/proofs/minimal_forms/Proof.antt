@@ -1,4 +1,5 @@
--- `form_listing::minimal_forms` meets its contract. Assumes nothing.
+-- `form_listing::minimal_forms` meets its contract. A table under 1597 elements is turned down and left as it was; else `list` writes the listing of n and
+-- returns its length, which a u32 holds, being at most 1597. Assumes nothing.
 use mathlib.Core.Path.{_≡_, sym, ap, _∙_}
 use mathlib.Core.List.{List, _++_, map}
 use Prim.Native.Nat.{ℕ}

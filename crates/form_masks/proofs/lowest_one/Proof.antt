@@ -1,4 +1,5 @@
--- `form_masks::lowest_one` meets its contract. Assumes nothing.
+-- `form_masks::lowest_one` meets its contract. The invariant of its loop: `rest` is x without its lowest `place` bits, which are zeros, and `rest` is not 0,
+-- so that a one is still to come and `place` stays below 32. The measure is `rest`, which a halving makes less. Assumes nothing.
 use Rattle.form_masks.proofs.Overlap.{Scan, scan-start, scan-room, scan-next, scan-end}
 use native.Mathlib.Omega.{arith}
 use Rattle.form_masks.proofs.lowest_one.Statement.{statement}

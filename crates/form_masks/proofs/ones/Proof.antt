@@ -1,7 +1,7 @@
 -- `form_masks::ones` meets its contract: a number has the ones of its bytes. Assumes nothing.
 use borrow.Author.Needs.{needs}
 use mathlib.Core.Path.{_≡_, ap, _∙_}
-use Prim.Native.Nat.{ℕ, _+_, _*_, _/_, _%_}
+use Prim.Native.Nat.{ℕ, _+_, _*_, _/_, _%_, _^_}
 use native.Mathlib.Omega.{arith}
 use lib.Count.{ones, ones-cat}
 use Rattle.form_masks.proofs.ones.Statement.{statement}
@@ -63,7 +63,7 @@ returns : tie.Need-returns
 returns c =
     let x = c .before .before .before .before .before .before .before .before .args .x in
     let e2 : x / 256 / 256 ≡ x / 65536 = omega arith in
-    let e3 : x / 65536 / 256 ≡ x / 16777216 = omega arith in
+    let e3 : x / 65536 / 256 ≡ x / 2 ^ 24 = omega arith in
     omega (arith, low-byte x, low-byte (x / 256), low-byte (x / 65536), ap ones e2, ap ones e3)
 
 pub ones-spec : {M : Type 1} → statement M

@@ -1,4 +1,5 @@
--- `form_masks::value` meets its contract. Assumes nothing.
+-- `form_masks::value` meets its contract. Masks that overlap are turned down; of others the difference, which fits 64 bits with its sign, is the value of
+-- their string. Assumes nothing.
 use borrow.Author.Needs.{needs}
 use mathlib.Core.Path.{_≡_, sym, ap, ap₂, subst, _∙_}
 use Prim.Native.Nat.{ℕ, _<_, _^_}

@@ -1,45 +1,53 @@
--- `form_walk::skip` meets its contract. Assumes nothing.
+-- `form_walk::skip` meets its contract. 2 to the number of zeros below the next link is at most `links`, so that `bit` shifted by it is at most `bit` times `links` and no bit is lost. Assumes nothing.
 use mathlib.Core.Path.{_≡_, refl}
-use Prim.Native.Nat.{_*_, _≤_, _%_, _^_}
-use native.Mathlib.Nat.{mul-le-mul-left}
+use mathlib.Core.Logic.{_≢_}
+use Prim.Native.Nat.{ℕ, _*_, _≤_, _<_, _%_, _^_}
+use native.Mathlib.Nat.{mul-le-mul-left, pos-of-ne-zero}
 use native.Mathlib.Omega.{arith}
 use lib.Count.{trailingZeros}
-use Rattle.form_walk.proofs.TrailingZeros.{few, least}
+use Rattle.word.proofs.LowZeros.{zeros-power, zeros-below}
 use Rattle.form_walk.proofs.Parts.{walk}
 use borrow.Author.Needs.{needs}
 use Rattle.form_walk.proofs.skip.Statement.{statement}
 use Rattle.form_walk.proofs.skip.Tie as tie
 
+module _ (x : ℕ) (h : x ≢ 0) (l : x ≤ 2 ^ 35) where
+  few : trailingZeros 64 x < 64
+  few = zeros-below 64 x (omega arith) (pos-of-ne-zero h)
+
+  least : 2 ^ trailingZeros 64 x ≤ x
+  least = zeros-power 64 x (omega arith) (pos-of-ne-zero h)
+
 cast-t3 : tie.Need-cast-t3
-cast-t3 c = let s = c .before in omega (arith, few (s .args .w .links) (omega (arith, s .pre .0)) (s .pre .1))
+cast-t3 c = let s = c .before in omega (arith, few (s .args .w .links) (s .pre .0) (s .pre .1))
 
 shr-t4 : tie.Need-shr-t4
-shr-t4 c = let s = c .before .before in few (s .args .w .links) (omega (arith, s .pre .0)) (s .pre .1)
+shr-t4 c = let s = c .before .before in few (s .args .w .links) (s .pre .0) (s .pre .1)
 
 cast-t5 : tie.Need-cast-t5
-cast-t5 c = let s = c .before .before in omega (arith, few (s .args .w .links) (omega (arith, s .pre .0)) (s .pre .1))
+cast-t5 c = let s = c .before .before in omega (arith, few (s .args .w .links) (s .pre .0) (s .pre .1))
 
 shr-t6 : tie.Need-shr-t6
-shr-t6 c = let s = c .before .before .before in few (s .args .w .links) (omega (arith, s .pre .0)) (s .pre .1)
+shr-t6 c = let s = c .before .before .before in few (s .args .w .links) (s .pre .0) (s .pre .1)
 
 cast-t7 : tie.Need-cast-t7
-cast-t7 c = let s = c .before .before .before in omega (arith, few (s .args .w .links) (omega (arith, s .pre .0)) (s .pre .1))
+cast-t7 c = let s = c .before .before .before in omega (arith, few (s .args .w .links) (s .pre .0) (s .pre .1))
 
 shl-t8 : tie.Need-shl-t8
-shl-t8 c = let s = c .before .before .before .before in few (s .args .w .links) (omega (arith, s .pre .0)) (s .pre .1)
+shl-t8 c = let s = c .before .before .before .before in few (s .args .w .links) (s .pre .0) (s .pre .1)
 
-choose-requires : tie.Need-choose-requires
-choose-requires c κs = search needs
+choose-index-requires : tie.Need-choose-index-requires
+choose-index-requires c κs = search needs
 
 returns : tie.Need-returns
 returns c =
     let s = c .before .before .before .before .before in
     let w = s .args .w in
     let z = trailingZeros 64 (w .links) in
-    let p : w .bit * 2 ^ z ≤ w .bit * w .links = mul-le-mul-left (w .bit) (least (w .links) (omega (arith, s .pre .0)) (s .pre .1)) in
-    let b : w .bit * 2 ^ z % 18446744073709551616 ≡ w .bit * 2 ^ z = omega (arith, p, s .pre .2) in
-    walk refl refl b refl (c .choose .ensures)
+    let p : w .bit * 2 ^ z ≤ w .bit * w .links = mul-le-mul-left (w .bit) (least (w .links) (s .pre .0) (s .pre .1)) in
+    let b : w .bit * 2 ^ z % 2 ^ 64 ≡ w .bit * 2 ^ z = omega (arith, p, s .pre .2) in
+    walk refl refl b refl (c .choose-index .ensures)
 
 pub skip-spec : {M : Type 1} → statement M
 skip-spec =
-    tie.close (tie.spec cast-t3 shr-t4 cast-t5 shr-t6 cast-t7 shl-t8 choose-requires returns)
+    tie.close (tie.spec cast-t3 shr-t4 cast-t5 shr-t6 cast-t7 shl-t8 choose-index-requires returns)

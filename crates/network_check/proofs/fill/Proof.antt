@@ -3,11 +3,12 @@
 -- Assumes nothing.
 use mathlib.Core.Bool.{not}
 use mathlib.Core.List.{List, _++_, map}
-use lib.IntN.{ℤ}
+use lib.IntN.{ℤ, pos}
 use mir.Syntax.{w32}
 use mir.Val.{toZ, ofZ}
 use mir.ValLaws.{toZ-ofZ}
-use Rattle.refusal.proofs.Tables.{front, front-next, front-end}
+use Rattle.sequence.specs.Inner.{front}
+use Rattle.sequence.proofs.Front.{front-start, front-next, front-map}
 use Rattle.sequence.proofs.UpTo.{length-upTo, getD-upTo}
 use Rattle.network.specs.Rows.{rowsOf, tapRowsOf, tapRowAt, noTap}
 use Rattle.network.specs.Coefficients.{coefficientOf}
@@ -22,15 +23,21 @@ use borrow.Author.Needs.{needs}
 use Rattle.network_check.proofs.fill.Statement.{statement}
 use Rattle.network_check.proofs.fill.Tie as tie
 
+-- the coefficient at each place
+abbrev at : List ℕ → ℕ → List ℕ → ℕ → ℕ → ℤ
+at rows n taps m j = coefficientOf (rowsOf rows n) (getD (tapRowsOf taps m) j noTap)
+
 abbrev Inv-loop : tie.InvT-loop
 Inv-loop rows n taps m buffer₀ j₀ buffer j =
-    (j ≤ m) × NoneBefore (tapRowAt taps) noTap (breaksTapRowRule (rowsOf rows n)) m j × (buffer ≡ front (coefficientOf (rowsOf rows n)) (tapRowsOf taps m) buffer₀ j)
+    (j ≤ m) × NoneBefore (tapRowAt taps) noTap (breaksTapRowRule (rowsOf rows n)) m j × (buffer ≡ front (at rows n taps m) buffer₀ j)
 
 abbrev μ-loop : tie.MeasureT-loop
 μ-loop rows n taps m buffer₀ j₀ buffer j = m - j
 
 loop-holds : tie.Need-loop-holds Inv-loop μ-loop
-loop-holds c = (search needs, refl, refl)
+loop-holds c =
+    let a = c .before .before .args in
+    (search needs, refl, sym (front-start (at (a .rows .now) (a .n) (a .taps .now) (a .m)) (a .buffer .now)))
 
 tap-product-requires : tie.Need-tap-product-requires Inv-loop μ-loop
 tap-product-requires c κs = search needs
@@ -83,8 +90,8 @@ loop-again c =
       search needs,
       scan-next (tapRowAt (args .taps .now)) noTap (breaksTapRowRule rows) (args .m) j (at-loop .loop .inv .1) (in-loop .loop-test .taken) (ap not (k .0)),
       ap (λ (b : List ℤ). set b j (toZ w32 (ofZ w32 y))) (at-loop .loop .inv .2)
-          ∙ ap (λ (z : ℤ). set (front f (tapRowsOf (args .taps .now) (args .m)) (args .buffer .now) j) j z) (e ∙ g)
-          ∙ front-next f noTap (tapRowsOf (args .taps .now) (args .m)) (args .buffer .now) j (omega (arith, length-upTo (args .m) (tapRowAt (args .taps .now)))) (omega arith),
+          ∙ ap (λ (z : ℤ). set (front (at (args .rows .now) (args .n) (args .taps .now) (args .m)) (args .buffer .now) j) j z) (e ∙ g)
+          ∙ front-next (at (args .rows .now) (args .n) (args .taps .now) (args .m)) (args .buffer .now) j (pos 0) (omega arith),
     )
 
 returns-2 : tie.Need-returns-2 Inv-loop μ-loop
@@ -96,7 +103,7 @@ returns-2 c =
     let s = length-upTo (args .m) (tapRowAt (args .taps .now)) in (
       scan-end (tapRowAt (args .taps .now)) noTap (breaksTapRowRule rows) (args .m) (at-loop .loop .j) (at-loop .loop .inv .1) (c .loop-test .left),
       λ q.
-          at-loop .loop .inv .2 ∙ front-end (coefficientOf rows) (tapRowsOf (args .taps .now) (args .m)) (args .buffer .now) (at-loop .loop .j) (omega (arith, s)) (omega (arith, s))
+          at-loop .loop .inv .2 ∙ front-map (coefficientOf rows) noTap (tapRowsOf (args .taps .now) (args .m)) (args .buffer .now) (at-loop .loop .j) (omega (arith, s)) (omega (arith, s))
           ∙ ap (λ (k : ℕ). map (coefficientOf rows) (tapRowsOf (args .taps .now) (args .m)) ++ drop k (args .buffer .now)) s,
     )
 

@@ -1,4 +1,5 @@
--- `sequence::copy` meets its contract. Assumes nothing.
+-- `sequence::copy` meets its contract. The invariant of its loop: the first `i` elements of `to` are those of `from`, and the rest are as they were.
+-- The measure is `n - i`. Assumes nothing.
 use borrow.Author.Needs.{needs}
 use mathlib.Core.Path.{_≡_, refl, sym, ap, _∙_}
 use mathlib.Core.List.{List, _++_}

@@ -5,10 +5,9 @@ use mathlib.Core.List.{List}
 use mathlib.Core.Bool.{false}
 use mathlib.Core.Path.{_≡_, sym, ap, subst, _∙_}
 use Prim.Native.Nat.{_/_, ℕ}
-use lib.ListN.{length-replicate, length, take}
+use lib.ListN.{length-replicate, length, take, length-map}
 use lib.IntN.{ℤ, pos}
 use lib.Ieee.{Float}
-use Rattle.refusal.proofs.Tables.{length-map}
 use Rattle.tap.specs.Rounding.{resultOf, wholeOf}
 use Rattle.sheet_input.specs.Taps.{tapAt, tapsOf}
 use Rattle.sheet_kinds.specs.Text.{networkText}
@@ -74,7 +73,7 @@ array-share-prefix-coefficients c = search needs
 slice-aggregate-coefficient-sheet : tie.Need-slice-aggregate-coefficient-sheet
 slice-aggregate-coefficient-sheet c =
     let input = c .before .before .before .before .before .before .before .before .before .before .before .before .before .args .input .now in
-    sym (ap length (coefficients (c .before .before)) ∙ length-map (λ (x : Float). wholeOf (resultOf (c .before .before .before .before .before .before .before .before .before .before .before .before .before .args .fraction-bits) x)) (tapsOf input) ∙ length-upTo (length input / 8) (tapAt input))
+    sym (ap length (coefficients (c .before .before)) ∙ length-map (tapsOf input) (λ (x : Float). wholeOf (resultOf (c .before .before .before .before .before .before .before .before .before .before .before .before .before .args .fraction-bits) x)) ∙ length-upTo (length input / 8) (tapAt input))
 
 coefficient-sheet-requires : tie.Need-coefficient-sheet-requires
 coefficient-sheet-requires c κs =

@@ -1,8 +1,9 @@
--- `tap::nearest` meets its contract. Assumes nothing.
+-- `tap::nearest` meets its contract. The even number that `nearest_even` gives is at most 2^32, so that it is read back as a whole number exactly; the test of
+-- x against it plus 1/2 tells the half where the half rule decides from every other x (`by-half`). Assumes nothing.
 use borrow.Author.Needs.{needs}
 use mathlib.Core.Path.{_≡_, refl, sym, ap, _∙_, subst}
 use mathlib.Core.Bool.{Bool, false}
-use Prim.Native.Nat.{ℕ, _≤_}
+use Prim.Native.Nat.{ℕ, _≤_, _^_}
 use native.Mathlib.Nat.{lt-of-le-of-lt}
 use lib.Dec.{T, lit<}
 use lib.Signed.{nonNeg}
@@ -59,7 +60,7 @@ half-requires : tie.Need-half-requires
 half-requires c κs =
     let e = c .before .before in
     let s = e .before in
-    subst (λ (n : ℕ). n ≤ 4294967296) (sym (even e)) (by-half (s .args .x) (s .pre .0) (s .pre .1) .0)
+    subst (λ (n : ℕ). n ≤ 2 ^ 32) (sym (even e)) (by-half (s .args .x) (s .pre .0) (s .pre .1) .0)
 
 returns : tie.Need-returns
 returns c =

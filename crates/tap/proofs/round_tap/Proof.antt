@@ -1,8 +1,9 @@
--- `tap::round_tap` meets its contract: each answer is a law of proofs/Answer.antt. Assumes nothing.
+-- `tap::round_tap` meets its contract. Each way out of the code is one row of the table of refusals or one answer, and each is a law of proofs/Answer.antt:
+-- what is left here is to hand that law the facts of the tests passed on the way. Assumes nothing.
 use borrow.Author.Needs.{needs}
 use mathlib.Core.Path.{_≡_, refl, sym, ap, _∙_, subst}
 use mathlib.Core.Bool.{Bool, true, false}
-use Prim.Native.Nat.{_≤_, _<_}
+use Prim.Native.Nat.{_≤_, _<_, _^_, _-_}
 use lib.Dec.{T}
 use lib.IntN.{ℤ, pos, negsuc}
 use lib.Signed.{ltZ}
@@ -82,19 +83,19 @@ out c l =
 returns-2 : tie.Need-returns-2
 returns-2 c =
     let w = c .before in
-    record { answer = out w (above-most (negative (w .before .before .before .before .before .before)) (w .before .nearest .result) (ap (ltZ (pos 2147483647)) (sym (whole w)) ∙ c .if3 .taken)) }
+    record { answer = out w (above-most (negative (w .before .before .before .before .before .before)) (w .before .nearest .result) (ap (ltZ (pos (2 ^ 31 - 1))) (sym (whole w)) ∙ c .if3 .taken)) }
 
 returns-3 : tie.Need-returns-3
 returns-3 c =
     let w = c .before .before in
-    record { answer = out w (below-least (negative (w .before .before .before .before .before .before)) (w .before .nearest .result) (ap (λ (z : ℤ). ltZ z (negsuc 2147483647)) (sym (whole w)) ∙ c .if4 .taken)) }
+    record { answer = out w (below-least (negative (w .before .before .before .before .before .before)) (w .before .nearest .result) (ap (λ (z : ℤ). ltZ z (negsuc (2 ^ 31 - 1))) (sym (whole w)) ∙ c .if4 .taken)) }
 
 -- N is within them
 within : (c : tie.Else4) → let w = c .before .before in w .before .nearest .result ≤ most (negative (w .before .before .before .before .before .before))
 within c =
     let w = c .before .before in
-    between (negative (w .before .before .before .before .before .before)) (w .before .nearest .result) (ap (ltZ (pos 2147483647)) (sym (whole w)) ∙ c .before .if3 .left)
-    (ap (λ (z : ℤ). ltZ z (negsuc 2147483647)) (sym (whole w)) ∙ c .if4 .left)
+    between (negative (w .before .before .before .before .before .before)) (w .before .nearest .result) (ap (ltZ (pos (2 ^ 31 - 1))) (sym (whole w)) ∙ c .before .if3 .left)
+    (ap (λ (z : ℤ). ltZ z (negsuc (2 ^ 31 - 1))) (sym (whole w)) ∙ c .if4 .left)
 
 cast-part : tie.Need-cast-part
 cast-part c =

@@ -1,26 +1,32 @@
--- `tap_normalise::divide` meets its contract. The invariant: the quotients of the taps passed stand at the front. Assumes nothing.
+-- `tap_normalise::divide` meets its contract. The invariant of its loop: the first `i` places of the table hold the quotients of the taps passed, and the rest
+-- are as they were. The measure is the number of taps still to come. Assumes nothing.
 use borrow.Author.Needs.{needs}
-use mathlib.Core.Path.{_≡_, refl, ap, _∙_}
-use Prim.Native.Nat.{_-_, _≤_}
+use mathlib.Core.Path.{_≡_, refl, sym, ap, _∙_}
+use Prim.Native.Nat.{ℕ, _-_, _≤_}
 use native.Mathlib.Omega.{arith}
 use lib.ListN.{length, length-set, set, getD}
 use mathlib.Core.List.{List}
 use lib.Ieee.{Float, nan, binary64, div}
-use Rattle.refusal.proofs.Tables.{front, front-next, front-end}
+use Rattle.sequence.specs.Inner.{front}
+use Rattle.sequence.proofs.Front.{front-start, front-next, front-map}
 use Rattle.tap_normalise.proofs.divide.Statement.{statement}
 use Rattle.tap_normalise.proofs.divide.Tie as tie
 
 abbrev over : Float → Float → Float
 over sum x = div binary64 x sum
 
+-- the quotient of the tap at each place
+abbrev at : List Float → Float → ℕ → Float
+at taps sum k = over sum (getD taps k nan)
+
 abbrev Inv-loop : tie.InvT-loop
-Inv-loop taps sum table₀ i₀ table i = (i ≤ length taps) × (table ≡ front (over sum) taps table₀ i) × (length table ≡ length table₀)
+Inv-loop taps sum table₀ i₀ table i = (i ≤ length taps) × (table ≡ front (at taps sum) table₀ i) × (length table ≡ length table₀)
 
 abbrev μ-loop : tie.MeasureT-loop
 μ-loop taps sum table₀ i₀ table i = length taps - i
 
 loop-holds : tie.Need-loop-holds Inv-loop μ-loop
-loop-holds c = (search needs, refl, refl)
+loop-holds c = let a = c .args in (search needs, sym (front-start (at (a .taps .now) (a .sum)) (a .table .now)), refl)
 
 mul-table : tie.Need-mul-table Inv-loop μ-loop
 mul-table c = search needs
@@ -44,7 +50,11 @@ loop-again : tie.Need-loop-again Inv-loop μ-loop
 loop-again c =
     let l = c .before .before in
     let a = l .before .args in
-    (search needs, ap (λ (t : List Float). set t (l .loop .i) (over (a .sum) (getD (a .taps .now) (l .loop .i) nan))) (l .loop .inv .1) ∙ front-next (over (a .sum)) nan (a .taps .now) (a .table .now) (l .loop .i) (c .before .loop-test .taken) (omega arith), length-set (l .loop .table) (l .loop .i) _ ∙ l .loop .inv .2)
+    let f = at (a .taps .now) (a .sum) in (
+      search needs,
+      ap (λ (t : List Float). set t (l .loop .i) (f (l .loop .i))) (l .loop .inv .1) ∙ front-next f (a .table .now) (l .loop .i) nan (omega arith),
+      length-set (l .loop .table) (l .loop .i) _ ∙ l .loop .inv .2,
+    )
 
 same-length : tie.Need-same-length Inv-loop μ-loop
 same-length c = search needs
@@ -53,7 +63,7 @@ returns : tie.Need-returns Inv-loop μ-loop
 returns c =
     let l = c .before in
     let a = l .before .args in
-    l .loop .inv .1 ∙ front-end (over (a .sum)) (a .taps .now) (a .table .now) (l .loop .i) (l .loop .inv .0) (c .loop-test .left)
+    l .loop .inv .1 ∙ front-map (over (a .sum)) nan (a .taps .now) (a .table .now) (l .loop .i) (l .loop .inv .0) (c .loop-test .left)
 
 pub divide-spec : {M : Type 1} → statement M
 divide-spec =

@@ -1,4 +1,5 @@
--- `tap_normalise::first_not_finite` meets its contract. The invariant: none of the numbers passed breaks the rule. Assumes nothing.
+-- `tap_normalise::first_not_finite` meets its contract. The invariant of its loop: the lowest place from `i` on that is not finite is the lowest of all,
+-- since the numbers passed are finite. The measure is the number of numbers still to come. Assumes nothing.
 use borrow.Author.Needs.{needs}
 use mathlib.Core.Path.{_≡_, refl, sym, ap, _∙_}
 use mathlib.Core.Bool.{Bool, true, false, not}

@@ -1,4 +1,5 @@
--- `tap_normalise::total` meets its contract. The invariant: what is left of the taps, added to the sum so far, is the whole sum. Assumes nothing.
+-- `tap_normalise::total` meets its contract. The invariant of its loop: the taps still to come, added one by one to the sum so far, give the whole sum. The
+-- measure is their number. Assumes nothing.
 use borrow.Author.Needs.{needs}
 use mathlib.Core.Path.{_≡_, sym, ap, _∙_}
 use mathlib.Core.List.{List}

@@ -1,4 +1,6 @@
--- `tap_set::round_all` meets its contract. The invariant: none of the numbers passed is turned down, the report of the rest from here on is the whole report, and the buffer's front holds the coefficients of the numbers passed. Assumes nothing.
+-- `tap_set::round_all` meets its contract. The invariant of its loop: none of the numbers passed is turned down, so that the lowest place from `i` on that is
+-- turned down is the lowest of all; the report so far, carried on over the numbers still to come, is the whole report; and the first `i` places of the buffer
+-- hold the coefficients of the numbers passed. The measure is the number of numbers still to come. Assumes nothing.
 use borrow.Author.Needs.{needs}
 use mathlib.Core.Path.{_≡_, refl, sym, ap, _∙_, subst}
 use mathlib.Core.List.{List, _++_, map}
@@ -6,15 +8,16 @@ use mathlib.Core.Bool.{true, false}
 use Prim.Native.Nat.{ℕ, _+_, _-_, _≤_, _<_}
 use native.Mathlib.Nat.{le-trans, le-of-eq, lt-of-lt-of-le}
 use native.Mathlib.Omega.{arith}
-use lib.IntN.{ℤ}
-use lib.ListN.{length, length-set, drop, set, getD}
+use lib.IntN.{ℤ, pos}
+use lib.ListN.{length, length-set, length-map, drop, set, getD}
 use lib.Ieee.{Float, nan}
 use mir.Syntax.{w32}
 use mir.Val.{toZ, ofZ}
 use mir.ValLaws.{toZ-ofZ}
 use Rattle.refusal.specs.Answer.{lowestFrom, lowest}
 use Rattle.refusal.proofs.Checks.{lowest-later}
-use Rattle.refusal.proofs.Tables.{front, front-next, front-end, length-map}
+use Rattle.sequence.specs.Inner.{front}
+use Rattle.sequence.proofs.Front.{front-start, front-next, front-map}
 use Rattle.tap.specs.Rounding.{resultOf, leftOf, answerOf}
 use Rattle.tap.proofs.Value.{zero-is}
 use Rattle.tap_set.specs.declared.Report.{Report}
@@ -24,9 +27,13 @@ use Rattle.tap_set.proofs.Rounds.{whole, whole-is, left-is, report-next
 use Rattle.tap_set.proofs.round_all.Statement.{statement}
 use Rattle.tap_set.proofs.round_all.Tie as tie
 
+-- the coefficient at each place
+abbrev at : ℕ → List Float → ℕ → ℤ
+at f xs k = whole f (getD xs k nan)
+
 abbrev Inv-loop : tie.InvT-loop
 Inv-loop xs f divisor buffer₀ report₀ i₀ buffer report i =
-    (i ≤ length xs) × (lowestFrom i (turned f) (drop i xs) ≡ lowest (turned f) xs) × (reportFrom f report (drop i xs) ≡ reportOf f divisor xs) × (buffer ≡ front (whole f) xs buffer₀ i)
+    (i ≤ length xs) × (lowestFrom i (turned f) (drop i xs) ≡ lowest (turned f) xs) × (reportFrom f report (drop i xs) ≡ reportOf f divisor xs) × (buffer ≡ front (at f xs) buffer₀ i)
     × (length buffer ≡ length buffer₀)
 
 abbrev μ-loop : tie.MeasureT-loop
@@ -35,7 +42,7 @@ abbrev μ-loop : tie.MeasureT-loop
 loop-holds : tie.Need-loop-holds Inv-loop μ-loop
 loop-holds c =
     let a = c .before .args in
-    (search needs, refl, ap (λ (l : Float). reportFrom (a .f) (record { divisor = a .divisor; leftover = l }) (a .xs .now)) zero-is, refl, refl)
+    (search needs, refl, ap (λ (l : Float). reportFrom (a .f) (record { divisor = a .divisor; leftover = l }) (a .xs .now)) zero-is, sym (front-start (at (a .f) (a .xs .now)) (a .buffer .now)), refl)
 
 -- in the loop's body, i is below 256 and below the buffer's length
 in-range : (c : tie.In-loop Inv-loop μ-loop) → c .before .loop .i < 256
@@ -113,7 +120,7 @@ loop-again c =
       ap (λ (y : Report). reportFrom (a .f) y (drop (i + 1) xs)) q ∙ report-next (a .f) (l .loop .report) xs i (t .loop-test .taken) ∙ l .loop .inv .2,
       ap (λ (z : ℤ). set (l .loop .buffer) i z) w
           ∙ ap (λ (b : List ℤ). set b i (whole (a .f) x)) (l .loop .inv .3)
-          ∙ front-next (whole (a .f)) nan xs (a .buffer .now) i (t .loop-test .taken) (subst (λ (n : ℕ). i < n) (l .loop .inv .4) (room t)),
+          ∙ front-next (at (a .f) xs) (a .buffer .now) i (pos 0) (subst (λ (n : ℕ). i < n) (l .loop .inv .4) (room t)),
       length-set (l .loop .buffer) i _ ∙ l .loop .inv .4,
     )
 
@@ -128,8 +135,8 @@ returns-2 c =
     let xs = a .xs .now in (
       tried-end (a .f) (a .divisor) xs (l .loop .i) (l .loop .report) (l .loop .inv .1) (l .loop .inv .2) (c .loop-test .left),
       l .loop .inv .3
-          ∙ front-end (whole (a .f)) xs (a .buffer .now) (l .loop .i) (l .loop .inv .0) (c .loop-test .left)
-          ∙ ap (λ (n : ℕ). map (whole (a .f)) xs ++ drop n (a .buffer .now)) (sym (length-map (whole (a .f)) xs)),
+          ∙ front-map (whole (a .f)) nan xs (a .buffer .now) (l .loop .i) (l .loop .inv .0) (c .loop-test .left)
+          ∙ ap (λ (n : ℕ). map (whole (a .f)) xs ++ drop n (a .buffer .now)) (sym (length-map xs (whole (a .f)))),
     )
 
 pub round-all-spec : {M : Type 1} → statement M

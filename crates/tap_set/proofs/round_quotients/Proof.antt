@@ -1,17 +1,17 @@
--- `tap_set::round_quotients` meets its contract. Assumes nothing.
+-- `tap_set::round_quotients` meets its contract. A sum that taps cannot be divided by leads to `no_sum`. Else the front of the table holds the quotients, `settle`
+-- answers for them, and since a finite sum has only finite taps, that answer is the one for the taps. Assumes nothing.
 use borrow.Author.Needs.{needs}
 use borrow.Author.Tests.{not-true, not-false}
-use mathlib.Core.Path.{_≡_, refl, sym, ap, _∙_}
-use mathlib.Core.Bool.{Bool, true, false, not}
+use mathlib.Core.Path.{_≡_, sym, ap, _∙_}
+use mathlib.Core.Bool.{true, false}
 use mathlib.Core.List.{List, _++_}
 use Prim.Native.Nat.{ℕ}
 use native.Mathlib.Nat.{le-trans, le-of-eq}
 use lib.IntN.{ℤ}
-use lib.ListN.{length, take}
+use lib.ListN.{length, take, length-map}
 use lib.Seq.{take-at}
 use lib.Ieee.{Float, binary64, div}
 use Rattle.refusal.specs.Answer.{Answer, refused, refuseAt, filled, Place, lowest, nowhere, at-place}
-use Rattle.refusal.proofs.Tables.{length-map}
 use Rattle.tap_set.specs.declared.Report.{Report}
 use Rattle.tap_normalise.specs.Normalised.{sumOf, unusable, quotients}
 use Rattle.tap_set.specs.Set.{coefficientsOf}
@@ -25,7 +25,7 @@ abbrev Q : List Float → List Float
 Q taps = quotients (sumOf taps) taps
 
 many : (taps : List Float) → length (Q taps) ≡ length taps
-many taps = length-map (λ (x : Float). div binary64 x (sumOf taps)) taps
+many taps = length-map taps (λ (x : Float). div binary64 x (sumOf taps))
 
 front-held : (taps : List Float) (sum : Float) (rest table : List Float) → table ≡ quotients sum taps ++ rest → sum ≡ sumOf taps → take (length taps) table ≡ Q taps
 front-held taps sum rest table e s = ap (take (length taps)) (e ∙ ap (λ (y : Float). quotients y taps ++ rest) s) ∙ take-at (Q taps) rest (length taps) (many taps)
@@ -35,11 +35,7 @@ usable : (c : tie.Else1) → unusable (sumOf (c .before .before .before .before 
 usable c =
     let t = c .before .before in
     let h = not-false (c .before .is-usable .result) (c .if1 .left) in
-    ap unusable (sym (t .total .ensures)) ∙ not-of (unusable (t .total .result)) (sym (c .before .is-usable .ensures) ∙ h)
-  where
-    not-of : (b : Bool) → not b ≡ true → b ≡ false
-    not-of true h = sym h
-    not-of false h = refl
+    ap unusable (sym (t .total .ensures)) ∙ not-true (unusable (t .total .result)) (sym (c .before .is-usable .ensures) ∙ h)
 
 -- the front of the table holds the quotients
 held : (c : tie.After-divide) → let a = c .before .before .before .before .before .before .args in take (length (a .taps .now)) (c .divide .last .1 .1 .0) ≡ Q (a .taps .now)
@@ -76,14 +72,10 @@ returns c =
     let s = t .before .before in
     let a = s .args in
     let h = not-true (u .is-usable .result) (c .before .if1 .taken) in
-    let b : unusable (sumOf (a .taps .now)) ≡ true = ap unusable (sym (t .total .ensures)) ∙ not-of (unusable (t .total .result)) (sym (u .is-usable .ensures) ∙ h) in
+    let b : unusable (sumOf (a .taps .now)) ≡ true = ap unusable (sym (t .total .ensures)) ∙ not-false (unusable (t .total .result)) (sym (u .is-usable .ensures) ∙ h) in
     let e = without-sum (a .f) (a .taps .now) b in
     (c .no-sum .ensures ∙ e, kept (a .f) (a .taps .now) (a .coefficients .now) (lowest notFinite (a .taps .now)) e)
   where
-    not-of : (b : Bool) → not b ≡ false → b ≡ true
-    not-of true h = refl
-    not-of false h = sym h
-
     kept : (f : ℕ) (taps : List Float) (old : List ℤ) (p : Place) → refuseAt {A = Report} p 5 (refused 7 0) ≡ settled f true taps → old ≡ filled (settled f true taps) (coefficientsOf f (Q taps)) old
     kept f taps old nowhere e = ap (λ (b : Answer Report). filled b (coefficientsOf f (Q taps)) old) e
     kept f taps old (at-place k) e = ap (λ (b : Answer Report). filled b (coefficientsOf f (Q taps)) old) e

@@ -1,4 +1,5 @@
--- `tap_set::round_taps` meets its contract: each answer is a law of proofs/Settled.antt. Assumes nothing.
+-- `tap_set::round_taps` meets its contract. Each check of the table that applies ends it, and each way out is a law of proofs/Settled.antt: what is left here is
+-- to hand that law the facts of the tests passed on the way. Assumes nothing.
 use borrow.Author.Needs.{needs}
 use mathlib.Core.Path.{_≡_, refl, ap, _∙_}
 use mathlib.Core.Bool.{Bool, true, false, true≢false, false≢true}

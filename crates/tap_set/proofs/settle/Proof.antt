@@ -1,4 +1,5 @@
--- `tap_set::settle` meets its contract. Assumes nothing.
+-- `tap_set::settle` meets its contract. The copy writes all coefficients where `round_all` accepts them and none where it does not. A refusal of `round_all` has
+-- the lowest place that is turned down; whether that is a number that is not finite or one outside the bounds, the scan that follows settles. Assumes nothing.
 use borrow.Author.Needs.{needs}
 use mathlib.Core.Path.{_≡_, refl, sym, ap, _∙_}
 use mathlib.Core.List.{List, _++_}
@@ -6,11 +7,10 @@ use Prim.Native.Nat.{ℕ, _≤_}
 use native.Mathlib.Nat.{le-trans, le-of-eq}
 use native.Mathlib.Omega.{arith}
 use lib.IntN.{ℤ}
-use lib.ListN.{length, take, drop}
+use lib.ListN.{length, take, drop, length-map}
 use lib.Seq.{take-at}
 use Rattle.refusal.specs.Answer.{Answer, given, refused, filled}
 use Rattle.refusal.proofs.Checks.{found, found-none}
-use Rattle.refusal.proofs.Tables.{length-map}
 use Rattle.tap_set.specs.declared.Report.{Report}
 use Rattle.tap_set.specs.declared.RoundedTaps.{RoundedTaps}
 use Rattle.tap_set.specs.Set.{answerOf, coefficientsOf}
@@ -47,7 +47,7 @@ copied c =
     let s = r .before .before .before in
     let a = s .args in
     left (coefficientsOf (a .f) (a .xs .now)) _ (a .coefficients .now) _ _ (answerOf (r .round-all .result)) (p .accepted .result) (length (a .xs .now)) (c .copy .ensures) (p .accepted .ensures)
-    (length-map (whole (a .f)) (a .xs .now)) (r .round-all .ensures .1)
+    (length-map (a .xs .now) (whole (a .f))) (r .round-all .ensures .1)
 
 slice-aggregate-round-all : tie.Need-slice-aggregate-round-all
 slice-aggregate-round-all c = search needs

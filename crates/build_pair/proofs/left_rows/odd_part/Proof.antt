@@ -1,10 +1,11 @@
 -- `build_pair::left_rows::odd_part` meets its contract. Assumes nothing.
-use Rattle.build_pair.proofs.OddPart.{zeros-below, odd-part-is}
+use Rattle.word.proofs.LowZeros.{zeros-below}
+use Rattle.build_pair.proofs.OddPart.{odd-part-is}
 use Rattle.build_pair.proofs.left_rows.odd_part.Statement.{statement}
 use Rattle.build_pair.proofs.left_rows.odd_part.Tie as tie
 
 shr-result : tie.Need-shr-result
-shr-result c = zeros-below 32 (c .args .x) (c .pre) (c .fits .x .fits)
+shr-result c = zeros-below 32 (c .args .x) (c .fits .x .fits) (c .pre)
 
 returns : tie.Need-returns
 returns c = odd-part-is (c .args .x)

@@ -1,4 +1,5 @@
--- `coefficient::end_of_nonzero` meets its contract. The invariant: the last nonzero is not among the coefficients from `end` on. Assumes nothing.
+-- `coefficient::end_of_nonzero` meets its contract. The invariant of its loop: the last nonzero of the coefficients before `end` is the last of all, since
+-- those from `end` on are zero. The measure is `end`. Assumes nothing.
 use mathlib.Core.Path.{_≡_, sym, ap, _∙_}
 use Prim.Native.Nat.{_-_, _≤_}
 use borrow.Author.Needs.{needs}

@@ -1,4 +1,5 @@
--- `coefficient::first_nonzero` meets its contract. The invariant: none of the coefficients passed is the first nonzero. Assumes nothing.
+-- `coefficient::first_nonzero` meets its contract. The invariant of its loop: the first nonzero of the coefficients from `i` on is the first of all, since
+-- those passed are zero. The measure is the number of coefficients still to come. Assumes nothing.
 use mathlib.Core.Path.{_≡_, refl, sym, _∙_}
 use Prim.Native.Nat.{_-_, _≤_}
 use borrow.Author.Needs.{needs}
