@@ -7,9 +7,9 @@ use native.Mathlib.Omega.{arith}
 use lib.ListN.{length, getD, take, drop, drop-of-length-le}
 use lib.Seq.{drop-cons, getD-take, length-take-le}
 use Rattle.network.specs.declared.Row.{Row}
-use Rattle.network.specs.Rows.{rowsOf}
+use Rattle.network.specs.Rows.{rowsOf, firstRow}
 use Rattle.build_steps.specs.Parts.{Part}
-use Rattle.build_steps.specs.Steps.{firstRow, step, steps}
+use Rattle.build_steps.specs.Steps.{step, steps}
 use Rattle.build_steps.specs.RowSteps.{Lawful, row-0}
 use Rattle.build_steps.specs.CanBuild.{Buildable}
 use Rattle.build_steps.proofs.Steps.{step-grows}

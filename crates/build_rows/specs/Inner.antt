@@ -2,9 +2,9 @@
 use mathlib.Core.List.{List, [], _∷_, map}
 use Prim.Native.Nat.{ℕ, _^_, _≤_, _<_}
 use lib.ListN.{length, getD, take}
-use Rattle.network.specs.Rows.{rowsOf}
+use Rattle.network.specs.Rows.{rowsOf, firstRow}
 use Rattle.build_steps.specs.Parts.{Part}
-use Rattle.build_steps.specs.Steps.{firstRow, step, steps}
+use Rattle.build_steps.specs.Steps.{step, steps}
 use Rattle.build_steps.specs.RowSteps.{Lawful}
 use Rattle.build_steps.specs.CanBuild.{Buildable}
 use Rattle.build_odd_parts.specs.Inner.{partIn, tapIn}

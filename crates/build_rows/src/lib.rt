@@ -3,14 +3,13 @@ ghost use mathlib.Core.Path.{_≡_};
 ghost use mathlib.Core.List.{[], _∷_, map};
 ghost use Prim.Native.Nat.{max};
 ghost use lib.ListN.{take};
-ghost use Rattle.network.specs.Rows.{rowsOf};
-ghost use Rattle.build_steps.specs.Steps.{firstRow, step, steps};
+ghost use Rattle.network.specs.Rows.{rowsOf, firstRow};
+ghost use Rattle.build_steps.specs.Steps.{step, steps};
 ghost use Rattle.build_odd_parts.specs.Inner.{partIn};
 ghost use Rattle.build_index.specs.Inner.{Grown};
 ghost use Rattle.build_rows.specs.Inner.{partOf, Ready, CanStart};
 use build_index::Found;
 use build_pair::NewRow;
-use network::Row;
 
 fn larger(a: u32, b: u32) -> u32
     ensures { λ r. ⌜ r ≡ max a b ⌝ }
@@ -61,14 +60,7 @@ pub fn add_rows(
     ensures { λ r. ⌜ Grown (now (table .entry)) (now (table .exit)) (now (heads .exit)) (now (links .exit)) r
         (steps (firstRow ∷ []) (map (partIn (now (choices .entry))) (take m (now (keys .entry))))) ⌝ }
 {
-    let first = Row {
-        left: 0,
-        right: 0,
-        shift: 0,
-        sign: network::PLUS,
-        value: 1,
-    };
-    build_index::put(table, heads, links, 0, first);
+    build_index::put(table, heads, links, 0, network::FIRST);
     let mut n: usize = 1;
     let mut most: u32 = 1;
     let mut i: usize = 0;

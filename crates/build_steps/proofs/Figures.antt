@@ -2,7 +2,7 @@
 use mathlib.Core.Path.{_≡_, refl, sym, ap, ap₂, _∙_, subst}
 use mathlib.Core.Bool.{false, not, cond}
 use mathlib.Core.List.{List, [], _∷_, flatMap}
-use Prim.Native.Nat.{ℕ, zero, suc, _≤_, _<_}
+use Prim.Native.Nat.{ℕ, zero, suc, _≤_, _<_, _*_}
 use native.Mathlib.Omega.{arith}
 use borrow.Author.Tests.{lt-ltb}
 use lib.Count.{trailingZeros}
@@ -17,11 +17,11 @@ use Rattle.signed_digit.specs.CanonicalForm.{canonicalNat}
 use Rattle.signed_digit.specs.Forms.{listing}
 use Rattle.signed_digit.proofs.Figures.{figures}
 use Rattle.coefficient.specs.Parts.{partsOf, oddPartOf, shiftOf}
-use Rattle.network.specs.Rows.{Network, plus, minus, rowTable, tapTable, wordsOfRows, wordsOfTapRows}
+use Rattle.network.specs.Rows.{Network, plus, minus, rowWords, rowTable, tapWords, tapTable, wordsOfRows, wordsOfTapRows, firstRow}
 use Rattle.network.specs.Figures.{sheetRows, sheetTapRows, sheetCoefficients}
 use Rattle.build_steps.specs.Parts.{leastWeight, comesBefore, insert, insertTap, takenFrom, partsToBuild}
 use Rattle.build_steps.specs.Search.{rowWith, fit, orElse, firstOver, rowOver, tried, fitAtShift, fitAtLeft, firstFit}
-use Rattle.build_steps.specs.Steps.{firstRow, searched, lookedUp, step, steps, builtRows}
+use Rattle.build_steps.specs.Steps.{searched, lookedUp, step, steps, builtRows}
 use Rattle.build_steps.specs.TapRows.{tapRowOf, built}
 use Rattle.build_steps.specs.Answer.{choicesOf, noSuchForm, missingForm, buildAnswer, rowCount}
 use Rattle.build_steps.specs.PartOrder.{PartsInOrder}
@@ -99,7 +99,7 @@ unfolding lowestFrom firstFit fitAtLeft fitAtShift firstOver orElse tried rowOve
 first-fit = fit-is-first (firstRow ∷ []) 3 refl (omega arith) (record { left = 0; right = 0; shift = 1; sign = plus; value = 3 }) refl
 
 into : (rows taps : List ℕ) → rowTable ≤ length rows → tapTable ≤ length taps
-    → BuiltInto sheetCoefficients sheetChoices rows taps (given 3) (sheetRows (drop 15 rows)) (sheetTapRows (drop 12 taps))
+    → BuiltInto sheetCoefficients sheetChoices rows taps (given 3) (sheetRows (drop (3 * rowWords) rows)) (sheetTapRows (drop (4 * tapWords) taps))
 unfolding flatMap
 into rows taps r t =
     let e = can-give sheetCoefficients sheetChoices rows taps (record { some = omega arith; can-build = can-build; rows-long = r; taps-long = t }) in

@@ -10,10 +10,9 @@ use lib.ListN.{length, take, length-append, List·getD-append}
 use lib.Seq.{getD-at, take-at, take-append-le}
 use Rattle.refusal.specs.Answer.{at-place, lowestFrom}
 use Rattle.network.specs.declared.Row.{Row}
-use Rattle.network.specs.Rows.{rowIn, noRow}
+use Rattle.network.specs.Rows.{rowIn, noRow, firstRow}
 use Rattle.network.specs.RowRule.{FirstRow, LaterRow, RowRule}
 use Rattle.build_steps.specs.Search.{rowWith}
-use Rattle.build_steps.specs.Steps.{firstRow}
 use Rattle.build_steps.specs.RowSteps.{Made, Lawful, row-0, one-more, RowValue}
 use Rattle.build_steps.proofs.Lookup.{row-stays, row-joins}
 

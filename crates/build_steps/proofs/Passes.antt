@@ -11,14 +11,14 @@ use Rattle.refusal.specs.Answer.{given}
 use Rattle.signed_digit.specs.Forms.{listing}
 use Rattle.coefficient.specs.Parts.{Parts, parts, partsOf}
 use Rattle.network.specs.declared.Row.{Row}
-use Rattle.network.specs.Rows.{tapRowIn, noTap}
+use Rattle.network.specs.Rows.{tapRowIn, noTap, firstRow}
 use Rattle.network.specs.Coefficients.{coefficientOf, coefficients}
 use Rattle.network.specs.TapRowRule.{TapRowRule}
 use Rattle.network.specs.Check.{checked}
 use Rattle.network.specs.Accepted.{KeepsRules}
 use Rattle.network.proofs.Passed.{passed-checked}
 use Rattle.build_steps.specs.Parts.{Part, partsToBuild}
-use Rattle.build_steps.specs.Steps.{firstRow, steps, builtRows}
+use Rattle.build_steps.specs.Steps.{steps, builtRows}
 use Rattle.build_steps.specs.TapRows.{tapRowOf, built}
 use Rattle.build_steps.specs.Answer.{noSuchForm}
 use Rattle.build_steps.specs.RowSteps.{Lawful, row-0, HasRow}

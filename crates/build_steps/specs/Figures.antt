@@ -2,16 +2,16 @@
 -- proves them. Definitions only.
 use mathlib.Core.Path.{_≡_}
 use mathlib.Core.List.{List, [], _∷_}
-use Prim.Native.Nat.{ℕ, _≤_}
+use Prim.Native.Nat.{ℕ, _≤_, _*_}
 use lib.IntN.{pos}
 use lib.ListN.{length, drop}
 use Rattle.refusal.specs.Answer.{given, refused}
 use Rattle.network.specs.declared.Row.{Row}
-use Rattle.network.specs.Rows.{Network, plus, minus, noTap, rowTable, tapTable}
+use Rattle.network.specs.Rows.{Network, plus, minus, noTap, rowWords, rowTable, tapWords, tapTable, firstRow}
 use Rattle.network.specs.Figures.{sheetRows, sheetTapRows, sheetCoefficients}
 use Rattle.build_steps.specs.Parts.{Part}
 use Rattle.build_steps.specs.Search.{fit, firstFit}
-use Rattle.build_steps.specs.Steps.{firstRow, builtRows}
+use Rattle.build_steps.specs.Steps.{builtRows}
 use Rattle.build_steps.specs.TapRows.{built}
 use Rattle.build_steps.specs.PartOrder.{PartsInOrder}
 use Rattle.build_steps.specs.RowSteps.{FirstFit, Lawful}
@@ -54,7 +54,7 @@ pub record BuildingFigures : Type 0 where
   pub sheet-first-fit : FirstFit (firstRow ∷ []) 3 (record { left = 0; right = 0; shift = 1; sign = plus; value = 3 })
   -- tables that `build` leaves, and those that it leaves alone
   pub sheet-into : (rows taps : List ℕ) → rowTable ≤ length rows → tapTable ≤ length taps
-      → BuiltInto sheetCoefficients sheetChoices rows taps (given 3) (sheetRows (drop 15 rows)) (sheetTapRows (drop 12 taps))
+      → BuiltInto sheetCoefficients sheetChoices rows taps (given 3) (sheetRows (drop (3 * rowWords) rows)) (sheetTapRows (drop (4 * tapWords) taps))
   -- 3 has two forms and 0 has one: the second and the third choice are not listed, and the lower one is returned
   pub no-third-form : (rows taps : List ℕ) → rowTable ≤ length rows → tapTable ≤ length taps
       → BuiltInto (pos 3 ∷ pos 3 ∷ pos 0 ∷ []) (0 ∷ 2 ∷ 1 ∷ []) rows taps (refused 9 1) rows taps

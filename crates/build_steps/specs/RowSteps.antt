@@ -9,13 +9,12 @@ use lib.IntN.{ℤ, pos}
 use lib.ListN.{length, getD, take}
 use Rattle.refusal.specs.Answer.{nowhere, at-place}
 use Rattle.network.specs.declared.Row.{Row}
-use Rattle.network.specs.Rows.{plus, minus, rowIn}
+use Rattle.network.specs.Rows.{plus, minus, rowIn, firstRow}
 use Rattle.network.specs.RowRule.{LaterRow, RowRule}
 use Rattle.build_steps.specs.Parts.{Part}
 use Rattle.build_steps.specs.PartOrder.{HasOddPart}
 use Rattle.build_steps.specs.Search.{rowWith, fit, firstFit}
 use Rattle.build_steps.specs.Chain.{chosenForm, chained}
-use Rattle.build_steps.specs.Steps.{firstRow}
 
 -- ---- step 2
 

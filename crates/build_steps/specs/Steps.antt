@@ -4,14 +4,10 @@ use Prim.Native.Nat.{ℕ}
 use lib.IntN.{ℤ}
 use Rattle.refusal.specs.Answer.{Place, nowhere, at-place}
 use Rattle.network.specs.declared.Row.{Row}
-use Rattle.network.specs.Rows.{plus}
+use Rattle.network.specs.Rows.{firstRow}
 use Rattle.build_steps.specs.Parts.{Part, partsToBuild}
 use Rattle.build_steps.specs.Search.{rowWith, Fit, fit, none-fits, firstFit}
 use Rattle.build_steps.specs.Chain.{chosenForm, chained}
-
--- "Row 0 is 0, 0, 0, `+`, 1"
-abbrev pub firstRow : Row
-firstRow = record { left = 0; right = 0; shift = 0; sign = plus; value = 1 }
 
 -- "The first fit is added"; "Only if none fits, read the chosen form"
 unfoldable pub searched : Fit → List Row → Part → List Row

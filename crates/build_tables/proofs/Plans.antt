@@ -7,9 +7,9 @@ use lib.IntN.{ℤ}
 use lib.ListN.{length, getD, take, length-map, List·getD-map}
 use lib.Seq.{getD-take, length-take-le}
 use Rattle.network.specs.declared.Row.{Row}
-use Rattle.network.specs.Rows.{rowsOf, wordsOfTapRows}
+use Rattle.network.specs.Rows.{rowsOf, wordsOfTapRows, firstRow}
 use Rattle.build_steps.specs.Parts.{Part, partsToBuild}
-use Rattle.build_steps.specs.Steps.{firstRow, steps, builtRows}
+use Rattle.build_steps.specs.Steps.{steps, builtRows}
 use Rattle.build_steps.specs.TapRows.{built}
 use Rattle.build_steps.specs.RowSteps.{row-0}
 use Rattle.build_steps.specs.CanBuild.{CanBuildInto, Buildable}

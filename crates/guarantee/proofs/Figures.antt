@@ -1,7 +1,7 @@
 -- The proved figures, one list.
 use mathlib.Core.Path.{_≡_, refl, sym, ap, ap₂, _∙_, subst}
-use mathlib.Core.List.{List, _∷_, _++_}
-use Prim.Native.Nat.{ℕ, zero, suc, _+_, _<_, _≤_}
+use mathlib.Core.List.{List, _∷_, _++_, flatMap}
+use Prim.Native.Nat.{ℕ, zero, suc, _+_, _*_, _-_, _<_, _≤_}
 use native.Mathlib.Omega.{arith}
 use lib.Count.{trailingZeros}
 use lib.IntN.{ℤ, pos}
@@ -11,7 +11,7 @@ use Rattle.word.specs.Bounds.{Coefficient}
 use Rattle.signed_digit.proofs.Figures.{figures}
 use Rattle.coefficient.specs.Parts.{partsOf, oddPartOf, shiftOf}
 use Rattle.tap.proofs.Figures.{tap-figures}
-use Rattle.network.specs.Rows.{Network, rowTable, tapTable, wordsOfRows, wordsOfTapRows}
+use Rattle.network.specs.Rows.{Network, rowWords, rowTable, tapWords, tapTable, wordsOfRows, wordsOfTapRows}
 use Rattle.build_steps.specs.TapRows.{built}
 use Rattle.build_steps.specs.Answer.{buildAnswer, rowCount}
 use Rattle.build_steps.specs.CanBuild.{Listed}
@@ -25,7 +25,7 @@ use Rattle.run_calls.specs.Demand.{Calls}
 use Rattle.guarantee.proofs.SheetCalls as Called
 use Rattle.guarantee.proofs.SheetFilter as Running
 use Rattle.guarantee.specs.Demand3.{Taken}
-use Rattle.network.specs.Figures.{sheetCoefficients}
+use Rattle.network.specs.Figures.{sheetRows, sheetTapRows, sheetCoefficients}
 use Rattle.build_steps.specs.Figures.{sheetChoices}
 use Rattle.guarantee.specs.Sheet.{sheetSamples, storedNetwork, fourCalls}
 use Rattle.guarantee.specs.Figures.{SheetFilter, SheetBuilt, SheetCalls, ProvedFigures}
@@ -66,13 +66,13 @@ module _ (rows taps : List ℕ) (lr : rowTable ≤ length rows) (lt : tapTable �
   accepted = can-build sheetCoefficients sheetChoices rows taps taken lr lt
 
   -- the words in front of the tables
-  rows-left : rowsLeft rows taps ≡ 0 ∷ 0 ∷ 0 ∷ 43 ∷ 1 ∷ 0 ∷ 0 ∷ 1 ∷ 43 ∷ 3 ∷ 1 ∷ 1 ∷ 4 ∷ 45 ∷ 45 ∷ drop 15 rows
-  unfolding wordsOfRows
+  rows-left : rowsLeft rows taps ≡ sheetRows (drop (3 * rowWords) rows)
+  unfolding flatMap
   rows-left =
       ap₂ (λ (a : Answer Network) (net : Network). filled a (wordsOfRows (net .rows)) rows) accepted example
 
-  taps-left : tapsLeft rows taps ≡ 43 ∷ 1 ∷ 0 ∷ 45 ∷ 1 ∷ 1 ∷ 43 ∷ 2 ∷ 0 ∷ 0 ∷ 0 ∷ 0 ∷ drop 12 taps
-  unfolding wordsOfTapRows
+  taps-left : tapsLeft rows taps ≡ sheetTapRows (drop (4 * tapWords) taps)
+  unfolding flatMap
   taps-left =
       ap₂ (λ (a : Answer Network) (net : Network). filled a (wordsOfTapRows (net .taps)) taps) accepted example
 
@@ -89,51 +89,51 @@ module _ (rows taps : List ℕ) (lr : rowTable ≤ length rows) (lt : tapTable �
         ap (λ (k : ℕ). runAnswer rows′ k taps′ 4 sheetSamples (length (replicate 256 0 ++ beyond)) (length (a ∷ b ∷ c ∷ rest))) count-is
         ∙ ap₂ (λ (u v : List ℕ). runAnswer u 3 v 4 sheetSamples (length (replicate 256 0 ++ beyond)) (length (a ∷ b ∷ c ∷ rest)))
         (left .rows-left ∙ rows-left) (left .taps-left ∙ taps-left)
-        ∙ Running.sheet-filter (drop 15 rows) (drop 12 taps) beyond a b c rest (omega (arith, length-drop 15 rows)) (omega (arith, length-drop 12 taps)) .answer
+        ∙ Running.sheet-filter (drop (3 * rowWords) rows) (drop (4 * tapWords) taps) beyond a b c rest (omega (arith, length-drop (3 * rowWords) rows)) (omega (arith, length-drop (4 * tapWords) taps)) .answer
 
     sheet-filter : SheetFilter rest answer o′
     sheet-filter = record {
       accepted = ran .answer ∙ ap outcome answered;
       given-outputs =
           ran .outputs ∙ ap (λ (x : Answer (List ℤ)). runOutputs x sheetSamples (replicate 256 0 ++ beyond) (a ∷ b ∷ c ∷ rest)) answered
-          ∙ Running.sheet-filter (drop 15 rows) (drop 12 taps) beyond a b c rest (omega (arith, length-drop 15 rows)) (omega (arith, length-drop 12 taps)) .outputs;
+          ∙ Running.sheet-filter (drop (3 * rowWords) rows) (drop (4 * tapWords) taps) beyond a b c rest (omega (arith, length-drop (3 * rowWords) rows)) (omega (arith, length-drop (4 * tapWords) taps)) .outputs;
     }
 
-long-rows : rowTable ≤ length (replicate {A = ℕ} 20480 0)
-long-rows = omega (arith, length-replicate {A = ℕ} 20480 0)
+long-rows : rowTable ≤ length (replicate {A = ℕ} rowTable 0)
+long-rows = omega (arith, length-replicate {A = ℕ} rowTable 0)
 
-long-taps : tapTable ≤ length (replicate {A = ℕ} 768 0)
-long-taps = omega (arith, length-replicate {A = ℕ} 768 0)
+long-taps : tapTable ≤ length (replicate {A = ℕ} tapTable 0)
+long-taps = omega (arith, length-replicate {A = ℕ} tapTable 0)
 
 sheet-built : SheetBuilt
 sheet-built = record {
-  rows′ = rowsLeft (replicate 20480 0) (replicate 768 0);
-  taps′ = tapsLeft (replicate 20480 0) (replicate 768 0);
+  rows′ = rowsLeft (replicate rowTable 0) (replicate tapTable 0);
+  taps′ = tapsLeft (replicate rowTable 0) (replicate tapTable 0);
   taken = taken;
-  into = subst (λ (a : Answer ℕ). BuiltInto sheetCoefficients sheetChoices (replicate 20480 0) (replicate 768 0) a (rowsLeft (replicate 20480 0) (replicate 768 0)) (tapsLeft (replicate 20480 0) (replicate 768 0)))
-      (three-rows (replicate 20480 0) (replicate 768 0) long-rows long-taps) (building sheetCoefficients sheetChoices (replicate 20480 0) (replicate 768 0));
+  into = subst (λ (a : Answer ℕ). BuiltInto sheetCoefficients sheetChoices (replicate rowTable 0) (replicate tapTable 0) a (rowsLeft (replicate rowTable 0) (replicate tapTable 0)) (tapsLeft (replicate rowTable 0) (replicate tapTable 0)))
+      (three-rows (replicate rowTable 0) (replicate tapTable 0) long-rows long-taps) (building sheetCoefficients sheetChoices (replicate rowTable 0) (replicate tapTable 0));
 }
 
 same-network : (r t : List ℕ) → storedNetwork r t ≡ built sheetCoefficients sheetChoices
 unfolding upTo
 same-network r t = sym example
 
-rest-of-rows : rowTable ≤ 15 + length (replicate {A = ℕ} 20465 0)
-rest-of-rows = omega (arith, length-replicate {A = ℕ} 20465 0)
+rest-of-rows : rowTable ≤ 3 * rowWords + length (replicate {A = ℕ} (rowTable - 3 * rowWords) 0)
+rest-of-rows = omega (arith, length-replicate {A = ℕ} (rowTable - 3 * rowWords) 0)
 
-rest-of-taps : tapTable ≤ 12 + length (replicate {A = ℕ} 756 0)
-rest-of-taps = omega (arith, length-replicate {A = ℕ} 756 0)
+rest-of-taps : tapTable ≤ 4 * tapWords + length (replicate {A = ℕ} (tapTable - 4 * tapWords) 0)
+rest-of-taps = omega (arith, length-replicate {A = ℕ} (tapTable - 4 * tapWords) 0)
 
 sheet-calls : SheetCalls
 sheet-calls =
-    let r : List ℕ = replicate 20465 0 in
-    let t : List ℕ = replicate 756 0 in
+    let r : List ℕ = replicate (rowTable - 3 * rowWords) 0 in
+    let t : List ℕ = replicate (tapTable - 4 * tapWords) 0 in
     let calls = subst (λ (net : Network). Calls net (Called.steps r t rest-of-rows rest-of-taps)) (same-network r t) (Called.calls r t rest-of-rows rest-of-taps) in
     record {
       steps = Called.steps r t rest-of-rows rest-of-taps;
       lendings = Called.same-lendings cleared (fourCalls r t);
       calls = calls;
-      demand = demand-3 .networks sheetCoefficients sheetChoices (replicate 20480 0) (replicate 768 0) (given 3) (sheet-built .rows′) (sheet-built .taps′) taken long-rows long-taps (sheet-built .into) .sums
+      demand = demand-3 .networks sheetCoefficients sheetChoices (replicate rowTable 0) (replicate tapTable 0) (given 3) (sheet-built .rows′) (sheet-built .taps′) taken long-rows long-taps (sheet-built .into) .sums
           (Called.steps r t rest-of-rows rest-of-taps) calls;
       answers = Called.answers r t rest-of-rows rest-of-taps;
       outputs = Called.outputs r t rest-of-rows rest-of-taps;

@@ -1,13 +1,13 @@
 -- All figures that document 01, "Bench figures", marks [P], in one list. Definitions only; the theorem is in proofs/Figures.antt.
 use mathlib.Core.Path.{_≡_}
 use mathlib.Core.List.{List, [], _∷_, _++_, map}
-use Prim.Native.Nat.{ℕ, _≤_}
+use Prim.Native.Nat.{ℕ, _*_, _-_, _≤_}
 use lib.IntN.{ℤ, pos, negℤ}
 use lib.ListN.{length, replicate}
 use Rattle.refusal.specs.Answer.{Answer, given, refused}
 use Rattle.signed_digit.specs.Figures.{Figures}
 use Rattle.tap.specs.Figures.{TapFigures}
-use Rattle.network.specs.Rows.{rowTable, tapTable}
+use Rattle.network.specs.Rows.{rowWords, rowTable, tapWords, tapTable}
 use Rattle.build_steps.specs.TapRows.{built}
 use Rattle.network.specs.Figures.{sheetCoefficients}
 use Rattle.build_steps.specs.Figures.{sheetChoices, sheetNetwork}
@@ -29,17 +29,17 @@ pub record SheetBuilt : Type 0 where
   pub rows′ : List ℕ
   pub taps′ : List ℕ
   pub taken : Taken sheetCoefficients sheetChoices
-  pub into : BuiltInto sheetCoefficients sheetChoices (replicate 20480 0) (replicate 768 0) (given 3) rows′ taps′
+  pub into : BuiltInto sheetCoefficients sheetChoices (replicate rowTable 0) (replicate tapTable 0) (given 3) rows′ taps′
 
 -- running calls with it: one accepted, one with no samples, one refused with 3, one with 10
 pub record SheetCalls : Type 0 where
   pub steps : List Step
-  pub lendings : map (λ (s : Step). s .lending) steps ≡ fourCalls (replicate 20465 0) (replicate 756 0)
+  pub lendings : map (λ (s : Step). s .lending) steps ≡ fourCalls (replicate (rowTable - 3 * rowWords) 0) (replicate (tapTable - 4 * tapWords) 0)
   pub calls : Calls (built sheetCoefficients sheetChoices) steps
   pub demand : Demand sheetCoefficients (built sheetCoefficients sheetChoices) steps
   pub answers : map (λ (s : Step). s .answer) steps ≡ given tt ∷ given tt ∷ refused 3 0 ∷ refused 10 2 ∷ []
   pub outputs : map (λ (s : Step). s .outputs) steps ≡ (pos 3 ∷ pos 0 ∷ negℤ (pos 98271) ∷ pos 9 ∷ []) ∷ [] ∷ (pos 8 ∷ []) ∷ (pos 8 ∷ []) ∷ []
-  pub full-length : FullLength (acceptedCall (replicate 20465 0) (replicate 756 0) .call)
+  pub full-length : FullLength (acceptedCall (replicate (rowTable - 3 * rowWords) 0) (replicate (tapTable - 4 * tapWords) 0) .call)
 
 pub record ProvedFigures : Type 0 where
   -- "Forms of 45 .. in order", of 180, -45, 3, 11, 13, 0, 1, 2^31 - 1 and -2^31; and the tables that `minimal_forms` leaves for 45

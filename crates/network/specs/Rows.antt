@@ -86,6 +86,10 @@ tapRowsOf table m = upTo m (tapRowAt table)
 abbrev pub networkOf : List ℕ → ℕ → List ℕ → ℕ → Network
 networkOf rows rowCount taps tapCount = record { rows = rowsOf rows rowCount; taps = tapRowsOf taps tapCount }
 
+-- "Row 0 is 0, 0, 0, `+`, 1"
+abbrev pub firstRow : Row
+firstRow = record { left = 0; right = 0; shift = 0; sign = plus; value = 1 }
+
 -- what stands where a network has no such row or tap row: zeros
 abbrev pub noRow : Row
 noRow = record { left = 0; right = 0; shift = 0; sign = none; value = 0 }

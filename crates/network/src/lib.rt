@@ -32,6 +32,15 @@ pub struct Row {
     pub value: u32,
 }
 
+// Row 0.
+pub const FIRST: Row = Row {
+    left: 0,
+    right: 0,
+    shift: 0,
+    sign: PLUS,
+    value: 1,
+};
+
 pub struct TapRow {
     pub sign: u32,
     pub row: u32,

@@ -16,7 +16,7 @@ use Rattle.word.proofs.Bounds.{coefficient-i32}
 use Rattle.coefficient.specs.Parts.{partsOf}
 use Rattle.network.specs.declared.Row.{Row}
 use Rattle.network.specs.declared.TapRow.{TapRow}
-use Rattle.network.specs.Rows.{Network, rowAt, tapRowAt, networkOf, rowIn, tapRowIn, noRow, noTap, plus, minus, reversed, wordsOfRows, wordsOfTapRows}
+use Rattle.network.specs.Rows.{Network, rowAt, tapRowAt, networkOf, rowIn, tapRowIn, noRow, noTap, plus, minus, reversed, wordsOfRows, wordsOfTapRows, rowTable, tapTable}
 use Rattle.network.specs.RowRule.{RowRule, isRowSign}
 use Rattle.network.specs.TapRowRule.{TapRowRule, is-empty, is-product, isTapSign}
 use Rattle.network.specs.Coefficients.{coefficients}
@@ -82,7 +82,7 @@ module _ (cs : List ℤ) (h : Coefficients cs) where
   pub can-build : CanBuild cs choices
   can-build = record { few = h .few; enough = enough; bounds = h .bounds; forms = form-at }
 
-  module _ (rows taps : List ℕ) (r : 20480 ≤ length rows) (t : 768 ≤ length taps) where
+  module _ (rows taps : List ℕ) (r : rowTable ≤ length rows) (t : tapTable ≤ length taps) where
     -- nothing is turned down
     pub build-given : buildAnswer cs choices rows taps ≡ given (built cs choices)
     build-given = network-given cs choices rows taps (h .some) (h .few) (not-short cs choices rows taps enough r t) (exist-forms cs choices enough form-at)

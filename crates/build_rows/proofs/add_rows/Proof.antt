@@ -12,10 +12,10 @@ use native.Mathlib.Omega.{arith}
 use lib.ListN.{length, getD, take}
 use Rattle.refusal.specs.Answer.{lowestFrom}
 use Rattle.sequence.specs.UpTo.{upTo}
-use Rattle.network.specs.Rows.{rowsOf}
+use Rattle.network.specs.Rows.{rowsOf, firstRow}
 use Rattle.build_steps.specs.Parts.{Part}
 use Rattle.build_steps.specs.Search.{rowWith}
-use Rattle.build_steps.specs.Steps.{firstRow, step, steps}
+use Rattle.build_steps.specs.Steps.{step, steps}
 use Rattle.build_odd_parts.specs.Inner.{partIn}
 use Rattle.build_index.specs.Inner.{Grown}
 use Rattle.build_index.proofs.Room.{less-room, same-room}

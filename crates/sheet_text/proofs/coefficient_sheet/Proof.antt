@@ -5,7 +5,7 @@ use mathlib.Core.Path.{sym, ap, subst, _∙_}
 use Rattle.build_network.specs.Answer.{answerOf}
 use Rattle.sheet_kinds.specs.Text.{networkText}
 use Rattle.text.specs.Inner.{Put}
-use Rattle.network.specs.Rows.{Network}
+use Rattle.network.specs.Rows.{Network, rowTable, tapTable}
 use Rattle.sheet_lines.specs.Inner.{areaBytes}
 use Rattle.sheet_text.specs.Sheet.{choices}
 use Rattle.sheet_text.proofs.Building.{zeros, room, Printable, printable, never-refused}
@@ -14,13 +14,13 @@ use Rattle.sheet_text.proofs.coefficient_sheet.Tie as tie
 
 -- the tables hold the network of the coefficients
 printed : (c : tie.After-answer) → let s = c .before .before .before .before .before .before .before .before .before in let b = c .before .before .before .before .build in
-    Printable (s .args .coefficients .now) (s .pre .0) (zeros 20480) (zeros 768) (room 20480) (room 768) (c .answer .given .0 .0) (b .last .1 .1 .0) (b .last .1 .1 .1 .0)
+    Printable (s .args .coefficients .now) (s .pre .0) (zeros rowTable) (zeros tapTable) (room rowTable) (room tapTable) (c .answer .given .0 .0) (b .last .1 .1 .0) (b .last .1 .1 .1 .0)
 unfolding choices
 printed c =
     let s = c .before .before .before .before .before .before .before .before .before in
     let b = c .before .before .before .before .build in
     let k = c .answer .given in
-    printable (s .args .coefficients .now) (s .pre .0) (zeros 20480) (zeros 768) (room 20480) (room 768) (k .0 .0) _ _ (ap answerOf (sym (k .1)) ∙ b .ensures .answer) (b .ensures .rows-left) (b .ensures .taps-left)
+    printable (s .args .coefficients .now) (s .pre .0) (zeros rowTable) (zeros tapTable) (room rowTable) (room tapTable) (k .0 .0) _ _ (ap answerOf (sym (k .1)) ∙ b .ensures .answer) (b .ensures .rows-left) (b .ensures .taps-left)
 
 slice-aggregate-build : tie.Need-slice-aggregate-build
 slice-aggregate-build c = search needs
@@ -76,7 +76,7 @@ returns-2 c =
     let s = c .before .before .before .before .before .before .before .before .before .before .before .before .before .before in
     let a = s .args in
     let k = c .before .before .before .before .before .answer2 .given in
-    absurd (never-refused (a .coefficients .now) (s .pre .0) (zeros 20480) (zeros 768) (room 20480) (room 768) _ _ (ap answerOf (sym (k .1)) ∙ c .before .before .before .before .before .before .before .before .before .build .ensures .answer))
+    absurd (never-refused (a .coefficients .now) (s .pre .0) (zeros rowTable) (zeros tapTable) (room rowTable) (room tapTable) _ _ (ap answerOf (sym (k .1)) ∙ c .before .before .before .before .before .before .before .before .before .build .ensures .answer))
 
 pub coefficient-sheet-spec : {M : Type 1} → statement M
 coefficient-sheet-spec =
