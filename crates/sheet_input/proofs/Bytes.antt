@@ -1,7 +1,7 @@
 -- Bytes as a number, low byte first. Assumes nothing.
 use mathlib.Core.Path.{_≡_, ap, _∙_}
 use mathlib.Core.List.{List}
-use Prim.Native.Nat.{ℕ, suc, _+_, _*_, _≤_}
+use Prim.Native.Nat.{ℕ, suc, _+_, _*_, _^_, _≤_}
 use native.Mathlib.Omega.{arith}
 use native.Mathlib.Numerals.{add-one}
 use lib.ListN.{length, take, drop, getD}
@@ -39,5 +39,5 @@ module _ (s : List ℕ) where
   low-four at h = omega (arith, low-four-more 0 at h)
 
   -- eight bytes are two fours
-  pub low-eight : (at : ℕ) → at + 8 ≤ length s → lowFirst (take 8 (drop at s)) ≡ lowFirst (take 4 (drop at s)) + 4294967296 * lowFirst (take 4 (drop (at + 4) s))
+  pub low-eight : (at : ℕ) → at + 8 ≤ length s → lowFirst (take 8 (drop at s)) ≡ lowFirst (take 4 (drop at s)) + 2 ^ 32 * lowFirst (take 4 (drop (at + 4) s))
   low-eight at h = omega (arith, low-four-more 4 at h, low-four at (omega arith))

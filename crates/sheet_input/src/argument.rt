@@ -11,7 +11,7 @@ fn digit(b: u8) -> u32
     requires { ⌜ (48 ≤ b) × (b ≤ 57) ⌝ }
     ensures { λ r. ⌜ r ≡ b - 48 ⌝ }
 {
-    (b - 48) as u32
+    (b - b'0') as u32
 }
 
 // The number of an argument of any length: what is above 31 stays so with every digit more.
@@ -25,10 +25,10 @@ pub fn bits_of(text: &[u8]) -> Fraction
     let mut i: usize = 0;
     while i < text.len() {
         let b = text[i];
-        if b < 48 {
+        if b < b'0' {
             return Fraction::Refused(Refusal::FractionBits);
         }
-        if b > 57 {
+        if b > b'9' {
             return Fraction::Refused(Refusal::FractionBits);
         }
         f = 10 * f + digit(b);

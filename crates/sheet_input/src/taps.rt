@@ -1,6 +1,6 @@
 // Taps from bytes.
 ghost use mathlib.Core.Path.{_≡_};
-ghost use Prim.Native.Nat.{_+_, _*_, _≤_, _<_};
+ghost use Prim.Native.Nat.{_+_, _*_, _^_, _≤_, _<_};
 ghost use lib.ListN.{length, take, drop};
 ghost use Rattle.sequence.specs.Inner.{front};
 ghost use Rattle.sheet_input.specs.Taps.{lowFirst, tapAt, wholeTaps};
@@ -14,7 +14,7 @@ fn byte(b: u8) -> u64
 // The number of four bytes, low byte first.
 fn four_bytes(input: &[u8], at: usize) -> u64
     requires { ⌜ at + 4 ≤ length (now input) ⌝ }
-    ensures { λ r. ⌜ (r ≡ lowFirst (take 4 (drop at (now (input .entry))))) × (r < 4294967296) ⌝ }
+    ensures { λ r. ⌜ (r ≡ lowFirst (take 4 (drop at (now (input .entry))))) × (r < 2 ^ 32) ⌝ }
 {
     byte(input[at])
         + 256 * (byte(input[at + 1]) + 256 * (byte(input[at + 2]) + 256 * byte(input[at + 3])))
@@ -27,7 +27,7 @@ fn tap_at(input: &[u8], i: usize) -> f64
     let at = 8 * i;
     let low = four_bytes(input, at);
     let high = four_bytes(input, at + 4);
-    tap::pattern::of_bits(low + 4294967296 * high)
+    tap::pattern::of_bits(low + 0x1_0000_0000 * high)
 }
 
 // The whole taps of the input, at the start of the table.

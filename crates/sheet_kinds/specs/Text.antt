@@ -12,9 +12,13 @@ use Rattle.sheet_lines.specs.Lines.{header, nodeLine, tapLine, totalLine, refus
 abbrev pub tapLineIn : List Row → ℕ → TapRow → List ℕ
 tapLineIn rows i t = tapLine i t (coefficientOf rows t)
 
--- "Node lines come first, then tap lines, each by number, then the total line"; "Total is adders: rows less one"
+-- "Total is adders: rows less one"
+abbrev pub totalOf : Network → ℕ
+totalOf net = length (net .rows) - 1
+
+-- "Node lines come first, then tap lines, each by number, then the total line"
 unfoldable pub networkText : Network → List ℕ
-networkText net = header ++ (linesFrom nodeLine 0 (net .rows) ++ (linesFrom (tapLineIn (net .rows)) 0 (net .taps) ++ totalLine (length (net .rows) - 1)))
+networkText net = header ++ (linesFrom nodeLine 0 (net .rows) ++ (linesFrom (tapLineIn (net .rows)) 0 (net .taps) ++ totalLine (totalOf net)))
 
 -- "When turned down it prints the header and `refused,N,,,,,P` only"
 unfoldable pub refusedText : ℕ → ℕ → List ℕ

@@ -12,6 +12,7 @@ use Rattle.sequence.specs.UpTo.{upTo}
 use Rattle.sequence.proofs.UpTo.{length-upTo}
 use Rattle.network.specs.declared.Row.{Row}
 use Rattle.network.specs.declared.TapRow.{TapRow}
+use Rattle.network.specs.Rows.{none}
 use Rattle.text.specs.Ascii.{ascii}
 use Rattle.text.specs.Numbers.{decimalBy, decimal, integer}
 use Rattle.text.specs.Inner.{Put}
@@ -53,13 +54,13 @@ unfolding nodeLine
 node-later zero r h = absurd (h refl)
 node-later (suc k) r h = refl
 
-pub tap-none : (i : ℕ) (t : TapRow) (v : ℤ) → t .sign ≡ 0 → tapLine i t v ≡ emptyTapLine i
+pub tap-none : (i : ℕ) (t : TapRow) (v : ℤ) → t .sign ≡ none → tapLine i t v ≡ emptyTapLine i
 unfolding tapLine
-tap-none i t v h = rw (eq-eqb (t .sign) 0 h)
+tap-none i t v h = rw (eq-eqb (t .sign) none h)
 
-pub tap-some : (i : ℕ) (t : TapRow) (v : ℤ) → (t .sign ≡ 0 → ⊥) → tapLine i t v ≡ productLine i t v
+pub tap-some : (i : ℕ) (t : TapRow) (v : ℤ) → (t .sign ≡ none → ⊥) → tapLine i t v ≡ productLine i t v
 unfolding tapLine
-tap-some i t v h = rw (ne-eqb (t .sign) 0 h)
+tap-some i t v h = rw (ne-eqb (t .sign) none h)
 
 pub empty-parts : (i : ℕ) → emptyTapLine i ≡ ascii "tap," ++ toValue i (48 ∷ afterValue)
 unfolding columns line decimal decimalBy

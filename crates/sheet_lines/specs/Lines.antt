@@ -15,7 +15,7 @@ unfoldable pub line : List ℕ → List (List ℕ) → List ℕ
 line field [] = field ++ (13 ∷ 10 ∷ [])
 line field (next ∷ rest) = field ++ (44 ∷ line next rest)
 
--- "Columns: kind, number, left row, shift, sign, right row, value"
+-- "Columns: kind, number, left row, shift, sign, right row, value". specs/Inner.antt has the most bytes of each
 unfoldable pub columns : (kind number left shift sign right value : List ℕ) → List ℕ
 columns kind number left shift sign right value = line kind (number ∷ left ∷ shift ∷ sign ∷ right ∷ value ∷ [])
 

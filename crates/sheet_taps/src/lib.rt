@@ -41,7 +41,7 @@ fn tap_line(out: &mut [u8], at: usize, i: u32, tap: TapRow, value: i32) -> usize
     requires { ⌜ at + tapLineBytes ≤ length (now out) ⌝ }
     ensures { λ r. ⌜ Put (now (out .entry)) at (tapLine i tap value) tapLineBytes (now (out .exit)) r ⌝ }
 {
-    if tap.sign == 0 {
+    if tap.sign == network::NONE {
         return empty_tap_line(out, at, i);
     }
     product_line(out, at, i, tap, value)
