@@ -1,10 +1,11 @@
--- What the steps of rounding a tap give. Definitions only.
+-- What the steps of rounding a tap give, and what a rounded tap holds. Definitions only.
 use Prim.Native.Nat.{ℕ, _*_}
-use mathlib.Core.Bool.{false, cond}
+use mathlib.Core.Bool.{Bool, true, false, cond}
 use lib.IntN.{ℤ, pos}
 use lib.Ieee.{Float, nan, inf, fin, binary64, up, down, eq, lt, neg, sub, ofInt}
 use lib.Ieee.Nearest.{closest}
-use Rattle.tap.specs.Rounding.{TapResult, exact, rounded, nearestWhole}
+use Rattle.refusal.specs.Answer.{Answer, given, refused}
+use Rattle.tap.specs.Rounding.{TapResult, exact, rounded, nearestWhole, wholeOf, leftOf}
 
 -- the whole number nearest to a finite x that is not below zero
 unfoldable pub nearestOf : Float → ℕ
@@ -28,3 +29,18 @@ parted x z = cond (eq x (ofInt binary64 z)) (exact z) (rounded z (sub binary64 x
 unfoldable pub magnitudeOf : Float → Float
 unfolding lt neg
 magnitudeOf x = cond (lt x (fin false 0 (pos 0))) (neg x) x
+
+-- whether an answer is a refusal
+abbrev pub isRefused : {A : Type 0} → Answer A → Bool
+isRefused (given a) = false
+isRefused (refused number place) = true
+
+-- the whole number of a rounded tap, and 0 where it is refused
+abbrev pub wholeIn : Answer TapResult → ℤ
+wholeIn (given c) = wholeOf c
+wholeIn (refused number place) = pos 0
+
+-- the leftover of a rounded tap, and +0 where it is refused
+abbrev pub leftIn : Answer TapResult → Float
+leftIn (given c) = leftOf c
+leftIn (refused number place) = fin false 0 (pos 0)

@@ -1,7 +1,11 @@
 // One binary64 tap rounded to a whole coefficient.
 pub mod finite;
 pub mod pattern;
+mod result;
 
+pub use result::coefficient;
+pub use result::is_refused;
+pub use result::leftover;
 ghost use mathlib.Core.Path.{_≡_};
 ghost use mathlib.Core.Bool.{true, false};
 ghost use Prim.Native.Nat.{_≤_, _^_};

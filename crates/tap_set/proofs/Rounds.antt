@@ -13,10 +13,11 @@ use lib.Ieee.{Float, nan}
 use Rattle.refusal.specs.Answer.{Answer, given, refused, refuseIf, refuseAt, Place, nowhere, at-place, lowestFrom, lowest}
 use Rattle.refusal.proofs.Checks.{check-passes, given-at, lowest-here, lowest-none, lowest-all, lowest-alike, lowest-none-at}
 use Rattle.tap.specs.Rounding.{TapResult, finite, outside, resultOf, roundedTap, wholeOf, leftOf}
+use Rattle.tap.specs.Inner.{isRefused, wholeIn, leftIn}
 use Rattle.tap.proofs.Answer.{rounded-is, of-finite}
 use Rattle.tap_set.specs.declared.Report.{Report}
 use Rattle.tap_set.specs.Set.{reported, reportFrom, reportOf, bounded}
-use Rattle.tap_set.specs.Inner.{isRefused, wholeIn, leftIn, withLeftover, turned, tried, finiteRule, checked}
+use Rattle.tap_set.specs.Inner.{withLeftover, turned, tried, finiteRule, checked}
 
 abbrev pub notFinite : Float → Bool
 notFinite x = not (finite x)

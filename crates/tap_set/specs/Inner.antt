@@ -1,31 +1,16 @@
 -- What the steps of rounding a set of taps give. Definitions only.
 use Prim.Native.Nat.{ℕ}
-use mathlib.Core.Bool.{Bool, true, false, not, _&&_, cond}
+use mathlib.Core.Bool.{Bool, not, _&&_, cond}
 use mathlib.Core.List.{List, _++_}
-use lib.IntN.{ℤ, pos}
 use lib.ListN.{length, drop}
 use mathlib.Core.Path.{_≡_}
 use Rattle.refusal.specs.Answer.{Answer, given, refused, refuseIf, refuseAt, lowest}
-use lib.Ieee.{Float, fin}
-use Rattle.tap.specs.Rounding.{TapResult, finite, wholeOf, leftOf, roundedTap}
+use lib.Ieee.{Float}
+use Rattle.tap.specs.Rounding.{finite, roundedTap}
+use Rattle.tap.specs.Inner.{isRefused}
 use Rattle.tap_set.specs.declared.Report.{Report}
 use Rattle.tap_normalise.specs.Normalised.{sumOf, unusable, infinite, used, divisorOf}
 use Rattle.tap_set.specs.Set.{largerOf, reportOf, bounded}
-
--- whether an answer is a refusal
-abbrev pub isRefused : {A : Type 0} → Answer A → Bool
-isRefused (given a) = false
-isRefused (refused number place) = true
-
--- the whole number of a rounded tap, and 0 where it is refused
-abbrev pub wholeIn : Answer TapResult → ℤ
-wholeIn (given c) = wholeOf c
-wholeIn (refused number place) = pos 0
-
--- the leftover of a rounded tap, and +0 where it is refused
-abbrev pub leftIn : Answer TapResult → Float
-leftIn (given c) = leftOf c
-leftIn (refused number place) = fin false 0 (pos 0)
 
 -- the report with one leftover more
 unfoldable pub withLeftover : Report → Float → Report

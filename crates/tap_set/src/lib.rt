@@ -6,9 +6,10 @@ ghost use lib.ListN.{length};
 ghost use lib.Ieee.{Float};
 ghost use Rattle.refusal.specs.Answer.{refused, refuseAt, lowest, filled};
 ghost use Rattle.tap.specs.Rounding as Tap;
+ghost use Rattle.tap.specs.Inner.{leftIn};
 ghost use Rattle.tap_normalise.specs.Normalised.{used};
 ghost use Rattle.tap_set.specs.Set.{largerOf, coefficientsOf, answerOf, TapsRounded};
-ghost use Rattle.tap_set.specs.Inner.{isRefused, wholeIn, leftIn, withLeftover, Front, acceptedOf, tried, finiteRule, checked, settled};
+ghost use Rattle.tap_set.specs.Inner.{withLeftover, Front, acceptedOf, tried, finiteRule, checked, settled};
 use refusal::Refusal;
 use tap::RoundedTap;
 
@@ -34,43 +35,13 @@ fn larger(x: f64, y: f64) -> f64
     }
 }
 
-fn is_refused(tap: RoundedTap) -> bool
-    ensures { λ r. ⌜ r ≡ isRefused (Tap.answerOf tap) ⌝ }
-{
-    match tap {
-        RoundedTap::Exact(_) => false,
-        RoundedTap::Rounded(_, _) => false,
-        RoundedTap::Refused(_) => true,
-    }
-}
-
-fn coefficient(tap: RoundedTap) -> i32
-    ensures { λ r. ⌜ r ≡ wholeIn (Tap.answerOf tap) ⌝ }
-{
-    match tap {
-        RoundedTap::Exact(n) => n,
-        RoundedTap::Rounded(n, _) => n,
-        RoundedTap::Refused(_) => 0,
-    }
-}
-
-fn leftover(tap: RoundedTap) -> f64
-    ensures { λ r. ⌜ r ≡ leftIn (Tap.answerOf tap) ⌝ }
-{
-    match tap {
-        RoundedTap::Exact(_) => 0.0,
-        RoundedTap::Rounded(_, l) => l,
-        RoundedTap::Refused(_) => 0.0,
-    }
-}
-
 // The report with one tap more.
 fn with_tap(report: Report, tap: RoundedTap) -> Report
     ensures { λ r. ⌜ r ≡ withLeftover report (leftIn (Tap.answerOf tap)) ⌝ }
 {
     Report {
         divisor: report.divisor,
-        leftover: larger(report.leftover, leftover(tap)),
+        leftover: larger(report.leftover, tap::leftover(tap)),
     }
 }
 
@@ -88,10 +59,10 @@ fn round_all(xs: &[f64], f: u32, divisor: f64, buffer: &mut [i32]) -> RoundedTap
     let mut i = 0;
     while i < xs.len() {
         let rounded = tap::round_tap(xs[i], f);
-        if is_refused(rounded) {
+        if tap::is_refused(rounded) {
             return RoundedTaps::Refused(Refusal::OutOfBounds(i as u32));
         }
-        buffer[i] = coefficient(rounded);
+        buffer[i] = tap::coefficient(rounded);
         report = with_tap(report, rounded);
         i += 1;
     }

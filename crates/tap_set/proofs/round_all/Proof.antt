@@ -19,10 +19,11 @@ use Rattle.refusal.proofs.Checks.{lowest-later}
 use Rattle.sequence.specs.Inner.{front}
 use Rattle.sequence.proofs.Front.{front-start, front-next, front-map}
 use Rattle.tap.specs.Rounding.{resultOf, leftOf, answerOf}
+use Rattle.tap.specs.Inner.{isRefused}
 use Rattle.tap.proofs.Value.{zero-is}
 use Rattle.tap_set.specs.declared.Report.{Report}
 use Rattle.tap_set.specs.Set.{reportFrom, reportOf}
-use Rattle.tap_set.specs.Inner.{isRefused, turned, withLeftover}
+use Rattle.tap_set.specs.Inner.{turned, withLeftover}
 use Rattle.tap_set.proofs.Rounds.{whole, whole-is, left-is, report-next, tried-stop, tried-end}
 use Rattle.tap_set.proofs.round_all.Statement.{statement}
 use Rattle.tap_set.proofs.round_all.Tie as tie

@@ -1,13 +1,13 @@
--- `tap_set::leftover` meets its contract. Assumes nothing.
+-- `tap::result::leftover` meets its contract. Assumes nothing.
 use borrow.Author.Needs.{needs}
 use mathlib.Core.Path.{sym, ap, _∙_}
 use lib.Ieee.{Float}
 use Rattle.tap.specs.declared.RoundedTap.{RoundedTap}
 use Rattle.tap.specs.Rounding.{answerOf}
 use Rattle.tap.proofs.Value.{zero-is}
-use Rattle.tap_set.specs.Inner.{leftIn}
-use Rattle.tap_set.proofs.leftover.Statement.{statement}
-use Rattle.tap_set.proofs.leftover.Tie as tie
+use Rattle.tap.specs.Inner.{leftIn}
+use Rattle.tap.proofs.result.leftover.Statement.{statement}
+use Rattle.tap.proofs.result.leftover.Tie as tie
 
 left : RoundedTap → Float
 left t = leftIn (answerOf t)

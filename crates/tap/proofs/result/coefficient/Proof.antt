@@ -1,14 +1,14 @@
--- `tap_set::coefficient` meets its contract. Assumes nothing.
+-- `tap::result::coefficient` meets its contract. Assumes nothing.
 use borrow.Author.Needs.{needs}
 use mathlib.Core.Path.{sym, ap, _∙_}
 use lib.IntN.{ℤ}
 use mir.Syntax.{w32}
 use mir.ValLaws.{toZ-ofZ}
 use Rattle.tap.specs.declared.RoundedTap.{RoundedTap}
 use Rattle.tap.specs.Rounding.{answerOf}
-use Rattle.tap_set.specs.Inner.{wholeIn}
-use Rattle.tap_set.proofs.coefficient.Statement.{statement}
-use Rattle.tap_set.proofs.coefficient.Tie as tie
+use Rattle.tap.specs.Inner.{wholeIn}
+use Rattle.tap.proofs.result.coefficient.Statement.{statement}
+use Rattle.tap.proofs.result.coefficient.Tie as tie
 
 whole : RoundedTap → ℤ
 whole t = wholeIn (answerOf t)
