@@ -43,8 +43,14 @@ plus-fits c = omega (arith, c .struct-known .given)
 minus-fits : (c : tie.After-struct-known Inv-loop μ-loop) → c .before .before .before .before .args .form .minus < 2 ^ 32
 minus-fits c = omega (arith, c .struct-known .given)
 
+-- where the function starts, seen from its loop
+abbrev start : tie.At-loop Inv-loop μ-loop → tie.Start Inv-loop μ-loop
+start c = c .before .before .before .before .before .before .before
+
 highest-requires : tie.Need-highest-requires Inv-loop μ-loop
-highest-requires c κs = let s = c .before .before .before .before in some-digit (s .args .form) (rowsOf (s .args .table .now) (s .args .n)) (s .pre .0 .1) (plus-fits c) (minus-fits c)
+highest-requires c κs =
+    let at-start = c .before .before .before .before in
+    some-digit (at-start .args .form) (rowsOf (at-start .args .table .now) (at-start .args .n)) (at-start .pre .0 .1) (plus-fits c) (minus-fits c)
 
 lifted-requires : tie.Need-lifted-requires Inv-loop μ-loop
 lifted-requires c κs = let h = c .highest .ensures in (h .2, omega (arith, pow-lt (h .2)))
@@ -54,70 +60,85 @@ sub-t10 c = omega (arith, c .lifted .ensures, c .before .highest .ensures .0)
 
 loop-holds : tie.Need-loop-holds Inv-loop μ-loop
 loop-holds c =
-    let h = c .before in
-    let k = h .before in
-    let s = k .before .before .before .before in
-    let a = s .args in
-    let rows = rowsOf (a .table .now) (a .n) in
-    let q = h .highest .result in
-    let e = h .highest .ensures in (
+    let after-highest = c .before in
+    let after-struct-known = after-highest .before in
+    let at-start = after-struct-known .before .before .before .before in
+    let args = at-start .args in
+    let rows = rowsOf (args .table .now) (args .n) in
+    let highest-result = after-highest .highest .result in
+    let highest-ensures = after-highest .highest .ensures in (
       refl,
       refl,
       refl,
-      grown-none (a .table .now) (a .heads .now) (a .links .now) (a .n) (s .pre .0 .0),
-      rw (c .lifted .ensures, mul-one (2 ^ q)) (started (a .form) rows (s .pre .0 .1) (plus-fits k) (minus-fits k) q (e .0) (e .1) (a .n)),
-      start-rows (a .form) rows (s .pre .0 .1) (plus-fits k) (minus-fits k) q (e .0) (e .1),
+      grown-none (args .table .now) (args .heads .now) (args .links .now) (args .n) (at-start .pre .0 .0),
+      rw (c .lifted .ensures, mul-one (2 ^ highest-result)) (started (args .form) rows (at-start .pre .0 .1) (plus-fits after-struct-known) (minus-fits after-struct-known) highest-result (highest-ensures .0) (highest-ensures .1) (args .n)),
+      start-rows (args .form) rows (at-start .pre .0 .1) (plus-fits after-struct-known) (minus-fits after-struct-known) highest-result (highest-ensures .0) (highest-ensures .1),
     )
 
 turn-requires : tie.Need-turn-requires Inv-loop μ-loop
 turn-requires c κs =
-    let t = c .before .before .before in
-    let o = t .before .before .loop in
-    let s = t .before .before .before .before .before .before .before .before .before in
-    let a = s .args in
-    let r = same-room (a .table .now) (a .links .now) (o .table) (o .links) (length (chained (rowsOf (a .table .now) (a .n)) (stringOf (a .form)))) (o .inv .0) (o .inv .2) (s .pre .1) in (
-      o .inv .3 .index,
+    let in-then-1 = c .before .before .before in
+    let at-loop = in-then-1 .before .before in
+    let at-start = start at-loop in
+    let loop = at-loop .loop in
+    let args = at-start .args in
+    let r = same-room (args .table .now) (args .links .now) (loop .table) (loop .links) (length (chained (rowsOf (args .table .now) (args .n)) (stringOf (args .form)))) (loop .inv .0) (loop .inv .2) (at-start .pre .1) in (
+      loop .inv .3 .index,
       (
-        (o .inv .4, omega (arith, t .if1 .taken)),
-        subst (λ (x : List Row). HasRoom (o .table) (o .links) (length x)) (sym (o .inv .5)) r,
+        (loop .inv .4, omega (arith, in-then-1 .if1 .taken)),
+        subst (λ (x : List Row). HasRoom (loop .table) (loop .links) (length x)) (sym (loop .inv .5)) r,
       ),
     )
 
 loop-less : tie.Need-loop-less Inv-loop μ-loop
-loop-less c = c .before .before .before .before .before .before .turn .ensures .less
+loop-less c =
+    let after-table = c .before .before .before .before .before in
+    let after-turn = after-table .before in
+    after-turn .turn .ensures .less
 
 loop-again : tie.Need-loop-again Inv-loop μ-loop
 loop-again c =
-    let t = c .before .before .before .before .before .before in
-    let o = t .before .before .before .before .before .before .loop in
-    let e = t .turn .ensures in
-    let k = t .turn .kept in (
-      k .0 ∙ o .inv .0,
-      k .1 .0 ∙ o .inv .1,
-      k .1 .1 .0 ∙ o .inv .2,
-      grown-on (e .more) (o .inv .3) (e .grown),
-      e .reading,
-      e .same ∙ o .inv .5,
+    let after-table = c .before .before .before .before .before in
+    let after-turn = after-table .before in
+    let after-turn-arg = after-turn .before .before .before in
+    let at-loop = after-turn-arg .before .before .before in
+    let loop = at-loop .loop in
+    let turn-ensures = after-turn .turn .ensures in
+    let k = after-turn .turn .kept in (
+      k .0 ∙ loop .inv .0,
+      k .1 .0 ∙ loop .inv .1,
+      k .1 .1 .0 ∙ loop .inv .2,
+      grown-on (turn-ensures .more) (loop .inv .3) (turn-ensures .grown),
+      turn-ensures .reading,
+      turn-ensures .same ∙ loop .inv .5,
     )
 
 same-length : tie.Need-same-length Inv-loop μ-loop
-same-length c = c .before .before .loop .inv .0
+same-length c =
+    let at-loop = c .before .before in
+    at-loop .loop .inv .0
 
 same-length-2 : tie.Need-same-length-2 Inv-loop μ-loop
-same-length-2 c = c .before .before .loop .inv .1
+same-length-2 c =
+    let at-loop = c .before .before in
+    at-loop .loop .inv .1
 
 same-length-3 : tie.Need-same-length-3 Inv-loop μ-loop
-same-length-3 c = c .before .before .loop .inv .2
+same-length-3 c =
+    let at-loop = c .before .before in
+    at-loop .loop .inv .2
 
 returns : tie.Need-returns Inv-loop μ-loop
 returns c =
-    let o = c .before .before .loop in
-    let a = c .before .before .before .before .before .before .before .before .before .args in
-    let z : mask nonzero (take (o .chain .place) (stringOf (a .form))) ≡ 0 = omega (arith, o .inv .4 .digits .rest, c .if1 .left) in
+    let at-loop = c .before .before in
+    let at-start = start at-loop in
+    let loop = at-loop .loop in
+    let args = at-start .args in
+    let z : mask nonzero (take (loop .chain .place) (stringOf (args .form))) ≡ 0 = omega (arith, loop .inv .4 .digits .rest, c .if1 .left) in
     record {
-      rows-are = sym (chain-none (rowsOf (o .table) (o .chain .rows)) (o .chain .value) 1 (take (o .chain .place) (stringOf (a .form))) z) ∙ o .inv .5;
-      rest = o .inv .3 .rest;
-      index = o .inv .3 .index;
+      rows-are = sym (chain-none (rowsOf (loop .table) (loop .chain .rows)) (loop .chain .value) 1 (take (loop .chain .place) (stringOf (args .form))) z) ∙ loop .inv .5;
+      rest = loop .inv .3 .rest;
+      index = loop .inv .3 .index;
     }
 
 pub add-chain-spec : {M : Type 1} → statement M

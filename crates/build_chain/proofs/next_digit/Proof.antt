@@ -14,17 +14,17 @@ small c = omega (arith, c .before .struct-known .given)
 
 below : (c : tie.After-struct-known2) → c .before .before .highest .result < c .before .before .before .args .chain .place
 below c =
-    let h = c .before .before in
-    let s = h .before in
-    before (s .args .form) (s .args .chain) (s .pre .0) (small c) (h .highest .result) (h .highest .ensures .0) (h .highest .ensures .1)
+    let after-highest = c .before .before in
+    let at-start = after-highest .before in
+    before (at-start .args .form) (at-start .args .chain) (at-start .pre .0) (small c) (after-highest .highest .result) (after-highest .highest .ensures .0) (after-highest .highest .ensures .1)
 
 fits : (c : tie.After-struct-known2)
     → (2 ≤ 2 ^ (c .before .before .before .args .chain .place - c .before .before .highest .result) * c .before .before .before .args .chain .value)
     × (2 ^ (c .before .before .before .args .chain .place - c .before .before .highest .result) * c .before .before .before .args .chain .value ≤ 2 ^ 31)
 fits c =
-    let h = c .before .before in
-    let s = h .before in
-    raised-fits (s .args .form) (s .args .chain) (s .pre .0) (small c) (h .highest .result) (h .highest .ensures .0) (h .highest .ensures .1)
+    let after-highest = c .before .before in
+    let at-start = after-highest .before in
+    raised-fits (at-start .args .form) (at-start .args .chain) (at-start .pre .0) (small c) (after-highest .highest .result) (after-highest .highest .ensures .0) (after-highest .highest .ensures .1)
 
 highest-requires : tie.Need-highest-requires
 highest-requires c κs = search needs
@@ -36,16 +36,24 @@ sub-gap : tie.Need-sub-gap
 sub-gap c = omega (arith, below c)
 
 lifted-requires : tie.Need-lifted-requires
-lifted-requires c κs = let s = c .before .before .before in (omega (arith, s .pre .0 .place-to), omega (arith, fits c .1))
+lifted-requires c κs =
+    let at-start = c .before .before .before in
+    (omega (arith, at-start .pre .0 .place-to), omega (arith, fits c .1))
 
 choose-requires : tie.Need-choose-requires
 choose-requires c κs = search needs
 
 add-choose : tie.Need-add-choose
-add-choose c = let l = c .before in record { fits = omega (arith, l .lifted .ensures, fits (l .before) .1) }
+add-choose c =
+    let after-lifted = c .before in
+    let after-struct-known2 = after-lifted .before in
+    record { fits = omega (arith, after-lifted .lifted .ensures, fits (after-struct-known2) .1) }
 
 sub-choose : tie.Need-sub-choose
-sub-choose c = let l = c .before in omega (arith, l .lifted .ensures, fits (l .before) .0)
+sub-choose c =
+    let after-lifted = c .before in
+    let after-struct-known2 = after-lifted .before in
+    omega (arith, after-lifted .lifted .ensures, fits (after-struct-known2) .0)
 
 choose-requires-2 : tie.Need-choose-requires-2
 choose-requires-2 c κs = search needs
@@ -58,11 +66,15 @@ sub-t12 c = search needs
 
 returns : tie.Need-returns
 returns c =
-    let l = c .before .before .before .before in
-    let h = l .before .before .before in
-    let s = h .before in
-    rw (c .before .before .before .choose .ensures, c .before .before .choose2 .ensures, l .lifted .ensures, c .before .lifted2 .ensures, mul-one (2 ^ h .highest .result))
-    (is-next (s .args .form) (s .args .chain) (s .pre .0) (small (l .before)) (h .highest .result) (h .highest .ensures .0) (h .highest .ensures .1))
+    let after-lifted2 = c .before in
+    let after-choose2 = after-lifted2 .before in
+    let after-choose = after-choose2 .before in
+    let after-lifted = after-choose .before in
+    let after-struct-known2 = after-lifted .before in
+    let after-highest = after-struct-known2 .before .before in
+    let at-start = after-highest .before in
+    rw (after-choose .choose .ensures, after-choose2 .choose2 .ensures, after-lifted .lifted .ensures, after-lifted2 .lifted2 .ensures, mul-one (2 ^ after-highest .highest .result))
+    (is-next (at-start .args .form) (at-start .args .chain) (at-start .pre .0) (small (after-struct-known2)) (after-highest .highest .result) (after-highest .highest .ensures .0) (after-highest .highest .ensures .1))
 
 pub next-digit-spec : {M : Type 1} → statement M
 next-digit-spec =

@@ -20,10 +20,14 @@ looked-up : (c : tie.After-find) → foundAt (c .find .result) ≡ rowWith (rows
 looked-up c = c .find .ensures
 
 at-row : (c : tie.After-i) → rowWith (rowsOf (start (c .before .before) .args .table .now) (start (c .before .before) .args .n)) (start (c .before .before) .args .row .value) ≡ at-place (c .i .given .0 .0)
-at-row c = sym (looked-up (c .before .before)) ∙ ap foundAt (c .i .given .1)
+at-row c =
+    let after-find = c .before .before in
+    sym (looked-up (after-find)) ∙ ap foundAt (c .i .given .1)
 
 no-row : (c : tie.After-enum-told) → rowWith (rowsOf (start (c .before .before) .args .table .now) (start (c .before .before) .args .n)) (start (c .before .before) .args .row .value) ≡ nowhere
-no-row c = sym (looked-up (c .before .before)) ∙ ap foundAt (c .enum-told .given .1)
+no-row c =
+    let after-find = c .before .before in
+    sym (looked-up (after-find)) ∙ ap foundAt (c .enum-told .given .1)
 
 find-requires : tie.Need-find-requires
 find-requires c κs = search needs
@@ -33,20 +37,22 @@ enum-known-i c = search needs
 
 cast-t15 : tie.Need-cast-t15
 cast-t15 c =
-    let w = c .before in
-    let s = start (w .before .before) in
-    record { fits = omega (arith, row-found (s .args .table .now) (s .args .n) (s .args .row .value) (w .i .given .0 .0) (at-row w) .0, s .pre .0 .few) }
+    let after-i = c .before in
+    let after-find = after-i .before .before in
+    let s = start (after-find) in
+    record { fits = omega (arith, row-found (s .args .table .now) (s .args .n) (s .args .row .value) (after-i .i .given .0 .0) (at-row after-i) .0, s .pre .0 .few) }
 
 enum-told : tie.Need-enum-told
 enum-told c = search needs
 
 put-requires : tie.Need-put-requires
 put-requires c κs =
-    let t = c .before .before .before in
-    let s = start (t .before .before) in
+    let after-enum-told = c .before .before .before in
+    let after-find = after-enum-told .before .before in
+    let s = start (after-find) in
     let r = s .pre .1 in
-    let e = added-length (s .args .table .now) (s .args .n) (s .args .row) (no-row t) in
-    (s .pre .0, ((omega (arith, e, r .few), omega (arith, e, r .words), omega (arith, e, r .linked)), no-row t))
+    let e = added-length (s .args .table .now) (s .args .n) (s .args .row) (no-row after-enum-told) in
+    (s .pre .0, ((omega (arith, e, r .few), omega (arith, e, r .words), omega (arith, e, r .linked)), no-row after-enum-told))
 
 add-t23 : tie.Need-add-t23
 add-t23 c = search needs
@@ -65,9 +71,10 @@ same-length-3 c = search needs
 
 returns : tie.Need-returns
 returns c =
-    let w = c .before in
-    let s = start (w .before .before) in
-    found (s .args .table .now) (s .args .n) (s .args .row) (s .args .heads .now) (s .args .links .now) (w .i .given .0 .0) (s .pre .0) (at-row w)
+    let after-i = c .before in
+    let after-find = after-i .before .before in
+    let s = start (after-find) in
+    found (s .args .table .now) (s .args .n) (s .args .row) (s .args .heads .now) (s .args .links .now) (after-i .i .given .0 .0) (s .pre .0) (at-row after-i)
 
 same-length-4 : tie.Need-same-length-4
 same-length-4 c = search needs
@@ -80,10 +87,12 @@ same-length-6 c = search needs
 
 returns-2 : tie.Need-returns-2
 returns-2 c =
-    let p = c .before .before .before .before .before .before in
-    let t = p .before .before .before .before in
-    let s = start (t .before .before) in
-    written (s .args .table .now) (s .args .n) (s .args .row) (no-row t) (p .put .last .0) (p .put .last .1 .0) (p .put .last .1 .1 .0) (p .put .ensures)
+    let after-table = c .before .before .before .before .before in
+    let after-put = after-table .before in
+    let after-enum-told = after-put .before .before .before .before in
+    let after-find = after-enum-told .before .before in
+    let s = start (after-find) in
+    written (s .args .table .now) (s .args .n) (s .args .row) (no-row after-enum-told) (after-put .put .last .0) (after-put .put .last .1 .0) (after-put .put .last .1 .1 .0) (after-put .put .ensures)
 
 pub reach-spec : {M : Type 1} → statement M
 reach-spec =

@@ -9,15 +9,17 @@ use Rattle.build_chain.proofs.turn.Statement.{statement}
 use Rattle.build_chain.proofs.turn.Tie as tie
 
 next-digit-requires : tie.Need-next-digit-requires
-next-digit-requires c κs = let s = c .before .before .before in (s .pre .1 .0 .0 .digits, s .pre .1 .0 .1)
+next-digit-requires c κs =
+    let at-start = c .before .before .before in
+    (at-start .pre .1 .0 .0 .digits, at-start .pre .1 .0 .1)
 
 reach-requires : tie.Need-reach-requires
 reach-requires c κs =
-    let n = c .before .before .before in
-    let s = n .before .before .before .before in
-    let a = s .args in
-    let t = a .table .now in
-    (s .pre .0, less-room t (a .links .now) _ (length (toCome (a .form) (a .chain) (rowsOf t (a .chain .rows)))) (step-room (a .form) t (a .chain) (n .next-digit .result) (s .pre .1 .0 .0) (n .next-digit .ensures)) (s .pre .1 .1))
+    let after-next-digit = c .before .before .before in
+    let at-start = after-next-digit .before .before .before .before in
+    let args = at-start .args in
+    let t = args .table .now in
+    (at-start .pre .0, less-room t (args .links .now) _ (length (toCome (args .form) (args .chain) (rowsOf t (args .chain .rows)))) (step-room (args .form) t (args .chain) (after-next-digit .next-digit .result) (at-start .pre .1 .0 .0) (after-next-digit .next-digit .ensures)) (at-start .pre .1 .1))
 
 same-length : tie.Need-same-length
 same-length c = search needs
@@ -30,11 +32,12 @@ same-length-3 c = search needs
 
 returns : tie.Need-returns
 returns c =
-    let p = c .before .before .before .before .before .before in
-    let n = p .before .before .before .before in
-    let s = n .before .before .before .before in
-    let a = s .args in
-    turned (a .form) (a .table .now) (a .chain) (n .next-digit .result) (s .pre .1 .0 .0) (n .next-digit .ensures) (p .reach .last .0) (p .reach .last .1 .0) (p .reach .last .1 .1 .0) (p .reach .result) (p .reach .ensures)
+    let after-table = c .before .before .before .before .before in
+    let after-reach = after-table .before in
+    let after-next-digit = after-reach .before .before .before .before in
+    let at-start = after-next-digit .before .before .before .before in
+    let args = at-start .args in
+    turned (args .form) (args .table .now) (args .chain) (after-next-digit .next-digit .result) (at-start .pre .1 .0 .0) (after-next-digit .next-digit .ensures) (after-reach .reach .last .0) (after-reach .reach .last .1 .0) (after-reach .reach .last .1 .1 .0) (after-reach .reach .result) (after-reach .reach .ensures)
 
 pub turn-spec : {M : Type 1} → statement M
 turn-spec =

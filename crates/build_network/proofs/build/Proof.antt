@@ -22,7 +22,9 @@ abbrev start : tie.Else2 → tie.Start
 start c = c .before .before .before .before .before
 
 abbrev within : tie.After-first-without-form → tie.Else2
-within c = c .before .before .before .before
+within c =
+    let in-else-2 = c .before .before .before .before in
+    in-else-2
 
 some : (c : tie.Else2) → 1 ≤ length (start c .args .coefficients .now)
 some c = omega (arith, c .before .if1 .left)
@@ -37,7 +39,11 @@ record Long (c : tie.After-first-without-form) : Type 0 where
   taps : tapTable ≤ length (start (within c) .args .taps .now)
 
 lengths : (c : tie.After-first-without-form) → Long c
-lengths c = record { choices = omega (arith, c .before .before .before .if3 .left); rows = omega (arith, c .before .before .if4 .left); taps = omega (arith, c .before .if5 .left) }
+lengths c =
+    let in-else-5 = c .before in
+    let in-else-4 = in-else-5 .before in
+    let in-else-3 = in-else-4 .before in
+    record { choices = omega (arith, in-else-3 .if3 .left); rows = omega (arith, in-else-4 .if4 .left); taps = omega (arith, in-else-5 .if5 .left) }
 
 long : (c : tie.After-first-without-form) → short (start (within c) .args .coefficients .now) (start (within c) .args .choices .now) (start (within c) .args .rows .now) (start (within c) .args .taps .now) ≡ false
 long c =
@@ -61,22 +67,22 @@ place-is c =
 
 all-forms : (c : tie.Else6) → missingForm (start (within (c .before)) .args .coefficients .now) (start (within (c .before)) .args .choices .now) ≡ nowhere
 all-forms c =
-    let f = c .before in
-    let a = start (within f) .args in
-    found-none breaks (choicesOf (a .coefficients .now) (a .choices .now)) (f .first-without-form .result) (length (a .coefficients .now)) (place-is f) (taps-are f) (omega (arith, c .if6 .left))
+    let after-first-without-form = c .before in
+    let a = start (within after-first-without-form) .args in
+    found-none breaks (choicesOf (a .coefficients .now) (a .choices .now)) (after-first-without-form .first-without-form .result) (length (a .coefficients .now)) (place-is after-first-without-form) (taps-are after-first-without-form) (omega (arith, c .if6 .left))
 
 accepted : (c : tie.Else6)
     → CanBuildInto (start (within (c .before)) .args .coefficients .now) (start (within (c .before)) .args .choices .now) (start (within (c .before)) .args .rows .now) (start (within (c .before)) .args .taps .now)
 accepted c =
-    let f = c .before in
-    let a = start (within f) .args in
-    let l = lengths f in
+    let after-first-without-form = c .before in
+    let a = start (within after-first-without-form) .args in
+    let l = lengths after-first-without-form in
     record {
-      some = some (within f);
+      some = some (within after-first-without-form);
       can-build = record {
-        few = few (within f);
+        few = few (within after-first-without-form);
         enough = l .choices;
-        bounds = λ i h. f .first-without-form .ensures .1 i (omega (arith, c .if6 .left));
+        bounds = λ i h. after-first-without-form .first-without-form .ensures .1 i (omega (arith, c .if6 .left));
         forms = forms-exist (a .coefficients .now) (a .choices .now) (l .choices) (all-forms c);
       };
       rows-long = l .rows;
@@ -89,30 +95,35 @@ refusal : (s : tie.Start) (number place : ℕ) → buildAnswer (s .args .coeffic
 refusal s number place e = turned-down (s .args .coefficients .now) (s .args .choices .now) (s .args .rows .now) (s .args .taps .now) number place e
 
 returns : tie.Need-returns
-returns c = let s = c .before .before .before .before in let a = s .args in refusal s 1 0 (no-taps (a .coefficients .now) (a .choices .now) (a .rows .now) (a .taps .now) (omega (arith, c .if1 .taken)))
+returns c =
+    let at-start = c .before .before .before .before in
+    let args = at-start .args in refusal at-start 1 0 (no-taps (args .coefficients .now) (args .choices .now) (args .rows .now) (args .taps .now) (omega (arith, c .if1 .taken)))
 
 returns-2 : tie.Need-returns-2
-returns-2 c = let s = c .before .before .before .before .before in let a = s .args in refusal s 2 0 (too-many (a .coefficients .now) (a .choices .now) (a .rows .now) (a .taps .now) (omega (arith, c .if2 .taken)))
+returns-2 c =
+    let at-start = c .before .before .before .before .before in
+    let args = at-start .args in refusal at-start 2 0 (too-many (args .coefficients .now) (args .choices .now) (args .rows .now) (args .taps .now) (omega (arith, c .if2 .taken)))
 
 returns-3 : tie.Need-returns-3
 returns-3 c =
-    let s = start (c .before) in
+    let in-else-2 = c .before in
+    let s = start (in-else-2) in
     let a = s .args in
-    refusal s 3 0 (too-short (a .coefficients .now) (a .choices .now) (a .rows .now) (a .taps .now) (some (c .before)) (few (c .before)) (short-choices (a .coefficients .now) (a .choices .now) (a .rows .now) (a .taps .now) (omega (arith, c .if3 .taken))))
+    refusal s 3 0 (too-short (a .coefficients .now) (a .choices .now) (a .rows .now) (a .taps .now) (some (in-else-2)) (few (in-else-2)) (short-choices (a .coefficients .now) (a .choices .now) (a .rows .now) (a .taps .now) (omega (arith, c .if3 .taken))))
 
 returns-4 : tie.Need-returns-4
 returns-4 c =
-    let w = c .before .before in
-    let s = start w in
-    let a = s .args in
-    refusal s 3 0 (too-short (a .coefficients .now) (a .choices .now) (a .rows .now) (a .taps .now) (some w) (few w) (short-rows (a .coefficients .now) (a .choices .now) (a .rows .now) (a .taps .now) (omega (arith, c .if4 .taken))))
+    let in-else-2 = c .before .before in
+    let at-start = in-else-2 .before .before .before .before .before in
+    let args = at-start .args in
+    refusal at-start 3 0 (too-short (args .coefficients .now) (args .choices .now) (args .rows .now) (args .taps .now) (some in-else-2) (few in-else-2) (short-rows (args .coefficients .now) (args .choices .now) (args .rows .now) (args .taps .now) (omega (arith, c .if4 .taken))))
 
 returns-5 : tie.Need-returns-5
 returns-5 c =
-    let w = c .before .before .before in
-    let s = start w in
-    let a = s .args in
-    refusal s 3 0 (too-short (a .coefficients .now) (a .choices .now) (a .rows .now) (a .taps .now) (some w) (few w) (short-taps (a .coefficients .now) (a .choices .now) (a .rows .now) (a .taps .now) (omega (arith, c .if5 .taken))))
+    let in-else-2 = c .before .before .before in
+    let at-start = in-else-2 .before .before .before .before .before in
+    let args = at-start .args in
+    refusal at-start 3 0 (too-short (args .coefficients .now) (args .choices .now) (args .rows .now) (args .taps .now) (some in-else-2) (few in-else-2) (short-taps (args .coefficients .now) (args .choices .now) (args .rows .now) (args .taps .now) (omega (arith, c .if5 .taken))))
 
 first-without-form-requires : tie.Need-first-without-form-requires
 first-without-form-requires c κs = search needs
@@ -122,18 +133,22 @@ cast-t15 c = search needs
 
 returns-6 : tie.Need-returns-6
 returns-6 c =
-    let f = c .before in
-    let w = within f in
+    let after-first-without-form = c .before in
+    let w = within after-first-without-form in
     let s = start w in
     let a = s .args in
-    let h = found breaks (choicesOf (a .coefficients .now) (a .choices .now)) (f .first-without-form .result) (length (a .coefficients .now)) (place-is f) (taps-are f) (omega (arith, c .if6 .taken)) in
-    refusal s 9 (f .first-without-form .result) (no-form (a .coefficients .now) (a .choices .now) (a .rows .now) (a .taps .now) (some w) (few w) (f .first-without-form .result) (long f) h)
+    let h = found breaks (choicesOf (a .coefficients .now) (a .choices .now)) (after-first-without-form .first-without-form .result) (length (a .coefficients .now)) (place-is after-first-without-form) (taps-are after-first-without-form) (omega (arith, c .if6 .taken)) in
+    refusal s 9 (after-first-without-form .first-without-form .result) (no-form (a .coefficients .now) (a .choices .now) (a .rows .now) (a .taps .now) (some w) (few w) (after-first-without-form .first-without-form .result) (long after-first-without-form) h)
 
 build-accepted-requires : tie.Need-build-accepted-requires
-build-accepted-requires c κs = accepted (c .before .before)
+build-accepted-requires c κs =
+    let in-else-6 = c .before .before in
+    accepted (in-else-6)
 
 cast-t21 : tie.Need-cast-t21
-cast-t21 c = record { fits = omega (arith, c .before .before .before .before .build-accepted .ensures .fits) }
+cast-t21 c =
+    let after-build-accepted = c .before .before .before .before in
+    record { fits = omega (arith, after-build-accepted .build-accepted .ensures .fits) }
 
 same-length : tie.Need-same-length
 same-length c = search needs
@@ -143,14 +158,14 @@ same-length-2 c = search needs
 
 returns-7 : tie.Need-returns-7
 returns-7 c =
-    let b = c .before .before .before .before in
-    let k = b .before .before .before in
-    let f = k .before in
-    let w = within f in
+    let after-build-accepted = c .before .before .before .before in
+    let in-else-6 = after-build-accepted .before .before .before in
+    let after-first-without-form = in-else-6 .before in
+    let w = within after-first-without-form in
     let s = start w in
     let a = s .args in
-    let e = network-given (a .coefficients .now) (a .choices .now) (a .rows .now) (a .taps .now) (some w) (few w) (long f) (all-forms k) in
-    network-left (a .coefficients .now) (a .choices .now) (a .rows .now) (a .taps .now) (b .build-accepted .last .1 .1 .0) (b .build-accepted .last .1 .1 .1 .0) (b .build-accepted .result) e (b .build-accepted .ensures)
+    let e = network-given (a .coefficients .now) (a .choices .now) (a .rows .now) (a .taps .now) (some w) (few w) (long after-first-without-form) (all-forms in-else-6) in
+    network-left (a .coefficients .now) (a .choices .now) (a .rows .now) (a .taps .now) (after-build-accepted .build-accepted .last .1 .1 .0) (after-build-accepted .build-accepted .last .1 .1 .1 .0) (after-build-accepted .build-accepted .result) e (after-build-accepted .build-accepted .ensures)
 
 pub build-spec : {M : Type 1} → statement M
 build-spec =

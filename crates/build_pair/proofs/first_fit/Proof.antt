@@ -34,17 +34,23 @@ abbrev start : tie.At-search Inv-loop μ-loop Inv-search μ-search → tie.Start
 start c = c .before .before .before .before .before
 
 abbrev at-search : tie.At-loop Inv-loop μ-loop Inv-search μ-search → tie.At-search Inv-loop μ-loop Inv-search μ-search
-at-search c = c .before .before .before .before
+at-search c =
+    let at-search = c .before .before .before .before in
+    at-search
 
 -- in the loops: the left row is one of the rows, and 2^s·left is below 2^32
 left-within : (c : tie.At-loop Inv-loop μ-loop Inv-search μ-search) → c .before .before .narrow .result < start (at-search c) .args .n
-left-within c = omega (arith, c .before .before .narrow .ensures)
+left-within c =
+    let after-narrow = c .before .before in
+    omega (arith, after-narrow .narrow .ensures)
 
 below-word : (c : tie.In-loop Inv-loop μ-loop Inv-search μ-search) → c .before .loop .a < 2 ^ 32
 below-word c = let s = start (at-search (c .before)) in omega (arith, c .loop-test .taken, s .pre .small, s .pre .new-small)
 
 add-limit : tie.Need-add-limit Inv-loop μ-loop Inv-search μ-search
-add-limit c = omega (arith, c .before .before .before .pre .small, c .before .before .before .pre .new-small)
+add-limit c =
+    let at-start = c .before .before .before in
+    omega (arith, at-start .pre .small, at-start .pre .new-small)
 
 lowest-left-requires : tie.Need-lowest-left-requires Inv-loop μ-loop Inv-search μ-search
 lowest-left-requires c κs = search needs
@@ -53,10 +59,16 @@ search-holds : tie.Need-search-holds Inv-loop μ-loop Inv-search μ-search
 search-holds c = c .lowest-left .ensures
 
 narrow-requires : tie.Need-narrow-requires Inv-loop μ-loop Inv-search μ-search
-narrow-requires c κs = omega (arith, c .before .before .before .before .before .before .pre .index .few)
+narrow-requires c κs =
+    let at-search = c .before in
+    let at-start = start at-search in
+    omega (arith, at-start .pre .index .few)
 
 read-value-requires : tie.Need-read-value-requires Inv-loop μ-loop Inv-search μ-search
-read-value-requires c κs = omega (arith, c .before .before .before .before .before .before .before .pre .index .room)
+read-value-requires c κs =
+    let at-search = c .before .before in
+    let at-start = start at-search in
+    omega (arith, at-start .pre .index .room)
 
 cast-a : tie.Need-cast-a Inv-loop μ-loop Inv-search μ-search
 cast-a c = search needs
@@ -66,14 +78,20 @@ mul-a c = omega (arith, c .read-value .ok)
 
 loop-holds : tie.Need-loop-holds Inv-loop μ-loop Inv-search μ-search
 loop-holds c =
-    let a = c .before .before .before .before .before .before .before .before .args in
-    try-first (a .table .now) (a .n) (a .v) (c .before .narrow .result) (2 * c .read-value .result)
-    (ap (λ k. 2 * k) (c .read-value .ensures ∙ ap (valueAt (a .table .now)) (sym (c .before .narrow .ensures))))
+    let after-narrow = c .before in
+    let at-search = after-narrow .before .before in
+    let at-start = start at-search in
+    let args = at-start .args in
+    try-first (args .table .now) (args .n) (args .v) (after-narrow .narrow .result) (2 * c .read-value .result)
+    (ap (λ k. 2 * k) (c .read-value .ensures ∙ ap (valueAt (args .table .now)) (sym (after-narrow .narrow .ensures))))
 
 at-shift-requires : tie.Need-at-shift-requires Inv-loop μ-loop Inv-search μ-search
 at-shift-requires c κs =
-    let s = c .before .before .before .before .before .before .before .before .before .before in
-    (s .pre, record { within = omega (arith, c .before .before .before .narrow .ensures); is-lifted = c .before .loop .inv .is-lifted; low = omega (arith, s .pre .small, s .pre .new-small) })
+    let at-loop = c .before in
+    let after-narrow = at-loop .before .before in
+    let at-search = after-narrow .before .before in
+    let at-start = start at-search in
+    (at-start .pre, record { within = omega (arith, after-narrow .narrow .ensures); is-lifted = at-loop .loop .inv .is-lifted; low = omega (arith, at-start .pre .small, at-start .pre .new-small) })
 
 enum-known-row : tie.Need-enum-known-row Inv-loop μ-loop Inv-search μ-search
 enum-known-row c = search needs
@@ -82,27 +100,34 @@ enum-told : tie.Need-enum-told Inv-loop μ-loop Inv-search μ-search
 enum-told c = search needs
 
 mul-a-2 : tie.Need-mul-a-2 Inv-loop μ-loop Inv-search μ-search
-mul-a-2 c = omega (arith, below-word (c .before .before .before))
+mul-a-2 c =
+    let in-loop = c .before .before .before in
+    omega (arith, below-word (in-loop))
 
 add-s : tie.Need-add-s Inv-loop μ-loop Inv-search μ-search
-add-s c = omega (arith, c .before .before .before .before .loop .inv .to)
+add-s c =
+    let at-loop = c .before .before .before .before in
+    omega (arith, at-loop .loop .inv .to)
 
 loop-less : tie.Need-loop-less Inv-loop μ-loop Inv-search μ-search
 loop-less c =
-    let t = c .before .before .before in
-    let l = t .before in
-    let s = start (at-search l) in
+    let in-loop = c .before .before .before in
+    let at-loop = in-loop .before in
+    let after-narrow = at-loop .before .before in
+    let s = start (at-search at-loop) in
     let a = s .args in
-    omega (arith, few-shifts (a .table .now) (a .heads .now) (a .links .now) (a .n) (a .most) (a .v) (s .pre) (l .before .before .narrow .result) (left-within l) (l .loop .s) (l .loop .a) (l .loop .inv) (below-word t))
+    omega (arith, few-shifts (a .table .now) (a .heads .now) (a .links .now) (a .n) (a .most) (a .v) (s .pre) (after-narrow .narrow .result) (left-within at-loop) (at-loop .loop .s) (at-loop .loop .a) (at-loop .loop .inv) (below-word in-loop))
 
 loop-again : tie.Need-loop-again Inv-loop μ-loop Inv-search μ-search
 loop-again c =
-    let t = c .before .before .before in
-    let l = t .before in
-    let s = start (at-search l) in
+    let after-at-shift = c .before .before in
+    let in-loop = after-at-shift .before in
+    let at-loop = in-loop .before in
+    let after-narrow = at-loop .before .before in
+    let s = start (at-search at-loop) in
     let a = s .args in
-    try-next (a .table .now) (a .heads .now) (a .links .now) (a .n) (a .most) (a .v) (s .pre) (l .before .before .narrow .result) (left-within l) (l .loop .s) (l .loop .a) (l .loop .inv) (below-word t)
-    (sym (c .before .before .at-shift .ensures) ∙ ap fitOf (c .enum-told .given .1))
+    try-next (a .table .now) (a .heads .now) (a .links .now) (a .n) (a .most) (a .v) (s .pre) (after-narrow .narrow .result) (left-within at-loop) (at-loop .loop .s) (at-loop .loop .a) (at-loop .loop .inv) (below-word in-loop)
+    (sym (after-at-shift .at-shift .ensures) ∙ ap fitOf (c .enum-told .given .1))
 
 add-i : tie.Need-add-i Inv-loop μ-loop Inv-search μ-search
 add-i c = search needs
@@ -112,36 +137,42 @@ search-less c = search needs
 
 search-again : tie.Need-search-again Inv-loop μ-loop Inv-search μ-search
 search-again c =
-    let l = c .before in
-    let r = at-search l in
+    let at-loop = c .before in
+    let after-narrow = at-loop .before .before in
+    let r = at-search at-loop in
     let s = start r in
     let a = s .args in
-    let left = l .before .before .narrow in (
+    let left = after-narrow .narrow in (
       omega arith,
       below-more (λ k. fitAtLeft (rowsOf (a .table .now) (a .n)) (a .v) k ≡ none-fits) (r .search .i) (r .search .inv .1)
           (ap (fitAtLeft (rowsOf (a .table .now) (a .n)) (a .v)) (sym (left .ensures))
-          ∙ left-none (a .table .now) (a .heads .now) (a .links .now) (a .n) (a .most) (a .v) (s .pre) (left .result) (left-within l) (l .loop .s) (l .loop .a) (l .loop .inv) (omega (arith, c .loop-test .left))),
+          ∙ left-none (a .table .now) (a .heads .now) (a .links .now) (a .n) (a .most) (a .v) (s .pre) (left .result) (left-within at-loop) (at-loop .loop .s) (at-loop .loop .a) (at-loop .loop .inv) (omega (arith, c .loop-test .left))),
     )
 
 returns : tie.Need-returns Inv-loop μ-loop Inv-search μ-search
 returns c =
-    let a = c .before .before .before .before .before .before .args in
-    sym (fit-none (a .table .now) (a .n) (a .v) (c .before .search .i) (c .before .search .inv .1) (c .if1 .taken))
+    let at-search = c .before in
+    let at-start = start at-search in
+    let args = at-start .args in
+    sym (fit-none (args .table .now) (args .n) (args .v) (at-search .search .i) (at-search .search .inv .1) (c .if1 .taken))
 
 returns-2 : tie.Need-returns-2 Inv-loop μ-loop Inv-search μ-search
 returns-2 c =
-    let t = c .before .before .before .before in
-    let l = t .before in
-    let r = at-search l in
+    let after-row = c .before in
+    let after-at-shift = after-row .before .before in
+    let in-loop = after-at-shift .before in
+    let at-loop = in-loop .before in
+    let after-narrow = at-loop .before .before in
+    let r = at-search at-loop in
     let s = start r in
     let a = s .args in
-    let left = l .before .before .narrow in
-    let row = c .before .row .given .0 .0 in
+    let left = after-narrow .narrow in
+    let row = after-row .row .given .0 .0 in
     sym
     (fit-first (a .table .now) (a .n) (a .v) (r .search .i) (r .search .inv .1) row (omega arith)
     (ap (fitAtLeft (rowsOf (a .table .now) (a .n)) (a .v)) (sym (left .ensures))
-    ∙ left-first (a .table .now) (a .heads .now) (a .links .now) (a .n) (a .most) (a .v) (s .pre) (left .result) (left-within l) (l .loop .s) (l .loop .a) (l .loop .inv) (below-word t) row
-    (sym (c .before .before .before .at-shift .ensures) ∙ ap fitOf (c .before .row .given .1))))
+    ∙ left-first (a .table .now) (a .heads .now) (a .links .now) (a .n) (a .most) (a .v) (s .pre) (left .result) (left-within at-loop) (at-loop .loop .s) (at-loop .loop .a) (at-loop .loop .inv) (below-word in-loop) row
+    (sym (after-at-shift .at-shift .ensures) ∙ ap fitOf (after-row .row .given .1))))
 
 pub first-fit-spec : {M : Type 1} → statement M
 first-fit-spec =

@@ -29,10 +29,14 @@ abbrev start : tie.After-find → tie.Start
 start c = c .before .before .before .before .before .before .before
 
 abbrev unfound : tie.After-first-fit → tie.After-enum-told2
-unfound c = c .before .before .before .before
+unfound c =
+    let after-enum-told2 = c .before .before .before .before in
+    after-enum-told2
 
 abbrev entry : tie.After-enum-told2 → tie.Start
-entry c = start (c .before .before)
+entry c =
+    let after-find = c .before .before in
+    start (after-find)
 
 abbrev rows : tie.Start → List Row
 rows s = rowsOf (s .args .table .now) (s .args .n)
@@ -41,13 +45,19 @@ abbrev part : tie.Start → Part
 part s = partOf (s .args .v) (s .args .choice)
 
 missing : (c : tie.After-enum-told2) → rowWith (rows (entry c)) (entry c .args .v) ≡ nowhere
-missing c = sym (c .before .before .find .ensures) ∙ ap foundAt (c .enum-told2 .given .1)
+missing c =
+    let after-find = c .before .before in
+    sym (after-find .find .ensures) ∙ ap foundAt (c .enum-told2 .given .1)
 
 fits : (c : tie.After-row) → firstFit (rows (entry (unfound (c .before .before)))) (entry (unfound (c .before .before)) .args .v) ≡ fit (c .row .given .0 .0)
-fits c = sym (c .before .before .first-fit .ensures) ∙ ap fitOf (c .row .given .1)
+fits c =
+    let after-first-fit = c .before .before in
+    sym (after-first-fit .first-fit .ensures) ∙ ap fitOf (c .row .given .1)
 
 none : (c : tie.After-enum-told3) → firstFit (rows (entry (unfound (c .before .before)))) (entry (unfound (c .before .before)) .args .v) ≡ none-fits
-none c = sym (c .before .before .first-fit .ensures) ∙ ap fitOf (c .enum-told3 .given .1)
+none c =
+    let after-first-fit = c .before .before in
+    sym (after-first-fit .first-fit .ensures) ∙ ap fitOf (c .enum-told3 .given .1)
 
 find-requires : tie.Need-find-requires
 find-requires c κs = search needs
@@ -60,24 +70,25 @@ enum-told-2 c = search needs
 
 first-fit-requires : tie.Need-first-fit-requires
 first-fit-requires c κs =
-    let u = c .before .before .before in
-    let s = entry u in
+    let after-enum-told2 = c .before .before .before in
+    let s = entry after-enum-told2 in
     let a = s .args in
-    searchable (a .table .now) (a .heads .now) (a .links .now) (a .n) (a .most) (part s) (s .pre) (missing u)
+    searchable (a .table .now) (a .heads .now) (a .links .now) (a .n) (a .most) (part s) (s .pre) (missing after-enum-told2)
 
 enum-known-row : tie.Need-enum-known-row
 enum-known-row c = search needs
 
 put-requires : tie.Need-put-requires
 put-requires c κs =
-    let w = c .before .before .before .before in
-    let u = unfound (w .before .before) in
+    let after-row = c .before .before .before .before in
+    let after-first-fit = after-row .before .before in
+    let u = unfound (after-first-fit) in
     let s = entry u in
     let a = s .args in
-    let row = w .row .given .0 .0 in
-    let e = fit-length (a .table .now) (a .heads .now) (a .links .now) (a .n) (a .most) (part s) (s .pre) (missing u) row (fits w) in
+    let row = after-row .row .given .0 .0 in
+    let e = fit-length (a .table .now) (a .heads .now) (a .links .now) (a .n) (a .most) (part s) (s .pre) (missing u) row (fits after-row) in
     let r = s .pre .room in
-    (s .pre .index, ((omega (arith, e, r .few), omega (arith, e, r .words), omega (arith, e, r .linked)), fit-new (a .table .now) (a .heads .now) (a .links .now) (a .n) (a .most) (part s) (s .pre) (missing u) row (fits w)))
+    (s .pre .index, ((omega (arith, e, r .few), omega (arith, e, r .words), omega (arith, e, r .linked)), fit-new (a .table .now) (a .heads .now) (a .links .now) (a .n) (a .most) (part s) (s .pre) (missing u) row (fits after-row)))
 
 add-result : tie.Need-add-result
 add-result c = search needs
@@ -86,26 +97,30 @@ enum-told-3 : tie.Need-enum-told-3
 enum-told-3 c = search needs
 
 chosen-form-requires : tie.Need-chosen-form-requires
-chosen-form-requires c κs = let p = entry (unfound (c .before .before)) .pre .part in (p .below, p .choice)
+chosen-form-requires c κs =
+    let after-first-fit = c .before .before in
+    let p = entry (unfound (after-first-fit)) .pre .part in (p .below, p .choice)
 
 -- the rows of the chosen form's chain
 chain : (c : tie.After-chosen-form)
     → chained (rows (entry (unfound (c .before .before .before)))) (stringOf (c .chosen-form .result))
     ≡ step (rows (entry (unfound (c .before .before .before)))) (part (entry (unfound (c .before .before .before))))
 chain c =
-    let w = c .before in
-    let u = unfound (w .before .before) in
+    let after-enum-told3 = c .before in
+    let after-first-fit = after-enum-told3 .before .before in
+    let u = unfound (after-first-fit) in
     let s = entry u in
     let a = s .args in
-    ap (λ (x : Form). chained (rows s) (stringOf x)) (c .chosen-form .ensures) ∙ chain-added (a .table .now) (a .heads .now) (a .links .now) (a .n) (a .most) (part s) (s .pre) (missing u) (none w)
+    ap (λ (x : Form). chained (rows s) (stringOf x)) (c .chosen-form .ensures) ∙ chain-added (a .table .now) (a .heads .now) (a .links .now) (a .n) (a .most) (part s) (s .pre) (missing u) (none after-enum-told3)
 
 add-chain-requires : tie.Need-add-chain-requires
 add-chain-requires c κs =
-    let f = c .before .before .before in
-    let s = entry (unfound (f .before .before .before)) in
+    let after-chosen-form = c .before .before .before in
+    let after-first-fit = after-chosen-form .before .before .before in
+    let s = entry (unfound (after-first-fit)) in
     let a = s .args in (
-      (s .pre .index, subst (λ (x : Form). Readable x (rows s)) (sym (f .chosen-form .ensures)) (readable (a .table .now) (a .heads .now) (a .links .now) (a .n) (a .most) (part s) (s .pre))),
-      subst (λ (x : List Row). HasRoom (a .table .now) (a .links .now) (length x)) (sym (chain f)) (s .pre .room),
+      (s .pre .index, subst (λ (x : Form). Readable x (rows s)) (sym (after-chosen-form .chosen-form .ensures)) (readable (a .table .now) (a .heads .now) (a .links .now) (a .n) (a .most) (part s) (s .pre))),
+      subst (λ (x : List Row). HasRoom (a .table .now) (a .links .now) (length x)) (sym (chain after-chosen-form)) (s .pre .room),
     )
 
 same-length : tie.Need-same-length
@@ -119,9 +134,10 @@ same-length-3 c = search needs
 
 returns : tie.Need-returns
 returns c =
-    let s = start (c .before .before) in
+    let after-find = c .before .before in
+    let s = start (after-find) in
     let a = s .args in
-    let e = sym (c .before .before .find .ensures) ∙ ap foundAt (c .enum-told .given .1) in
+    let e = sym (after-find .find .ensures) ∙ ap foundAt (c .enum-told .given .1) in
     subst (Grown (a .table .now) (a .table .now) (a .heads .now) (a .links .now) (a .n)) (row-used (a .table .now) (a .heads .now) (a .links .now) (a .n) (a .most) (part s) (s .pre) (c .enum-told .given .0 .0) e) (grown-none (a .table .now) (a .heads .now) (a .links .now) (a .n) (s .pre .index))
 
 same-length-4 : tie.Need-same-length-4
@@ -135,12 +151,14 @@ same-length-6 c = search needs
 
 returns-2 : tie.Need-returns-2
 returns-2 c =
-    let g = c .before .before .before .before .before .before in
-    let w = g .before .before .before .before .before in
-    let u = unfound (w .before .before) in
+    let after-table = c .before .before .before .before .before in
+    let after-put = after-table .before in
+    let after-row = after-put .before .before .before .before .before in
+    let after-first-fit = after-row .before .before in
+    let u = unfound (after-first-fit) in
     let s = entry u in
     let a = s .args in
-    subst (Grown (a .table .now) (g .put .last .0) (g .put .last .1 .0) (g .put .last .1 .1 .0) (a .n + 1)) (fit-added (a .table .now) (a .heads .now) (a .links .now) (a .n) (a .most) (part s) (s .pre) (missing u) (w .row .given .0 .0) (fits w)) (g .put .ensures)
+    subst (Grown (a .table .now) (after-put .put .last .0) (after-put .put .last .1 .0) (after-put .put .last .1 .1 .0) (a .n + 1)) (fit-added (a .table .now) (a .heads .now) (a .links .now) (a .n) (a .most) (part s) (s .pre) (missing u) (after-row .row .given .0 .0) (fits after-row)) (after-put .put .ensures)
 
 same-length-7 : tie.Need-same-length-7
 same-length-7 c = search needs
@@ -153,10 +171,12 @@ same-length-9 c = search needs
 
 returns-3 : tie.Need-returns-3
 returns-3 c =
-    let g = c .before .before .before .before .before .before in
-    let f = g .before .before .before .before in
-    let a = entry (unfound (f .before .before .before)) .args in
-    subst (Grown (a .table .now) (g .add-chain .last .0) (g .add-chain .last .1 .0) (g .add-chain .last .1 .1 .0) (g .add-chain .result)) (chain f) (g .add-chain .ensures)
+    let after-table2 = c .before .before .before .before .before in
+    let after-add-chain = after-table2 .before in
+    let after-chosen-form = after-add-chain .before .before .before .before in
+    let after-first-fit = after-chosen-form .before .before .before in
+    let a = entry (unfound (after-first-fit)) .args in
+    subst (Grown (a .table .now) (after-add-chain .add-chain .last .0) (after-add-chain .add-chain .last .1 .0) (after-add-chain .add-chain .last .1 .1 .0) (after-add-chain .add-chain .result)) (chain after-chosen-form) (after-add-chain .add-chain .ensures)
 
 pub add-part-spec : {M : Type 1} → statement M
 add-part-spec =

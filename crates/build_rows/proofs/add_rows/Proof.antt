@@ -39,15 +39,19 @@ abbrev start : tie.After-put Inv-loop μ-loop → tie.Start Inv-loop μ-loop
 start c = c .before .before .before .before .before .before .before .before .before
 
 abbrev first : tie.At-loop Inv-loop μ-loop → tie.After-put Inv-loop μ-loop
-first c = c .before .before .before .before .before .before .before
+first c =
+    let after-heads = c .before .before .before .before in
+    let after-put = after-heads .before .before .before in
+    after-put
 
 put-requires : tie.Need-put-requires Inv-loop μ-loop
 unfolding rowWith lowestFrom upTo
 put-requires c κs =
-    let s = c .before .before .before .before .before .before .before .before in
-    let a = s .args in
-    let r = less-room (a .table .now) (a .links .now) 1 (length (steps (firstRow ∷ []) (map (partIn (a .choices .now)) (take (a .m) (a .keys .now))))) (some-rows (a .keys .now) (a .m) (a .choices .now)) (s .pre .room) in
-    (s .pre .index, ((omega arith, omega (arith, r .words), omega (arith, r .linked)), refl))
+    let after-put-arg = c .before .before in
+    let at-start = after-put-arg .before .before .before .before .before .before in
+    let args = at-start .args in
+    let r = less-room (args .table .now) (args .links .now) 1 (length (steps (firstRow ∷ []) (map (partIn (args .choices .now)) (take (args .m) (args .keys .now))))) (some-rows (args .keys .now) (args .m) (args .choices .now)) (at-start .pre .room) in
+    (at-start .pre .index, ((omega arith, omega (arith, r .words), omega (arith, r .linked)), refl))
 
 -- row 0 is there
 row-0-put : (c : tie.After-put Inv-loop μ-loop) → Grown (start c .args .table .now) (c .put .last .0) (c .put .last .1 .0) (c .put .last .1 .1 .0) 1 (firstRow ∷ [])
@@ -56,15 +60,20 @@ row-0-put c = c .put .ensures
 
 loop-holds : tie.Need-loop-holds Inv-loop μ-loop
 loop-holds c =
-    let f = c .before .before .before .before .before .before in
-    let a = start f .args in
-    (search needs, refl, refl, refl, round-start (a .keys .now) (a .m) (a .choices .now) (a .table .now) (f .put .last .0) (f .put .last .1 .0) (f .put .last .1 .1 .0) (row-0-put f))
+    let after-table = c .before .before .before .before .before in
+    let after-put = after-table .before in
+    let after-put-arg = after-put .before .before .before in
+    let at-start = after-put-arg .before .before .before .before .before .before in
+    let args = at-start .args in
+    (search needs, refl, refl, refl, round-start (args .keys .now) (args .m) (args .choices .now) (args .table .now) (after-put .put .last .0) (after-put .put .last .1 .0) (after-put .put .last .1 .1 .0) (row-0-put after-put))
 
 mul-key : tie.Need-mul-key Inv-loop μ-loop
 mul-key c = let s = start (first (c .before)) in omega (arith, s .pre .keyed, s .good)
 
 shared-slice-read-key : tie.Need-shared-slice-read-key Inv-loop μ-loop
-shared-slice-read-key c = let s = start (first (c .before .before)) in omega (arith, s .pre .keyed)
+shared-slice-read-key c =
+    let at-loop = c .before .before in
+    let s = start (first (at-loop)) in omega (arith, s .pre .keyed)
 
 value-of-requires : tie.Need-value-of-requires Inv-loop μ-loop
 value-of-requires c κs = search needs
@@ -75,12 +84,14 @@ tap-of-requires c κs = search needs
 -- the tap of the key is one of those that have a choice
 tap-within : (c : tie.After-tap-of Inv-loop μ-loop) → c .tap-of .result < length (start (first (c .before .before .before .before)) .args .choices .now)
 tap-within c =
-    let t = c .before .before .before in
-    let l = t .before in
-    omega (arith, c .tap-of .ensures, start (first l) .pre .taps (l .loop .i) (t .loop-test .taken))
+    let in-loop = c .before .before .before in
+    let at-loop = in-loop .before in
+    omega (arith, c .tap-of .ensures, start (first at-loop) .pre .taps (at-loop .loop .i) (in-loop .loop-test .taken))
 
 mul-choice : tie.Need-mul-choice Inv-loop μ-loop
-mul-choice c = omega (arith, tap-within c, start (first (c .before .before .before .before)) .good)
+mul-choice c =
+    let at-loop = c .before .before .before .before in
+    omega (arith, tap-within c, start (first (at-loop)) .good)
 
 shared-slice-read-choice : tie.Need-shared-slice-read-choice Inv-loop μ-loop
 shared-slice-read-choice c = tap-within (c .before)
@@ -90,73 +101,92 @@ part-is : (c : tie.After-tap-of Inv-loop μ-loop)
     → partIn (start (first (c .before .before .before .before)) .args .choices .now) (getD (start (first (c .before .before .before .before)) .args .keys .now) (c .before .before .before .before .loop .i) 0)
     ≡ partOf (c .before .value-of .result) (getD (start (first (c .before .before .before .before)) .args .choices .now) (c .tap-of .result) 0)
 part-is c =
-    let a = start (first (c .before .before .before .before)) .args in
-    sym (ap₂ (λ (v k : ℕ). partOf v (getD (a .choices .now) k 0)) (c .before .value-of .ensures) (c .tap-of .ensures))
+    let after-value-of = c .before in
+    let at-loop = after-value-of .before .before .before in
+    let a = start (first (at-loop)) .args in
+    sym (ap₂ (λ (v k : ℕ). partOf v (getD (a .choices .now) k 0)) (after-value-of .value-of .ensures) (c .tap-of .ensures))
 
 add-part-requires : tie.Need-add-part-requires Inv-loop μ-loop
 add-part-requires c κs =
-    let v = c .before .before .before .before in
-    let t = v .before .before .before in
-    let l = t .before in
-    let o = l .loop in
-    let f = first l in
+    let after-tap-of = c .before .before .before .before in
+    let in-loop = after-tap-of .before .before .before in
+    let at-loop = in-loop .before in
+    let loop = at-loop .loop in
+    let f = first at-loop in
     let s = start f in
     let a = s .args in
     let k = f .put .kept in
-    let r = same-room (a .table .now) (a .links .now) (o .table) (o .links) _ (o .inv .1 ∙ k .0) (o .inv .3 ∙ k .1 .1 .0) (s .pre .room) in
-    subst (Ready (o .table) (o .heads) (o .links) (o .n) (o .most)) (part-is v)
-    (ready (a .keys .now) (a .m) (a .choices .now) (f .put .last .0) (o .table) (o .heads) (o .links) (o .n) (o .most) (o .i) (t .loop-test .taken) (s .pre .keyed) (o .inv .4) (s .pre .parts (o .i) (t .loop-test .taken)) r)
+    let r = same-room (a .table .now) (a .links .now) (loop .table) (loop .links) _ (loop .inv .1 ∙ k .0) (loop .inv .3 ∙ k .1 .1 .0) (s .pre .room) in
+    subst (Ready (loop .table) (loop .heads) (loop .links) (loop .n) (loop .most)) (part-is after-tap-of)
+    (ready (a .keys .now) (a .m) (a .choices .now) (f .put .last .0) (loop .table) (loop .heads) (loop .links) (loop .n) (loop .most) (loop .i) (in-loop .loop-test .taken) (s .pre .keyed) (loop .inv .4) (s .pre .parts (loop .i) (in-loop .loop-test .taken)) r)
 
 larger-requires : tie.Need-larger-requires Inv-loop μ-loop
 larger-requires c κs = search needs
 
 add-i : tie.Need-add-i Inv-loop μ-loop
 add-i c =
-    let t = c .before .before .before .before .before .before .before .before .before .before .before .before .before .before .before in
-    omega (arith, t .before .loop .inv .0, t .loop-test .taken, start (first (t .before)) .fits .m)
+    let after-heads2 = c .before .before .before .before in
+    let after-add-part-arg2 = after-heads2 .before .before .before .before .before in
+    let after-value-of = after-add-part-arg2 .before .before .before .before in
+    let in-loop = after-value-of .before .before in
+    let at-loop = in-loop .before in
+    omega (arith, at-loop .loop .inv .0, in-loop .loop-test .taken, start (first (at-loop)) .fits .m)
 
 loop-less : tie.Need-loop-less Inv-loop μ-loop
-loop-less c = omega (arith, c .before .before .before .before .before .before .before .before .before .before .before .before .before .before .before .loop-test .taken)
+loop-less c =
+    let after-heads2 = c .before .before .before .before in
+    let after-add-part-arg2 = after-heads2 .before .before .before .before .before in
+    let after-value-of = after-add-part-arg2 .before .before .before .before in
+    let in-loop = after-value-of .before .before in
+    omega (arith, in-loop .loop-test .taken)
 
 loop-again : tie.Need-loop-again Inv-loop μ-loop
 loop-again c =
-    let g = c .before .before .before .before .before .before .before in
-    let v = g .before .before .before .before .before in
-    let t = v .before .before .before in
-    let l = t .before in
-    let o = l .loop in
-    let f = first l in
+    let after-heads2 = c .before .before .before .before in
+    let after-add-part = after-heads2 .before .before .before in
+    let after-tap-of = after-add-part .before .before .before .before .before in
+    let after-value-of = after-tap-of .before in
+    let in-loop = after-value-of .before .before in
+    let at-loop = in-loop .before in
+    let loop = at-loop .loop in
+    let f = first at-loop in
     let s = start f in
     let a = s .args in
-    let k = g .add-part .kept in
-    let h = t .loop-test .taken in
-    let e = c .larger .ensures ∙ ap (λ (x : ℕ). max (o .most) x) (v .before .value-of .ensures) in
-    let w = subst (λ (p : Part). Grown (o .table) (g .add-part .last .0) (g .add-part .last .1 .0) (g .add-part .last .1 .1 .0) (g .add-part .result) (step (rowsOf (o .table) (o .n)) p)) (sym (part-is v)) (g .add-part .ensures) in (
-      omega (arith, h),
-      k .0 ∙ o .inv .1,
-      k .1 .0 ∙ o .inv .2,
-      k .1 .1 .0 ∙ o .inv .3,
-      round-next (a .keys .now) (a .m) (a .choices .now) (f .put .last .0) (o .table) (o .heads) (o .links) (o .n) (o .most) (o .i) h (s .pre .keyed) (o .inv .4) (s .pre .parts (o .i) h)
-          (g .add-part .last .0) (g .add-part .last .1 .0) (g .add-part .last .1 .1 .0) (g .add-part .result) (c .larger .result) e w,
+    let k = after-add-part .add-part .kept in
+    let loop-test-taken = in-loop .loop-test .taken in
+    let e = c .larger .ensures ∙ ap (λ (x : ℕ). max (loop .most) x) (after-value-of .value-of .ensures) in
+    let w = subst (λ (p : Part). Grown (loop .table) (after-add-part .add-part .last .0) (after-add-part .add-part .last .1 .0) (after-add-part .add-part .last .1 .1 .0) (after-add-part .add-part .result) (step (rowsOf (loop .table) (loop .n)) p)) (sym (part-is after-tap-of)) (after-add-part .add-part .ensures) in (
+      omega (arith, loop-test-taken),
+      k .0 ∙ loop .inv .1,
+      k .1 .0 ∙ loop .inv .2,
+      k .1 .1 .0 ∙ loop .inv .3,
+      round-next (a .keys .now) (a .m) (a .choices .now) (f .put .last .0) (loop .table) (loop .heads) (loop .links) (loop .n) (loop .most) (loop .i) loop-test-taken (s .pre .keyed) (loop .inv .4) (s .pre .parts (loop .i) loop-test-taken)
+          (after-add-part .add-part .last .0) (after-add-part .add-part .last .1 .0) (after-add-part .add-part .last .1 .1 .0) (after-add-part .add-part .result) (c .larger .result) e w,
     )
 
 same-length : tie.Need-same-length Inv-loop μ-loop
-same-length c = let l = c .before in l .loop .inv .1 ∙ first l .put .kept .0
+same-length c =
+    let at-loop = c .before in
+    at-loop .loop .inv .1 ∙ first at-loop .put .kept .0
 
 same-length-2 : tie.Need-same-length-2 Inv-loop μ-loop
-same-length-2 c = let l = c .before in l .loop .inv .2 ∙ first l .put .kept .1 .0
+same-length-2 c =
+    let at-loop = c .before in
+    at-loop .loop .inv .2 ∙ first at-loop .put .kept .1 .0
 
 same-length-3 : tie.Need-same-length-3 Inv-loop μ-loop
-same-length-3 c = let l = c .before in l .loop .inv .3 ∙ first l .put .kept .1 .1 .0
+same-length-3 c =
+    let at-loop = c .before in
+    at-loop .loop .inv .3 ∙ first at-loop .put .kept .1 .1 .0
 
 returns : tie.Need-returns Inv-loop μ-loop
 returns c =
-    let l = c .before in
-    let o = l .loop in
-    let f = first l in
+    let at-loop = c .before in
+    let loop = at-loop .loop in
+    let f = first at-loop in
     let s = start f in
     let a = s .args in
-    round-end (a .keys .now) (a .m) (a .choices .now) (a .table .now) (f .put .last .0) (f .put .last .1 .0) (f .put .last .1 .1 .0) (o .table) (o .heads) (o .links) (o .n) (o .most) (o .i) (c .loop-test .left) (s .pre .keyed) (row-0-put f) (o .inv .4)
+    round-end (a .keys .now) (a .m) (a .choices .now) (a .table .now) (f .put .last .0) (f .put .last .1 .0) (f .put .last .1 .1 .0) (loop .table) (loop .heads) (loop .links) (loop .n) (loop .most) (loop .i) (c .loop-test .left) (s .pre .keyed) (row-0-put f) (loop .inv .4)
 
 pub add-rows-spec : {M : Type 1} → statement M
 add-rows-spec =

@@ -18,8 +18,9 @@ start c = c .before .before .before .before .before
 
 keyed : (c : tie.After-order) → c .order .result ≤ length (c .order .last .1 .0)
 keyed c =
+    let at-start = c .before .before .before .before .before in
     let l : length (c .order .last .1 .0) ≡ 256 = c .order .kept .1 .0 in
-    omega (arith, c .order .ensures .few, start c .pre .can-build .few, l)
+    omega (arith, c .order .ensures .few, at-start .pre .can-build .few, l)
 
 slice-aggregate-order : tie.Need-slice-aggregate-order
 slice-aggregate-order c = search needs
@@ -38,17 +39,17 @@ slice-aggregate-write-network-3 c = search needs
 
 write-network-requires : tie.Need-write-network-requires
 write-network-requires c κs =
-    let t = c .before .before .before .before .before in
-    let w = t .before .before in
-    let s = start w in
-    let a = s .args in
-    let keys = w .order .last .1 .0 in
-    let few : length (builtRows (a .coefficients .now) (a .choices .now)) ≤ 961 = omega (arith, fifteen-each (a .coefficients .now) (a .choices .now) (a .rows .now) (a .taps .now) keys (w .order .result) (s .pre) (w .order .ensures) (keyed w), t .if1 .taken) in (
-      can-start (a .coefficients .now) (a .choices .now) (a .rows .now) (a .taps .now) keys (w .order .result) (s .pre) (w .order .ensures) (keyed w)
-          (replicate {A = ℕ} 1024 0) _ (indexed-none (a .rows .now) (replicate {A = ℕ} 1024 0) _ 1024 refl (lit< tt)) (le-trans few (lit≤ tt)),
+    let in-then-1 = c .before .before .before .before .before in
+    let after-order = in-then-1 .before .before in
+    let at-start = after-order .before .before .before .before .before in
+    let args = at-start .args in
+    let keys = after-order .order .last .1 .0 in
+    let few : length (builtRows (args .coefficients .now) (args .choices .now)) ≤ 961 = omega (arith, fifteen-each (args .coefficients .now) (args .choices .now) (args .rows .now) (args .taps .now) keys (after-order .order .result) (at-start .pre) (after-order .order .ensures) (keyed after-order), in-then-1 .if1 .taken) in (
+      can-start (args .coefficients .now) (args .choices .now) (args .rows .now) (args .taps .now) keys (after-order .order .result) (at-start .pre) (after-order .order .ensures) (keyed after-order)
+          (replicate {A = ℕ} 1024 0) _ (indexed-none (args .rows .now) (replicate {A = ℕ} 1024 0) _ 1024 refl (lit< tt)) (le-trans few (lit≤ tt)),
       (
-        parts-ordered (a .coefficients .now) (a .choices .now) (a .rows .now) (a .taps .now) keys (w .order .result) (s .pre) (w .order .ensures) (keyed w),
-        omega (arith, s .pre .taps-long, s .pre .can-build .few),
+        parts-ordered (args .coefficients .now) (args .choices .now) (args .rows .now) (args .taps .now) keys (after-order .order .result) (at-start .pre) (after-order .order .ensures) (keyed after-order),
+        omega (arith, at-start .pre .taps-long, at-start .pre .can-build .few),
       ),
     )
 
@@ -63,16 +64,17 @@ slice-aggregate-write-network-6 c = search needs
 
 write-network-requires-2 : tie.Need-write-network-requires-2
 write-network-requires-2 c κs =
-    let w = c .before .before .before .before .before .before .before in
-    let s = start w in
-    let a = s .args in
-    let keys = w .order .last .1 .0 in
-    let few = rows-few (a .coefficients .now) (a .choices .now) (a .rows .now) (a .taps .now) keys (w .order .result) (s .pre) (w .order .ensures) (keyed w) in (
-      can-start (a .coefficients .now) (a .choices .now) (a .rows .now) (a .taps .now) keys (w .order .result) (s .pre) (w .order .ensures) (keyed w)
-          (replicate {A = ℕ} 131072 0) _ (indexed-none (a .rows .now) (replicate {A = ℕ} 131072 0) _ 131072 refl (lit< tt)) (le-trans few (lit≤ tt)),
+    let after-keys4 = c .before .before .before .before in
+    let after-order = after-keys4 .before .before .before in
+    let at-start = after-order .before .before .before .before .before in
+    let args = at-start .args in
+    let keys = after-order .order .last .1 .0 in
+    let few = rows-few (args .coefficients .now) (args .choices .now) (args .rows .now) (args .taps .now) keys (after-order .order .result) (at-start .pre) (after-order .order .ensures) (keyed after-order) in (
+      can-start (args .coefficients .now) (args .choices .now) (args .rows .now) (args .taps .now) keys (after-order .order .result) (at-start .pre) (after-order .order .ensures) (keyed after-order)
+          (replicate {A = ℕ} 131072 0) _ (indexed-none (args .rows .now) (replicate {A = ℕ} 131072 0) _ 131072 refl (lit< tt)) (le-trans few (lit≤ tt)),
       (
-        parts-ordered (a .coefficients .now) (a .choices .now) (a .rows .now) (a .taps .now) keys (w .order .result) (s .pre) (w .order .ensures) (keyed w),
-        omega (arith, s .pre .taps-long, s .pre .can-build .few),
+        parts-ordered (args .coefficients .now) (args .choices .now) (args .rows .now) (args .taps .now) keys (after-order .order .result) (at-start .pre) (after-order .order .ensures) (keyed after-order),
+        omega (arith, at-start .pre .taps-long, at-start .pre .can-build .few),
       ),
     )
 

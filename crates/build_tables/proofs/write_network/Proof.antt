@@ -8,12 +8,18 @@ abbrev start : tie.After-add-rows → tie.Start
 start c = c .before .before .before .before .before .before .before .before .before .before
 
 add-rows-requires : tie.Need-add-rows-requires
-add-rows-requires c κs = c .before .before .before .before .before .before .before .before .before .pre .0
+add-rows-requires c κs =
+    let after-add-rows-arg = c .before .before in
+    let at-start = after-add-rows-arg .before .before .before .before .before .before .before in
+    at-start .pre .0
 
 write-tap-rows-requires : tie.Need-write-tap-rows-requires
 write-tap-rows-requires c κs =
-    let g = c .before .before .before .before .before .before .before .before .before .before in
-    (g .add-rows .ensures .index, start g .pre .1 .1)
+    let after-links = c .before .before .before .before .before in
+    let after-add-rows = after-links .before .before .before .before .before in
+    let after-add-rows-arg = after-add-rows .before .before .before in
+    let at-start = after-add-rows-arg .before .before .before .before .before .before .before in
+    (after-add-rows .add-rows .ensures .index, at-start .pre .1 .1)
 
 same-length : tie.Need-same-length
 same-length c = search needs
@@ -29,13 +35,16 @@ same-length-4 c = search needs
 
 returns : tie.Need-returns
 returns c =
-    let w = c .before .before in
-    let g = w .before .before .before .before .before .before .before .before .before .before .before in
-    let s = start g in
-    let a = s .args in
-    let r = g .add-rows in
-    written (a .coefficients .now) (a .choices .now) (a .keys .now) (a .m) (s .pre .1 .0) (a .rows .now) (a .taps .now)
-    (r .last .1 .1 .1 .0) (r .last .1 .1 .1 .1 .0) (r .last .1 .1 .1 .1 .1 .0) (w .write-tap-rows .last .1 .1 .1 .1 .1 .0) (r .result) (r .ensures) (w .write-tap-rows .ensures)
+    let after-write-tap-rows = c .before .before in
+    let after-write-tap-rows-arg = after-write-tap-rows .before .before .before .before in
+    let after-heads = after-write-tap-rows-arg .before .before .before .before in
+    let after-add-rows = after-heads .before .before .before in
+    let after-add-rows-arg = after-add-rows .before .before .before in
+    let at-start = after-add-rows-arg .before .before .before .before .before .before .before in
+    let args = at-start .args in
+    let add-rows = after-add-rows .add-rows in
+    written (args .coefficients .now) (args .choices .now) (args .keys .now) (args .m) (at-start .pre .1 .0) (args .rows .now) (args .taps .now)
+    (add-rows .last .1 .1 .1 .0) (add-rows .last .1 .1 .1 .1 .0) (add-rows .last .1 .1 .1 .1 .1 .0) (after-write-tap-rows .write-tap-rows .last .1 .1 .1 .1 .1 .0) (add-rows .result) (add-rows .ensures) (after-write-tap-rows .write-tap-rows .ensures)
 
 pub write-network-spec : {M : Type 1} → statement M
 write-network-spec =

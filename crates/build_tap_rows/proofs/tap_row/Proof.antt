@@ -39,8 +39,8 @@ unfolding tapRowOf
 returns c =
     let after-reduce = c .before .before in
     let at-start = after-reduce .before .before .before .before in
-    let a = at-start .args in
-    ap (tapRowOf (rowsOf (a .table .now) (a .n))) (ap partsIn (sym (c .enum-told .given .1)) ∙ reduced (after-reduce))
+    let args = at-start .args in
+    ap (tapRowOf (rowsOf (args .table .now) (args .n))) (ap partsIn (sym (c .enum-told .given .1)) ∙ reduced (after-reduce))
 
 returns-2 : tie.Need-returns-2
 unfolding tapRowOf
@@ -49,9 +49,9 @@ returns-2 c =
     let after-reduction = after-sign-code .before .before in
     let after-reduce = after-reduction .before .before in
     let at-start = after-reduce .before .before .before .before in
-    let a = at-start .args in
+    let args = at-start .args in
     ap₂ (λ (x y : ℕ). record { sign = x; row = y; shift = after-reduction .reduction .given .0 .0 .shift }) (after-sign-code .sign-code .ensures) (c .row-of .ensures)
-    ∙ ap (tapRowOf (rowsOf (a .table .now) (a .n))) (ap partsIn (sym (after-reduction .reduction .given .1)) ∙ reduced (after-reduce))
+    ∙ ap (tapRowOf (rowsOf (args .table .now) (args .n))) (ap partsIn (sym (after-reduction .reduction .given .1)) ∙ reduced (after-reduce))
 
 pub tap-row-spec : {M : Type 1} → statement M
 tap-row-spec =

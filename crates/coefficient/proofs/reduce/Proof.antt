@@ -14,13 +14,15 @@ magnitude-requires c κs = search needs
 
 shr-odd-part : tie.Need-shr-odd-part
 shr-odd-part c =
-    let s = c .before .before in
-    places-32 (s .args .n) (s .fits .n) (c .before .if1 .left) (c .magnitude .result) (c .magnitude .ensures)
+    let in-else-1 = c .before in
+    let at-start = in-else-1 .before in
+    places-32 (at-start .args .n) (at-start .fits .n) (in-else-1 .if1 .left) (c .magnitude .result) (c .magnitude .ensures)
 
 returns-2 : tie.Need-returns-2
 returns-2 c =
-    let s = c .before .before in
-    record { split = parts-32 (s .args .n) (s .fits .n) (c .before .if1 .left) (c .magnitude .result) (c .magnitude .ensures) }
+    let in-else-1 = c .before in
+    let at-start = in-else-1 .before in
+    record { split = parts-32 (at-start .args .n) (at-start .fits .n) (in-else-1 .if1 .left) (c .magnitude .result) (c .magnitude .ensures) }
 
 pub reduce-spec : {M : Type 1} → statement M
 reduce-spec = tie.close (tie.spec returns magnitude-requires shr-odd-part returns-2)

@@ -13,10 +13,10 @@ canonical-requires c κs = search needs
 
 returns : tie.Need-returns
 returns c =
-    let s = c .before in
+    let at-start = c .before in
     record {
       word = refl;
-      canonical = subst (λ (n : ℤ). InCanonicalForm n (c .canonical .result)) (toZ-ofZ w32 (s .args .n) (s .fits .n)) (c .canonical .ensures);
+      canonical = subst (λ (n : ℤ). InCanonicalForm n (c .canonical .result)) (toZ-ofZ w32 (at-start .args .n) (at-start .fits .n)) (c .canonical .ensures);
     }
 
 pub fir-canonical-spec : {M : Type 1} → statement M

@@ -13,8 +13,8 @@ form-count-requires c κs = search needs
 
 returns : tie.Need-returns
 returns c =
-    let s = c .before in
-    record { word = refl; counted = subst (λ (n : ℤ). FormsCounted n (c .form-count .result)) (toZ-ofZ w32 (s .args .n) (s .fits .n)) (c .form-count .ensures) }
+    let at-start = c .before in
+    record { word = refl; counted = subst (λ (n : ℤ). FormsCounted n (c .form-count .result)) (toZ-ofZ w32 (at-start .args .n) (at-start .fits .n)) (c .form-count .ensures) }
 
 pub fir-form-count-spec : {M : Type 1} → statement M
 fir-form-count-spec = tie.close (tie.spec form-count-requires returns)

@@ -27,24 +27,28 @@ enum-known-answer-2 c = search needs
 
 returns : tie.Need-returns
 returns c =
-    let k = c .before .before .before .before in
-    let e = ap answerOf (c .before .before .answer .given .1) in
+    let after-answer = c .before .before in
+    let after-value = after-answer .before .before in
+    let at-start = after-value .before in
+    let e = ap answerOf (after-answer .answer .given .1) in
     record {
-      answer = answerOf (k .value .result);
+      answer = answerOf (after-value .value .result);
       word = c .refusal-word .ensures ∙ sym (ap refusalWord e);
-      value = sym (ap (kept (k .before .args .value .now)) e);
-      valued = k .value .ensures;
+      value = sym (ap (kept (at-start .args .value .now)) e);
+      valued = after-value .value .ensures;
     }
 
 returns-2 : tie.Need-returns-2
 returns-2 c =
-    let k = c .before .before .before in
-    let e = ap answerOf (c .before .answer2 .given .1) in
+    let after-answer2 = c .before in
+    let after-value = after-answer2 .before .before in
+    let at-start = after-value .before in
+    let e = ap answerOf (after-answer2 .answer2 .given .1) in
     record {
-      answer = answerOf (k .value .result);
+      answer = answerOf (after-value .value .result);
       word = sym (ap refusalWord e);
-      value = toZ-ofZ w64 (c .before .answer2 .given .0 .0) (record { sfits = c .known-told2 .given .0 .1 }) ∙ sym (ap (kept (k .before .args .value .now)) e);
-      valued = k .value .ensures;
+      value = toZ-ofZ w64 (after-answer2 .answer2 .given .0 .0) (record { sfits = c .known-told2 .given .0 .1 }) ∙ sym (ap (kept (at-start .args .value .now)) e);
+      valued = after-value .value .ensures;
     }
 
 pub fir-form-value-spec : {M : Type 1} → statement M

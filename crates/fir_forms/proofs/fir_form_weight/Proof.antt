@@ -25,24 +25,28 @@ enum-known-answer-2 c = search needs
 
 returns : tie.Need-returns
 returns c =
-    let k = c .before .before .before .before in
-    let e = ap answerOf (c .before .before .answer .given .1) in
+    let after-answer = c .before .before in
+    let after-weight = after-answer .before .before in
+    let at-start = after-weight .before in
+    let e = ap answerOf (after-answer .answer .given .1) in
     record {
-      answer = answerOf (k .weight .result);
+      answer = answerOf (after-weight .weight .result);
       word = c .refusal-word .ensures ∙ sym (ap refusalWord e);
-      weight = sym (ap (kept (k .before .args .weight .now)) e);
-      weighed = k .weight .ensures;
+      weight = sym (ap (kept (at-start .args .weight .now)) e);
+      weighed = after-weight .weight .ensures;
     }
 
 returns-2 : tie.Need-returns-2
 returns-2 c =
-    let k = c .before .before .before in
-    let e = ap answerOf (c .before .answer2 .given .1) in
+    let after-answer2 = c .before in
+    let after-weight = after-answer2 .before .before in
+    let at-start = after-weight .before in
+    let e = ap answerOf (after-answer2 .answer2 .given .1) in
     record {
-      answer = answerOf (k .weight .result);
+      answer = answerOf (after-weight .weight .result);
       word = sym (ap refusalWord e);
-      weight = sym (ap (kept (k .before .args .weight .now)) e);
-      weighed = k .weight .ensures;
+      weight = sym (ap (kept (at-start .args .weight .now)) e);
+      weighed = after-weight .weight .ensures;
     }
 
 pub fir-form-weight-spec : {M : Type 1} → statement M

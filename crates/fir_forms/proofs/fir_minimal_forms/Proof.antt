@@ -35,15 +35,17 @@ same-length-2 c = search needs
 
 returns : tie.Need-returns
 returns c =
-    let k = c .before .before .before .before .before .before .before .before in
-    let s = k .before .before .before .before .before in
-    let a = s .args in
-    let e = ap answerOf (c .before .before .answer .given .1) in
+    let after-answer = c .before .before in
+    let after-plus = after-answer .before .before .before .before .before in
+    let after-minimal-forms = after-plus .before in
+    let at-start = after-minimal-forms .before .before .before .before .before in
+    let args = at-start .args in
+    let e = ap answerOf (after-answer .answer .given .1) in
     record {
-      answer = answerOf (k .minimal-forms .result);
+      answer = answerOf (after-minimal-forms .minimal-forms .result);
       word = c .refusal-word .ensures ∙ sym (ap refusalWord e);
-      form-count = sym (ap (kept (a .count .now)) e);
-      listed = subst (λ (z : ℤ). FormsListed z (a .plus .now) (a .minus .now) (answerOf (k .minimal-forms .result)) (k .minimal-forms .last .1 .0) (k .minimal-forms .last .1 .1 .0)) (toZ-ofZ w32 (a .n) (s .fits .n)) (k .minimal-forms .ensures);
+      form-count = sym (ap (kept (args .count .now)) e);
+      listed = subst (λ (z : ℤ). FormsListed z (args .plus .now) (args .minus .now) (answerOf (after-minimal-forms .minimal-forms .result)) (after-minimal-forms .minimal-forms .last .1 .0) (after-minimal-forms .minimal-forms .last .1 .1 .0)) (toZ-ofZ w32 (args .n) (at-start .fits .n)) (after-minimal-forms .minimal-forms .ensures);
     }
 
 same-length-3 : tie.Need-same-length-3
@@ -54,15 +56,17 @@ same-length-4 c = search needs
 
 returns-2 : tie.Need-returns-2
 returns-2 c =
-    let k = c .before .before .before .before .before .before .before in
-    let s = k .before .before .before .before .before in
-    let a = s .args in
-    let e = ap answerOf (c .before .answer2 .given .1) in
+    let after-answer2 = c .before in
+    let after-plus = after-answer2 .before .before .before .before .before in
+    let after-minimal-forms = after-plus .before in
+    let at-start = after-minimal-forms .before .before .before .before .before in
+    let args = at-start .args in
+    let e = ap answerOf (after-answer2 .answer2 .given .1) in
     record {
-      answer = answerOf (k .minimal-forms .result);
+      answer = answerOf (after-minimal-forms .minimal-forms .result);
       word = sym (ap refusalWord e);
-      form-count = sym (ap (kept (a .count .now)) e);
-      listed = subst (λ (z : ℤ). FormsListed z (a .plus .now) (a .minus .now) (answerOf (k .minimal-forms .result)) (k .minimal-forms .last .1 .0) (k .minimal-forms .last .1 .1 .0)) (toZ-ofZ w32 (a .n) (s .fits .n)) (k .minimal-forms .ensures);
+      form-count = sym (ap (kept (args .count .now)) e);
+      listed = subst (λ (z : ℤ). FormsListed z (args .plus .now) (args .minus .now) (answerOf (after-minimal-forms .minimal-forms .result)) (after-minimal-forms .minimal-forms .last .1 .0) (after-minimal-forms .minimal-forms .last .1 .1 .0)) (toZ-ofZ w32 (args .n) (at-start .fits .n)) (after-minimal-forms .minimal-forms .ensures);
     }
 
 pub fir-minimal-forms-spec : {M : Type 1} → statement M

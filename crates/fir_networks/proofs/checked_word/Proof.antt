@@ -20,7 +20,9 @@ returns : tie.Need-returns
 returns c = search needs
 
 returns-2 : tie.Need-returns-2
-returns-2 c = c .refusal-word .ensures ∙ ap (λ (a : Checked). refusalWord (answerOf a)) (sym (c .before .before .answer .given .1))
+returns-2 c =
+    let after-answer = c .before .before in
+    c .refusal-word .ensures ∙ ap (λ (a : Checked). refusalWord (answerOf a)) (sym (after-answer .answer .given .1))
 
 pub checked-word-spec : {M : Type 1} → statement M
 checked-word-spec =

@@ -15,8 +15,9 @@ same-length c = search needs
 
 returns : tie.Need-returns
 returns c =
-    let k = c .before .before .coefficients in
-    record { answer = answerOf (k .result); word = c .checked-word .ensures; read = k .ensures }
+    let after-coefficients = c .before .before in
+    let coefficients = after-coefficients .coefficients in
+    record { answer = answerOf (coefficients .result); word = c .checked-word .ensures; read = coefficients .ensures }
 
 pub fir-coefficients-spec : {M : Type 1} → statement M
 fir-coefficients-spec =

@@ -18,8 +18,9 @@ same-length-2 c = search needs
 
 returns : tie.Need-returns
 returns c =
-    let k = c .before .before .before .before .run in
-    record { answer = answerOf (k .result); word = c .checked-word .ensures; ran = k .ensures }
+    let after-run = c .before .before .before .before in
+    let run = after-run .run in
+    record { answer = answerOf (run .result); word = c .checked-word .ensures; ran = run .ensures }
 
 pub fir-run-spec : {M : Type 1} → statement M
 fir-run-spec =

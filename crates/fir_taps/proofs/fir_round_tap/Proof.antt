@@ -17,12 +17,13 @@ tap-word-requires c κs = search needs
 
 returns : tie.Need-returns
 returns c =
-    let r = c .before in
-    let b = r .before in
+    let after-round-tap = c .before in
+    let after-of-bits = after-round-tap .before in
+    let at-start = after-of-bits .before in
     record {
-      answer = answerOf (r .round-tap .result);
+      answer = answerOf (after-round-tap .round-tap .result);
       word = c .tap-word .ensures;
-      rounded = subst (λ (x : Float). TapRounded (b .before .args .fraction-bits) x (answerOf (r .round-tap .result))) (b .of-bits .ensures) (r .round-tap .ensures);
+      rounded = subst (λ (x : Float). TapRounded (at-start .args .fraction-bits) x (answerOf (after-round-tap .round-tap .result))) (after-of-bits .of-bits .ensures) (after-round-tap .round-tap .ensures);
     }
 
 pub fir-round-tap-spec : {M : Type 1} → statement M

@@ -46,22 +46,26 @@ enum-known-answer-2 : tie.Need-enum-known-answer-2
 enum-known-answer-2 c = search needs
 
 float-to-bits-divisor : tie.Need-float-to-bits-divisor
-float-to-bits-divisor c = let w = numbers (c .before .before) in search needs
+float-to-bits-divisor c =
+    let after-answer2 = c .before .before in
+    let w = numbers (after-answer2) in search needs
 
 float-to-bits-leftover : tie.Need-float-to-bits-leftover
-float-to-bits-leftover c = let w = numbers (c .before .before .before) in search needs
+float-to-bits-leftover c =
+    let after-answer2 = c .before .before .before in
+    let w = numbers (after-answer2) in search needs
 
 same-length : tie.Need-same-length
 same-length c = search needs
 
 returns : tie.Need-returns
 returns c =
-    let d = c .before .before in
-    let k = d .before .before .before in
+    let after-answer = c .before .before in
+    let after-round-taps = after-answer .before .before .before in
     record {
-      answer = turnedDown (d .answer .given .0 .0);
+      answer = turnedDown (after-answer .answer .given .0 .0);
       word = c .refusal-word .ensures;
-      rounded = subst (Left k) (ap answerOf (d .answer .given .1)) (k .round-taps .ensures);
+      rounded = subst (Left after-round-taps) (ap answerOf (after-answer .answer .given .1)) (after-round-taps .round-taps .ensures);
       divisor-bits = refl;
       leftover-bits = refl;
     }
@@ -71,8 +75,8 @@ same-length-2 c = search needs
 
 returns-2 : tie.Need-returns-2
 returns-2 c =
-    let d = c .before .before .before in
-    record { answer = given (report d); word = refl; rounded = told d; divisor-bits = refl; leftover-bits = refl }
+    let after-answer2 = c .before .before .before in
+    record { answer = given (report after-answer2); word = refl; rounded = told after-answer2; divisor-bits = refl; leftover-bits = refl }
 
 pub fir-round-taps-spec : {M : Type 1} → statement M
 fir-round-taps-spec =

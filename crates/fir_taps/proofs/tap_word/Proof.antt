@@ -46,16 +46,22 @@ mul-result c = search needs
 
 returns : tie.Need-returns
 returns c =
-    let g = c .before .before .tap .given in
-    c .pattern .ensures ∙ ap (ofZ w32) (toZ-ofZ w32 (g .0 .0) (record { sfits = c .before .known-told .given .0 .1 })) ∙ ap wordOf (sym (g .1))
+    let after-known-told = c .before in
+    let after-tap = after-known-told .before in
+    let g = after-tap .tap .given in
+    c .pattern .ensures ∙ ap (ofZ w32) (toZ-ofZ w32 (g .0 .0) (record { sfits = after-known-told .known-told .given .0 .1 })) ∙ ap wordOf (sym (g .1))
 
 returns-2 : tie.Need-returns-2
 returns-2 c =
-    let g = c .before .before .tap2 .given in
-    c .pattern2 .ensures ∙ ap (ofZ w32) (toZ-ofZ w32 (g .0 .0) (record { sfits = c .before .known-told2 .given .0 .1 })) ∙ ap wordOf (sym (g .1))
+    let after-known-told2 = c .before in
+    let after-tap2 = after-known-told2 .before in
+    let g = after-tap2 .tap2 .given in
+    c .pattern2 .ensures ∙ ap (ofZ w32) (toZ-ofZ w32 (g .0 .0) (record { sfits = after-known-told2 .known-told2 .given .0 .1 })) ∙ ap wordOf (sym (g .1))
 
 returns-3 : tie.Need-returns-3
-returns-3 c = ap (λ (n : ℕ). n * 2 ^ 32) (c .number .ensures) ∙ ap wordOf (sym (c .before .before .tap3 .given .1))
+returns-3 c =
+    let after-tap3 = c .before .before in
+    ap (λ (n : ℕ). n * 2 ^ 32) (c .number .ensures) ∙ ap wordOf (sym (after-tap3 .tap3 .given .1))
 
 pub tap-word-spec : {M : Type 1} → statement M
 tap-word-spec =

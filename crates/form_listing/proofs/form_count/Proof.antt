@@ -34,6 +34,10 @@ same s = read-once (s .args .n) (s .fits .n)
 bounded : (s : tie.Start Inv-loop μ-loop) → natAbs (given s) ≤ 2 ^ 31
 bounded s = omega (arith, ap natAbs (same s), coefficient-magnitude (s .args .n) (i32-coefficient (s .args .n) (s .fits .n)))
 
+-- where the function starts, seen from its loop
+abbrev start : tie.At-loop Inv-loop μ-loop → tie.Start Inv-loop μ-loop
+start c = c .before .before .before
+
 canonical-requires : tie.Need-canonical-requires Inv-loop μ-loop
 canonical-requires c κs = search needs
 
@@ -42,51 +46,67 @@ start-requires c κs = search needs
 
 loop-holds : tie.Need-loop-holds Inv-loop μ-loop
 loop-holds c =
-    let s = c .before .before in
-    count-start (given s) (bounded s) (c .before .canonical .result) (c .before .canonical .ensures .masks) (c .start .result) (c .start .ensures)
+    let after-canonical = c .before in
+    let at-start = after-canonical .before in
+    count-start (given at-start) (bounded at-start) (after-canonical .canonical .result) (after-canonical .canonical .ensures .masks) (c .start .result) (c .start .ensures)
 
 skip-requires : tie.Need-skip-requires Inv-loop μ-loop
 skip-requires c κs =
-    let m = natAbs (given (c .before .before .before .before .before)) in
-    let o = c .before .before .loop in
-    skip-fits m (OnWay m) (itself m) (over-nought m) (over-digit m) (o .w) (o .inv) (c .if1 .taken)
+    let at-loop = c .before .before in
+    let at-start = at-loop .before .before .before in
+    let m = natAbs (given (at-start)) in
+    let loop = at-loop .loop in
+    skip-fits m (OnWay m) (itself m) (over-nought m) (over-digit m) (loop .w) (loop .inv) (c .if1 .taken)
 
 next-requires : tie.Need-next-requires Inv-loop μ-loop
 next-requires c κs =
-    let m = natAbs (given (c .before .before .before .before .before .before)) in
-    let o = c .before .before .before .loop in
-    let k = c .skip in
-    next-fits m (OnWay m) (itself m) (over-nought m) (over-digit m) (k .result)
-    (at-link m (OnWay m) (itself m) (over-nought m) (over-digit m) (o .w) (o .inv) (c .before .if1 .taken) (k .result) (k .ensures))
+    let in-then-1 = c .before in
+    let at-loop = in-then-1 .before .before in
+    let at-start = at-loop .before .before .before in
+    let m = natAbs (given (at-start)) in
+    let loop = at-loop .loop in
+    let skip = c .skip in
+    next-fits m (OnWay m) (itself m) (over-nought m) (over-digit m) (skip .result)
+    (at-link m (OnWay m) (itself m) (over-nought m) (over-digit m) (loop .w) (loop .inv) (in-then-1 .if1 .taken) (skip .result) (skip .ensures))
 
 loop-less : tie.Need-loop-less Inv-loop μ-loop
 loop-less c =
-    let o = c .before .before .before .before .loop in
-    let k = c .before .skip in
-    fewer (o .w) (k .result) (c .next .result) (c .before .before .if1 .taken) (k .ensures) (c .next .ensures)
+    let after-skip = c .before in
+    let in-then-1 = after-skip .before in
+    let at-loop = in-then-1 .before .before in
+    let loop = at-loop .loop in
+    let skip = after-skip .skip in
+    fewer (loop .w) (skip .result) (c .next .result) (in-then-1 .if1 .taken) (skip .ensures) (c .next .ensures)
 
 loop-again : tie.Need-loop-again Inv-loop μ-loop
 loop-again c =
-    let m = natAbs (given (c .before .before .before .before .before .before .before)) in
-    let o = c .before .before .before .before .loop in
-    let k = c .before .skip in
-    counting-next m (k .result) (c .next .result)
-    (at-link m (OnWay m) (itself m) (over-nought m) (over-digit m) (o .w) (o .inv) (c .before .before .if1 .taken) (k .result) (k .ensures)) (c .next .ensures)
+    let after-skip = c .before in
+    let in-then-1 = after-skip .before in
+    let at-loop = in-then-1 .before .before in
+    let at-start = at-loop .before .before .before in
+    let m = natAbs (given (at-start)) in
+    let loop = at-loop .loop in
+    let skip = after-skip .skip in
+    counting-next m (skip .result) (c .next .result)
+    (at-link m (OnWay m) (itself m) (over-nought m) (over-digit m) (loop .w) (loop .inv) (in-then-1 .if1 .taken) (skip .result) (skip .ensures)) (c .next .ensures)
 
 counted : (c : tie.After-struct-known2 Inv-loop μ-loop) → c .before .before .before .loop .w .forms ≡ length (listing 32 (c .before .before .before .before .before .before .args .n))
 counted c =
-    let s = c .before .before .before .before .before .before in
-    let o = c .before .before .before .loop in
-    count-end (given s) (bounded s) (o .w) (o .inv) (c .before .if1 .left) ∙ ap (λ (z : ℤ). length (listing 32 z)) (same s)
+    let in-else-1 = c .before in
+    let at-loop = in-else-1 .before .before in
+    let at-start = at-loop .before .before .before in
+    let loop = at-loop .loop in
+    count-end (given at-start) (bounded at-start) (loop .w) (loop .inv) (in-else-1 .if1 .left) ∙ ap (λ (z : ℤ). length (listing 32 z)) (same at-start)
 
 returns : tie.Need-returns Inv-loop μ-loop
 returns c = record { number = counted c }
 
 cast-result : tie.Need-cast-result Inv-loop μ-loop
 cast-result c =
-    let s = c .before .before .before .before .before .before in
+    let at-loop = c .before .before .before in
+    let at-start = start at-loop in
     let e = counted c in
-    record { fits = omega (arith, e, at-most-1597 (s .args .n) (coefficient-magnitude (s .args .n) (i32-coefficient (s .args .n) (s .fits .n)))) }
+    record { fits = omega (arith, e, at-most-1597 (at-start .args .n) (coefficient-magnitude (at-start .args .n) (i32-coefficient (at-start .args .n) (at-start .fits .n)))) }
 
 pub form-count-spec : {M : Type 1} → statement M
 form-count-spec =

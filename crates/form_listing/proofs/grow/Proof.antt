@@ -15,40 +15,54 @@ abbrev μ-loop : tie.MeasureT-loop
 μ-loop table₀ at n offset i₀ table i = i
 
 loop-holds : tie.Need-loop-holds Inv-loop μ-loop
-loop-holds c = let s = c .before in (omega arith, refl, part-start (s .args .table .now) (s .args .at) (s .args .n) (s .args .offset))
+loop-holds c =
+    let at-start = c .before in
+    (omega arith, refl, part-start (at-start .args .table .now) (at-start .args .at) (at-start .args .n) (at-start .args .offset))
 
 sub-i : tie.Need-sub-i Inv-loop μ-loop
 sub-i c = omega arith
 
 mul-wrapping-add-u32 : tie.Need-mul-wrapping-add-u32 Inv-loop μ-loop
-mul-wrapping-add-u32 c = omega (arith, c .before .before .before .pre, c .before .before .before .good .0)
+mul-wrapping-add-u32 c =
+    let at-start = c .before .before .before in
+    omega (arith, at-start .pre, at-start .good .0)
 
 slice-read-wrapping-add-u32 : tie.Need-slice-read-wrapping-add-u32 Inv-loop μ-loop
-slice-read-wrapping-add-u32 c = omega (arith, c .before .before .before .before .pre)
+slice-read-wrapping-add-u32 c =
+    let at-start = c .before .before .before .before in
+    omega (arith, at-start .pre)
 
 wrapping-add-u32-requires : tie.Need-wrapping-add-u32-requires Inv-loop μ-loop
 wrapping-add-u32-requires c κs = tt
 
 add-table : tie.Need-add-table Inv-loop μ-loop
-add-table c = omega (arith, c .before .before .before .before .before .pre, c .before .before .before .before .before .good .0)
+add-table c =
+    let at-start = c .before .before .before .before .before in
+    omega (arith, at-start .pre, at-start .good .0)
 
 mul-table : tie.Need-mul-table Inv-loop μ-loop
-mul-table c = omega (arith, c .before .before .before .before .before .pre, c .before .before .before .before .before .good .0)
+mul-table c =
+    let at-start = c .before .before .before .before .before in
+    omega (arith, at-start .pre, at-start .good .0)
 
 slice-write-table : tie.Need-slice-write-table Inv-loop μ-loop
-slice-write-table c = omega (arith, c .before .before .before .before .before .pre)
+slice-write-table c =
+    let at-start = c .before .before .before .before .before in
+    omega (arith, at-start .pre)
 
 loop-less : tie.Need-loop-less Inv-loop μ-loop
 loop-less c = omega arith
 
 loop-again : tie.Need-loop-again Inv-loop μ-loop
 loop-again c =
-    let s = c .before .before .before .before .before in
-    let o = c .before .before .before .loop in (
+    let in-loop = c .before .before in
+    let at-loop = in-loop .before in
+    let at-start = at-loop .before .before in
+    let loop = at-loop .loop in (
       omega arith,
-      length-set (o .table) (s .args .at + (o .i - 1)) (c .wrapping-add-u32 .result) ∙ o .inv .1,
-      part-next (s .args .table .now) (s .args .at) (s .args .n) (s .args .offset) (s .pre) (o .table) (o .i) (c .wrapping-add-u32 .result)
-          (omega (arith, c .before .before .loop-test .taken)) (o .inv .0) (c .wrapping-add-u32 .ensures) (o .inv .2),
+      length-set (loop .table) (at-start .args .at + (loop .i - 1)) (c .wrapping-add-u32 .result) ∙ loop .inv .1,
+      part-next (at-start .args .table .now) (at-start .args .at) (at-start .args .n) (at-start .args .offset) (at-start .pre) (loop .table) (loop .i) (c .wrapping-add-u32 .result)
+          (omega (arith, in-loop .loop-test .taken)) (loop .inv .0) (c .wrapping-add-u32 .ensures) (loop .inv .2),
     )
 
 same-length : tie.Need-same-length Inv-loop μ-loop
@@ -56,9 +70,10 @@ same-length c = c .before .loop .inv .1
 
 returns : tie.Need-returns Inv-loop μ-loop
 returns c =
-    let s = c .before .before .before in
-    let o = c .before .loop in
-    part-end (s .args .table .now) (s .args .at) (s .args .n) (s .args .offset) (s .pre) (o .table) (o .i) (omega (arith, c .loop-test .left)) (o .inv .2)
+    let at-loop = c .before in
+    let at-start = at-loop .before .before in
+    let loop = at-loop .loop in
+    part-end (at-start .args .table .now) (at-start .args .at) (at-start .args .n) (at-start .args .offset) (at-start .pre) (loop .table) (loop .i) (omega (arith, c .loop-test .left)) (loop .inv .2)
 
 pub grow-spec : {M : Type 1} → statement M
 grow-spec =

@@ -48,29 +48,34 @@ bounded s = omega (arith, ap natAbs (same s), coefficient-magnitude (s .args .n)
 
 -- the tables with the canonical form in front
 abbrev plus-start : tie.After-canonical Inv-loop μ-loop → List ℕ
-plus-start c = set (c .before .before .before .args .plus .now) 0 (c .canonical .result .plus)
+plus-start c =
+    let at-start = c .before .before .before in
+    set (at-start .args .plus .now) 0 (c .canonical .result .plus)
 
 abbrev minus-start : tie.After-canonical Inv-loop μ-loop → List ℕ
-minus-start c = set (c .before .before .before .args .minus .now) 0 (c .canonical .result .minus)
+minus-start c =
+    let at-start = c .before .before .before in
+    set (at-start .args .minus .now) 0 (c .canonical .result .minus)
 
 are-ready : (c : tie.After-canonical Inv-loop μ-loop) → Ready (given (c .before .before .before)) (plus-start c) (minus-start c)
 are-ready c =
-    let s = c .before .before .before in
-    ready (given s) (bounded s) (c .canonical .result) (c .canonical .ensures .masks) (s .args .plus .now) (s .args .minus .now) (s .pre .0) (s .pre .1)
+    let at-start = c .before .before .before in
+    ready (given at-start) (bounded at-start) (c .canonical .result) (c .canonical .ensures .masks) (at-start .args .plus .now) (at-start .args .minus .now) (at-start .pre .0) (at-start .pre .1)
 
 returns : tie.Need-returns Inv-loop μ-loop
 returns c =
-    let k = c .before .before .before .before in
-    let s = k .before .before .before in
-    let o = c .before .before .loop in
-    let n = given s in
-    let e = list-end n (plus-start k) (minus-start k) (are-ready k) (o .plus) (o .minus) (o .walk) (o .inv (are-ready k)) (c .if1 .left) in (
-      e .0 ∙ ap (λ (z : ℤ). length (listing 32 z)) (same s),
+    let at-loop = c .before .before in
+    let after-canonical = at-loop .before .before in
+    let at-start = after-canonical .before .before .before in
+    let loop = at-loop .loop in
+    let n = given at-start in
+    let e = list-end n (plus-start after-canonical) (minus-start after-canonical) (are-ready after-canonical) (loop .plus) (loop .minus) (loop .walk) (loop .inv (are-ready after-canonical)) (c .if1 .left) in (
+      e .0 ∙ ap (λ (z : ℤ). length (listing 32 z)) (same at-start),
       (
-        e .1 ∙ ap (λ (t : List ℕ). map plusMask (listing 32 n) ++ t) (past-front n (bounded s) (s .args .plus .now) (k .canonical .result .plus))
-            ∙ ap (λ (z : ℤ). map plusMask (listing 32 z) ++ drop (length (listing 32 z)) (s .args .plus .now)) (same s),
-        e .2 ∙ ap (λ (t : List ℕ). map minusMask (listing 32 n) ++ t) (past-front n (bounded s) (s .args .minus .now) (k .canonical .result .minus))
-            ∙ ap (λ (z : ℤ). map minusMask (listing 32 z) ++ drop (length (listing 32 z)) (s .args .minus .now)) (same s),
+        e .1 ∙ ap (λ (t : List ℕ). map plusMask (listing 32 n) ++ t) (past-front n (bounded at-start) (at-start .args .plus .now) (after-canonical .canonical .result .plus))
+            ∙ ap (λ (z : ℤ). map plusMask (listing 32 z) ++ drop (length (listing 32 z)) (at-start .args .plus .now)) (same at-start),
+        e .2 ∙ ap (λ (t : List ℕ). map minusMask (listing 32 n) ++ t) (past-front n (bounded at-start) (at-start .args .minus .now) (after-canonical .canonical .result .minus))
+            ∙ ap (λ (z : ℤ). map minusMask (listing 32 z) ++ drop (length (listing 32 z)) (at-start .args .minus .now)) (same at-start),
       ),
     )
 
@@ -88,60 +93,85 @@ start-requires c κs = search needs
 
 loop-holds : tie.Need-loop-holds Inv-loop μ-loop
 loop-holds c R =
-    let k = c .before in
-    list-start (given (k .before .before .before)) (plus-start k) (minus-start k) R (k .canonical .result) (k .canonical .ensures .masks) (c .start .result) (c .start .ensures)
+    let after-canonical = c .before in
+    let at-start = after-canonical .before .before .before in
+    list-start (given (at-start)) (plus-start after-canonical) (minus-start after-canonical) R (after-canonical .canonical .result) (after-canonical .canonical .ensures .masks) (c .start .result) (c .start .ensures)
 
 skip-requires : tie.Need-skip-requires Inv-loop μ-loop
 skip-requires c κs =
-    let k = c .before .before .before .before in
-    let o = c .before .before .loop in
-    list-skip (given (k .before .before .before)) (plus-start k) (minus-start k) (are-ready k) (o .plus) (o .minus) (o .walk) (o .inv (are-ready k)) (c .if1 .taken)
+    let at-loop = c .before .before in
+    let after-canonical = at-loop .before .before in
+    let at-start = after-canonical .before .before .before in
+    let loop = at-loop .loop in
+    list-skip (given (at-start)) (plus-start after-canonical) (minus-start after-canonical) (are-ready after-canonical) (loop .plus) (loop .minus) (loop .walk) (loop .inv (are-ready after-canonical)) (c .if1 .taken)
 
 widen-requires : tie.Need-widen-requires Inv-loop μ-loop
 widen-requires c κs =
-    let k = c .before .before .before .before .before .before .before in
-    let o = c .before .before .before .before .before .loop in
-    let v = c .before .before .skip in
-    widen-fits (given (k .before .before .before)) (plus-start k) (minus-start k) (are-ready k) (o .plus) (o .minus) (v .result)
-    (list-link (given (k .before .before .before)) (plus-start k) (minus-start k) (are-ready k) (o .plus) (o .minus) (o .walk) (o .inv (are-ready k)) (c .before .before .before .if1 .taken) (v .result) (v .ensures))
+    let after-skip = c .before .before in
+    let in-then-1 = after-skip .before in
+    let at-loop = in-then-1 .before .before in
+    let after-canonical = at-loop .before .before in
+    let at-start = after-canonical .before .before .before in
+    let loop = at-loop .loop in
+    let skip = after-skip .skip in
+    widen-fits (given (at-start)) (plus-start after-canonical) (minus-start after-canonical) (are-ready after-canonical) (loop .plus) (loop .minus) (skip .result)
+    (list-link (given (at-start)) (plus-start after-canonical) (minus-start after-canonical) (are-ready after-canonical) (loop .plus) (loop .minus) (loop .walk) (loop .inv (are-ready after-canonical)) (in-then-1 .if1 .taken) (skip .result) (skip .ensures))
 
 next-requires : tie.Need-next-requires Inv-loop μ-loop
 next-requires c κs =
-    let k = c .before .before .before .before .before .before .before .before .before .before .before .before in
-    let o = c .before .before .before .before .before .before .before .before .before .before .loop in
-    let v = c .before .before .before .before .before .before .before .skip in
-    link-fits (given (k .before .before .before)) (plus-start k) (minus-start k) (are-ready k) (o .plus) (o .minus) (v .result)
-    (list-link (given (k .before .before .before)) (plus-start k) (minus-start k) (are-ready k) (o .plus) (o .minus) (o .walk) (o .inv (are-ready k)) (c .before .before .before .before .before .before .before .before .if1 .taken) (v .result) (v .ensures))
+    let after-widen-arg2 = c .before .before .before .before .before in
+    let after-skip = after-widen-arg2 .before .before in
+    let in-then-1 = after-skip .before in
+    let at-loop = in-then-1 .before .before in
+    let after-canonical = at-loop .before .before in
+    let at-start = after-canonical .before .before .before in
+    let loop = at-loop .loop in
+    let skip = after-skip .skip in
+    link-fits (given (at-start)) (plus-start after-canonical) (minus-start after-canonical) (are-ready after-canonical) (loop .plus) (loop .minus) (skip .result)
+    (list-link (given (at-start)) (plus-start after-canonical) (minus-start after-canonical) (are-ready after-canonical) (loop .plus) (loop .minus) (loop .walk) (loop .inv (are-ready after-canonical)) (in-then-1 .if1 .taken) (skip .result) (skip .ensures))
 
 loop-less : tie.Need-loop-less Inv-loop μ-loop
 loop-less c =
-    let o = c .before .before .before .before .before .before .before .before .before .before .before .loop in
-    let v = c .before .before .before .before .before .before .before .before .skip in
-    fewer (o .walk) (v .result) (c .next .result) (c .before .before .before .before .before .before .before .before .before .if1 .taken) (v .ensures) (c .next .ensures)
+    let after-widen = c .before .before .before .before .before in
+    let after-skip = after-widen .before .before .before in
+    let in-then-1 = after-skip .before in
+    let at-loop = in-then-1 .before .before in
+    let loop = at-loop .loop in
+    let skip = after-skip .skip in
+    fewer (loop .walk) (skip .result) (c .next .result) (in-then-1 .if1 .taken) (skip .ensures) (c .next .ensures)
 
 loop-again : tie.Need-loop-again Inv-loop μ-loop
 loop-again c R =
-    let k = c .before .before .before .before .before .before .before .before .before .before .before .before .before in
-    let o = c .before .before .before .before .before .before .before .before .before .before .before .loop in
-    let v = c .before .before .before .before .before .before .before .before .skip in
-    let x = c .before .before .before .before .before .widen in
-    list-next (given (k .before .before .before)) (plus-start k) (minus-start k) R (o .plus) (o .minus) (v .result)
-    (list-link (given (k .before .before .before)) (plus-start k) (minus-start k) R (o .plus) (o .minus) (o .walk) (o .inv R) (c .before .before .before .before .before .before .before .before .before .if1 .taken) (v .result) (v .ensures))
-    (c .next .result) (x .last .0) (x .last .1 .0) (c .next .ensures) (x .ensures .0) (x .ensures .1)
+    let after-widen = c .before .before .before .before .before in
+    let after-skip = after-widen .before .before .before in
+    let in-then-1 = after-skip .before in
+    let at-loop = in-then-1 .before .before in
+    let after-canonical = at-loop .before .before in
+    let at-start = after-canonical .before .before .before in
+    let loop = at-loop .loop in
+    let skip = after-skip .skip in
+    let widen = after-widen .widen in
+    list-next (given (at-start)) (plus-start after-canonical) (minus-start after-canonical) R (loop .plus) (loop .minus) (skip .result)
+    (list-link (given (at-start)) (plus-start after-canonical) (minus-start after-canonical) R (loop .plus) (loop .minus) (loop .walk) (loop .inv R) (in-then-1 .if1 .taken) (skip .result) (skip .ensures))
+    (c .next .result) (widen .last .0) (widen .last .1 .0) (c .next .ensures) (widen .ensures .0) (widen .ensures .1)
 
 same-length : tie.Need-same-length Inv-loop μ-loop
 same-length c =
-    let k = c .before .before .before .before in
-    let o = c .before .before .loop in
-    same-lengths (given (k .before .before .before)) (plus-start k) (minus-start k) (are-ready k) (o .plus) (o .minus) (o .walk) (o .inv (are-ready k)) .0
-    ∙ length-set (k .before .before .before .args .plus .now) 0 (k .canonical .result .plus)
+    let at-loop = c .before .before in
+    let after-canonical = at-loop .before .before in
+    let at-start = after-canonical .before .before .before in
+    let loop = at-loop .loop in
+    same-lengths (given (at-start)) (plus-start after-canonical) (minus-start after-canonical) (are-ready after-canonical) (loop .plus) (loop .minus) (loop .walk) (loop .inv (are-ready after-canonical)) .0
+    ∙ length-set (at-start .args .plus .now) 0 (after-canonical .canonical .result .plus)
 
 same-length-2 : tie.Need-same-length-2 Inv-loop μ-loop
 same-length-2 c =
-    let k = c .before .before .before .before in
-    let o = c .before .before .loop in
-    same-lengths (given (k .before .before .before)) (plus-start k) (minus-start k) (are-ready k) (o .plus) (o .minus) (o .walk) (o .inv (are-ready k)) .1
-    ∙ length-set (k .before .before .before .args .minus .now) 0 (k .canonical .result .minus)
+    let at-loop = c .before .before in
+    let after-canonical = at-loop .before .before in
+    let at-start = after-canonical .before .before .before in
+    let loop = at-loop .loop in
+    same-lengths (given (at-start)) (plus-start after-canonical) (minus-start after-canonical) (are-ready after-canonical) (loop .plus) (loop .minus) (loop .walk) (loop .inv (are-ready after-canonical)) .1
+    ∙ length-set (at-start .args .minus .now) 0 (after-canonical .canonical .result .minus)
 
 pub list-spec : {M : Type 1} → statement M
 list-spec =

@@ -20,21 +20,24 @@ use Rattle.form_listing.proofs.minimal_forms.Tie as tie
 
 returns : tie.Need-returns
 returns c =
-    let s = c .before .before .before in
-    let e = plus-short (s .args .n) (length (s .args .plus .now)) (length (s .args .minus .now)) (omega (arith, c .if1 .taken)) in
-    record { count = sym e; plus-table = untouched _ 3 0 _ (s .args .plus .now) e; minus-table = untouched _ 3 0 _ (s .args .minus .now) e }
+    let at-start = c .before .before .before in
+    let e = plus-short (at-start .args .n) (length (at-start .args .plus .now)) (length (at-start .args .minus .now)) (omega (arith, c .if1 .taken)) in
+    record { count = sym e; plus-table = untouched _ 3 0 _ (at-start .args .plus .now) e; minus-table = untouched _ 3 0 _ (at-start .args .minus .now) e }
 
 returns-2 : tie.Need-returns-2
 returns-2 c =
-    let s = c .before .before .before .before in
-    let e = minus-short (s .args .n) (length (s .args .plus .now)) (length (s .args .minus .now)) (omega (arith, c .before .if1 .left)) (omega (arith, c .if2 .taken)) in
-    record { count = sym e; plus-table = untouched _ 3 0 _ (s .args .plus .now) e; minus-table = untouched _ 3 0 _ (s .args .minus .now) e }
+    let in-else-1 = c .before in
+    let at-start = in-else-1 .before .before .before in
+    let e = minus-short (at-start .args .n) (length (at-start .args .plus .now)) (length (at-start .args .minus .now)) (omega (arith, in-else-1 .if1 .left)) (omega (arith, c .if2 .taken)) in
+    record { count = sym e; plus-table = untouched _ 3 0 _ (at-start .args .plus .now) e; minus-table = untouched _ 3 0 _ (at-start .args .minus .now) e }
 
 -- the number of forms, of n itself
 counted : (c : tie.After-slice-known4) → c .before .before .before .before .list .result ≡ length (listing 32 (c .before .before .before .before .before .before .before .before .before .before .before .args .n))
 counted c =
-    let s = c .before .before .before .before .before .before .before .before .before .before .before in
-    c .before .before .before .before .list .ensures .0 ∙ ap (λ (z : ℤ). length (listing 32 z)) (read-once (s .args .n) (s .fits .n))
+    let after-list = c .before .before .before .before in
+    let after-list-arg = after-list .before .before in
+    let at-start = after-list-arg .before .before .before .before .before in
+    after-list .list .ensures .0 ∙ ap (λ (z : ℤ). length (listing 32 z)) (read-once (at-start .args .n) (at-start .fits .n))
 
 -- a table that the lister leaves
 table : (s : tie.Start) (f : DigitString → ℕ) (t new : List ℕ) (z : ℤ) → z ≡ s .args .n → new ≡ map f (listing 32 z) ++ drop (length (listing 32 z)) t
@@ -43,17 +46,20 @@ table s f t new z e h = h ∙ ap (λ (i : ℤ). map f (listing 32 i) ++ drop (le
 
 returns-3 : tie.Need-returns-3
 returns-3 c =
-    let s = c .before .before .before .before .before .before .before .before .before .before .before in
-    let l = c .before .before .before .before .list in
-    let P = s .args .plus .now in
-    let M = s .args .minus .now in
-    let hp = c .before .before .before .before .before .before .before .before .if1 .left in
-    let hm = c .before .before .before .before .before .before .before .if2 .left in
-    let k = read-once (s .args .n) (s .fits .n) in
+    let after-list = c .before .before .before .before in
+    let in-else-2 = after-list .before .before .before in
+    let in-else-1 = in-else-2 .before in
+    let at-start = in-else-1 .before .before .before in
+    let list = after-list .list in
+    let plus = at-start .args .plus .now in
+    let minus = at-start .args .minus .now in
+    let if1-left = in-else-1 .if1 .left in
+    let if2-left = in-else-2 .if2 .left in
+    let k = read-once (at-start .args .n) (at-start .fits .n) in
     record {
-      count = answered (s .args .n) P M hp hm (l .result) (counted c);
-      plus-table = left (s .args .n) P M hp hm plusMask P (l .last .1 .0) (table s plusMask P (l .last .1 .0) _ k (l .ensures .1 .0));
-      minus-table = left (s .args .n) P M hp hm minusMask M (l .last .1 .1 .0) (table s minusMask M (l .last .1 .1 .0) _ k (l .ensures .1 .1));
+      count = answered (at-start .args .n) plus minus if1-left if2-left (list .result) (counted c);
+      plus-table = left (at-start .args .n) plus minus if1-left if2-left plusMask plus (list .last .1 .0) (table at-start plusMask plus (list .last .1 .0) _ k (list .ensures .1 .0));
+      minus-table = left (at-start .args .n) plus minus if1-left if2-left minusMask minus (list .last .1 .1 .0) (table at-start minusMask minus (list .last .1 .1 .0) _ k (list .ensures .1 .1));
     }
 
 list-requires : tie.Need-list-requires
@@ -61,9 +67,11 @@ list-requires c κs = search needs
 
 cast-t12 : tie.Need-cast-t12
 cast-t12 c =
-    let s = c .before .before .before .before .before .before .before .before .before .before .before in
+    let after-list-arg2 = c .before .before .before .before .before in
+    let after-list-arg = after-list-arg2 .before in
+    let at-start = after-list-arg .before .before .before .before .before in
     let e = counted c in
-    record { fits = omega (arith, e, at-most-1597 (s .args .n) (coefficient-magnitude (s .args .n) (i32-coefficient (s .args .n) (s .fits .n)))) }
+    record { fits = omega (arith, e, at-most-1597 (at-start .args .n) (coefficient-magnitude (at-start .args .n) (i32-coefficient (at-start .args .n) (at-start .fits .n)))) }
 
 same-length : tie.Need-same-length
 same-length c = search needs

@@ -31,12 +31,15 @@ same-length-2 c = search needs
 
 returns : tie.Need-returns
 returns c =
-    let s = c .before .before .before .before .before .before .before .before .before .before .before .before in
-    let w = s .args .w in
-    let o = c .before .before .before .before .before .before .before .before .wrapping-sub-u32 in
-    let k = offset-is (o .result) (w .bit / 4) (omega (arith, o .ok)) (omega (arith, s .pre .2)) (o .ensures) in (
-      c .before .before .before .before .before .before .grow .ensures ∙ ap (grown (s .args .plus .now) (w .forms) (w .moved)) k,
-      c .before .before .grow2 .ensures ∙ ap (grown (s .args .minus .now) (w .forms) (w .moved)) k,
+    let after-grow2 = c .before .before in
+    let after-grow = after-grow2 .before .before .before .before in
+    let after-wrapping-sub-u32 = after-grow .before .before in
+    let at-start = after-wrapping-sub-u32 .before .before .before .before in
+    let w = at-start .args .w in
+    let wrapping-sub-u32 = after-wrapping-sub-u32 .wrapping-sub-u32 in
+    let k = offset-is (wrapping-sub-u32 .result) (w .bit / 4) (omega (arith, wrapping-sub-u32 .ok)) (omega (arith, at-start .pre .2)) (wrapping-sub-u32 .ensures) in (
+      after-grow .grow .ensures ∙ ap (grown (at-start .args .plus .now) (w .forms) (w .moved)) k,
+      after-grow2 .grow2 .ensures ∙ ap (grown (at-start .args .minus .now) (w .forms) (w .moved)) k,
     )
 
 pub widen-spec : {M : Type 1} → statement M

@@ -37,18 +37,20 @@ cast-canonical-of c = search needs
 
 canonical-of-requires : tie.Need-canonical-of-requires
 canonical-of-requires c κs =
-    let s = c .before in
-    omega (arith, size c, coefficient-magnitude (s .args .n) (i32-coefficient (s .args .n) (s .fits .n)))
+    let at-start = c .before in
+    omega (arith, size c, coefficient-magnitude (at-start .args .n) (i32-coefficient (at-start .args .n) (at-start .fits .n)))
 
 returns : tie.Need-returns
 returns c =
-    let s = c .before .before .before in
-    record { masks = ap exchanged (form (c .before)) ∙ canonical-negative (s .args .n) (tested s _ (c .if1 .taken)) }
+    let after-canonical-of = c .before in
+    let at-start = after-canonical-of .before .before in
+    record { masks = ap exchanged (form (after-canonical-of)) ∙ canonical-negative (at-start .args .n) (tested at-start _ (c .if1 .taken)) }
 
 returns-2 : tie.Need-returns-2
 returns-2 c =
-    let s = c .before .before .before in
-    record { masks = form (c .before) ∙ canonical-not-negative (s .args .n) (tested s _ (c .if1 .left)) }
+    let after-canonical-of = c .before in
+    let at-start = after-canonical-of .before .before in
+    record { masks = form (after-canonical-of) ∙ canonical-not-negative (at-start .args .n) (tested at-start _ (c .if1 .left)) }
 
 pub canonical-spec : {M : Type 1} → statement M
 canonical-spec =

@@ -15,16 +15,25 @@ loop-holds : tie.Need-loop-holds Inv-loop μ-loop
 loop-holds c = scan-start 32 (c .args .x) (c .pre) (c .fits .x .fits)
 
 add-place : tie.Need-add-place Inv-loop μ-loop
-add-place c = let o = c .before .loop in omega (arith, scan-room 32 (c .before .before .args .x) (o .rest) (o .place) (o .inv))
+add-place c =
+    let at-loop = c .before in
+    let at-start = at-loop .before in
+    let loop = at-loop .loop in omega (arith, scan-room 32 (at-start .args .x) (loop .rest) (loop .place) (loop .inv))
 
 loop-less : tie.Need-loop-less Inv-loop μ-loop
 loop-less c = let o = c .before .loop in omega (arith, o .inv .some)
 
 loop-again : tie.Need-loop-again Inv-loop μ-loop
-loop-again c = let o = c .before .loop in scan-next 32 (c .before .before .args .x) (o .rest) (o .place) (o .inv) (c .loop-test .taken)
+loop-again c =
+    let at-loop = c .before in
+    let at-start = at-loop .before in
+    let loop = at-loop .loop in scan-next 32 (at-start .args .x) (loop .rest) (loop .place) (loop .inv) (c .loop-test .taken)
 
 returns : tie.Need-returns Inv-loop μ-loop
-returns c = let o = c .before .loop in scan-end 32 (c .before .before .args .x) (o .rest) (o .place) (o .inv) (c .loop-test .left)
+returns c =
+    let at-loop = c .before in
+    let at-start = at-loop .before in
+    let loop = at-loop .loop in scan-end 32 (at-start .args .x) (loop .rest) (loop .place) (loop .inv) (c .loop-test .left)
 
 pub lowest-one-spec : {M : Type 1} → statement M
 lowest-one-spec =

@@ -61,7 +61,9 @@ add-result-3 c = search needs
 
 returns : tie.Need-returns
 returns c =
-    let x = c .before .before .before .before .before .before .before .before .args .x in
+    let after-byte-ones2 = c .before .before .before .before .before in
+    let at-start = after-byte-ones2 .before .before .before in
+    let x = at-start .args .x in
     let e2 : x / 256 / 256 ≡ x / 65536 = omega arith in
     let e3 : x / 65536 / 256 ≡ x / 2 ^ 24 = omega arith in
     omega (arith, low-byte x, low-byte (x / 256), low-byte (x / 65536), ap ones e2, ap ones e3)

@@ -35,7 +35,8 @@ lowest-one-requires c κs = search needs
 returns : tie.Need-returns
 unfolding valueOf
 returns c =
-    let form = c .before .before .before .args .form in
+    let at-start = c .before .before .before in
+    let form = at-start .args .form in
     record { valued = overlapping (form .plus) (form .minus) (given (value (stringOf form))) (c .lowest-one .result) (c .lowest-one .ensures) }
 
 cast-t6 : tie.Need-cast-t6
@@ -47,19 +48,22 @@ cast-t7 c = search needs
 returns-2 : tie.Need-returns-2
 unfolding valueOf
 returns-2 c =
-    let form = c .before .before .before .before .args .form in
+    let in-else-1 = c .before .before in
+    let at-start = in-else-1 .before .before in
+    let form = at-start .args .form in
     let hx : form .plus < 2 ^ 32 = omega arith in
     let hy : form .minus < 2 ^ 32 = omega arith in
-    let z = c .before .before .if1 .left in
+    let if1-left = in-else-1 .if1 .left in
     record {
       valued =
-          ap given (toZ-ofZ w64 _ (fits form hx hy) ∙ difference (form .plus) (form .minus) hx hy ∙ sym (string-value form hx hy z))
-          ∙ disjoint (form .plus) (form .minus) (given (value (stringOf form))) z;
+          ap given (toZ-ofZ w64 _ (fits form hx hy) ∙ difference (form .plus) (form .minus) hx hy ∙ sym (string-value form hx hy if1-left))
+          ∙ disjoint (form .plus) (form .minus) (given (value (stringOf form))) if1-left;
     }
 
 sub-t8 : tie.Need-sub-t8
 sub-t8 c =
-    let form = c .before .before .before .before .args .form in
+    let at-start = c .before .before .before .before in
+    let form = at-start .args .form in
     let hx : form .plus < 2 ^ 32 = omega arith in
     let hy : form .minus < 2 ^ 32 = omega arith in
     fits form hx hy

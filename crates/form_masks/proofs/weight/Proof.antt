@@ -19,7 +19,8 @@ lowest-one-requires c κs = search needs
 returns : tie.Need-returns
 unfolding weightOf
 returns c =
-    let form = c .before .before .before .args .form in
+    let at-start = c .before .before .before in
+    let form = at-start .args .form in
     record { weighed = overlapping (form .plus) (form .minus) (given (weight (stringOf form))) (c .lowest-one .result) (c .lowest-one .ensures) }
 
 ones-requires : tie.Need-ones-requires
@@ -30,19 +31,24 @@ ones-requires-2 c κs = search needs
 
 add-t8 : tie.Need-add-t8
 add-t8 c =
-    let form = c .before .before .before .before .args .form in
+    let after-ones = c .before in
+    let at-start = after-ones .before .before .before in
+    let form = at-start .args .form in
     let x = ones-le 32 (form .plus) (omega arith) in
     let y = ones-le 32 (form .minus) (omega arith) in
-    record { fits = omega (arith, c .before .ones .ensures, c .ones2 .ensures) }
+    record { fits = omega (arith, after-ones .ones .ensures, c .ones2 .ensures) }
 
 returns-2 : tie.Need-returns-2
 unfolding weightOf
 returns-2 c =
-    let form = c .before .before .before .before .args .form in
-    let z : bitAnd (form .plus) (form .minus) ≡ 0 = omega (arith, c .before .before .if1 .left) in
+    let after-ones = c .before in
+    let in-else-1 = after-ones .before in
+    let at-start = in-else-1 .before .before in
+    let form = at-start .args .form in
+    let z : bitAnd (form .plus) (form .minus) ≡ 0 = omega (arith, in-else-1 .if1 .left) in
     record {
       weighed =
-          ap given (ap₂ (λ (x y : ℕ). x + y) (c .before .ones .ensures) (c .ones2 .ensures) ∙ sym (string-weight form (omega arith) (omega arith) z))
+          ap given (ap₂ (λ (x y : ℕ). x + y) (after-ones .ones .ensures) (c .ones2 .ensures) ∙ sym (string-weight form (omega arith) (omega arith) z))
           ∙ disjoint (form .plus) (form .minus) (given (weight (stringOf form))) z;
     }
 

@@ -26,13 +26,19 @@ mul-t9 : tie.Need-mul-t9
 mul-t9 c = search needs
 
 cast-t10 : tie.Need-cast-t10
-cast-t10 c = omega (arith, small c (c .before .before .before .before .before .before .before .before .before .args .form) refl)
+cast-t10 c =
+    let at-start = c .before .before .before .before .before .before .before .before .before in
+    omega (arith, small c (at-start .args .form) refl)
 
 mul-t11 : tie.Need-mul-t11
-mul-t11 c = omega (arith, small c (c .before .before .before .before .before .before .before .before .before .args .form) refl)
+mul-t11 c =
+    let at-start = c .before .before .before .before .before .before .before .before .before in
+    omega (arith, small c (at-start .args .form) refl)
 
 returns : tie.Need-returns
-returns c = start-is (c .before .before .before .before .before .before .before .before .before .args .form) (c .taken .result) (c .taken .ensures)
+returns c =
+    let at-start = c .before .before .before .before .before .before .before .before .before in
+    start-is (at-start .args .form) (c .taken .result) (c .taken .ensures)
 
 pub start-spec : {M : Type 1} → statement M
 start-spec = tie.close (tie.spec taken-requires cast-t8 mul-t9 cast-t10 mul-t11 returns)

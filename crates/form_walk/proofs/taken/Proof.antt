@@ -19,10 +19,13 @@ ahead-requires-4 c κs = search needs
 
 returns : tie.Need-returns
 returns c =
-    let s = c .before .before .before .before in
-    taken-is (s .args .opposite) (s .args .equal) (omega (arith, s .fits .opposite)) (omega (arith, s .fits .equal))
-    (c .before .before .before .ahead .result) (c .before .before .ahead2 .result) (c .before .ahead3 .result) (c .ahead4 .result)
-    (c .before .before .before .ahead .ensures) (c .before .before .ahead2 .ensures) (c .before .ahead3 .ensures) (c .ahead4 .ensures)
+    let after-ahead3 = c .before in
+    let after-ahead2 = after-ahead3 .before in
+    let after-ahead = after-ahead2 .before in
+    let at-start = after-ahead .before in
+    taken-is (at-start .args .opposite) (at-start .args .equal) (omega (arith, at-start .fits .opposite)) (omega (arith, at-start .fits .equal))
+    (after-ahead .ahead .result) (after-ahead2 .ahead2 .result) (after-ahead3 .ahead3 .result) (c .ahead4 .result)
+    (after-ahead .ahead .ensures) (after-ahead2 .ahead2 .ensures) (after-ahead3 .ahead3 .ensures) (c .ahead4 .ensures)
 
 pub taken-spec : {M : Type 1} → statement M
 taken-spec =

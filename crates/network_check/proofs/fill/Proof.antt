@@ -36,8 +36,9 @@ abbrev μ-loop : tie.MeasureT-loop
 
 loop-holds : tie.Need-loop-holds Inv-loop μ-loop
 loop-holds c =
-    let a = c .before .before .args in
-    (search needs, refl, sym (front-start (at (a .rows .now) (a .n) (a .taps .now) (a .m)) (a .buffer .now)))
+    let at-start = c .before .before in
+    let args = at-start .args in
+    (search needs, refl, sym (front-start (at (args .rows .now) (args .n) (args .taps .now) (args .m)) (args .buffer .now)))
 
 tap-product-requires : tie.Need-tap-product-requires Inv-loop μ-loop
 tap-product-requires c κs = search needs

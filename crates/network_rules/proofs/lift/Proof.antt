@@ -16,12 +16,13 @@ shl-result c = search needs
 
 returns : tie.Need-returns
 returns c =
-    let s = c .before .args .s in
-    let v = c .before .args .value in
-    let e : (c .wide .result * 2 ^ s) % 2 ^ 64 ≡ v * 2 ^ s =
-    ap (λ (n : ℕ). (n * 2 ^ s) % 2 ^ 64) (c .wide .ensures) ∙ shl-exact 32 s 64 (c .before .fits .value .fits) (omega arith) in
-    let l : v * 2 ^ s < 9223372036854775808 = lt-of-lt-of-le (shl-lt 32 s (c .before .fits .value .fits)) (pow-mono {j = 63} (omega arith)) in
-    (e ∙ mul-comm v (2 ^ s), omega (arith, e, l))
+    let at-start = c .before in
+    let s = at-start .args .s in
+    let value = at-start .args .value in
+    let e : (c .wide .result * 2 ^ s) % 2 ^ 64 ≡ value * 2 ^ s =
+    ap (λ (n : ℕ). (n * 2 ^ s) % 2 ^ 64) (c .wide .ensures) ∙ shl-exact 32 s 64 (at-start .fits .value .fits) (omega arith) in
+    let l : value * 2 ^ s < 9223372036854775808 = lt-of-lt-of-le (shl-lt 32 s (at-start .fits .value .fits)) (pow-mono {j = 63} (omega arith)) in
+    (e ∙ mul-comm value (2 ^ s), omega (arith, e, l))
 
 pub lift-spec : {M : Type 1} → statement M
 lift-spec = tie.close (tie.spec wide-requires shl-result returns)

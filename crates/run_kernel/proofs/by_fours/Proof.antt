@@ -9,8 +9,8 @@ use Rattle.run_kernel.proofs.by_fours.Tie as tie
 
 fill-coefficients-requires : tie.Need-fill-coefficients-requires
 fill-coefficients-requires c κs =
-    let st = c .before .before in
-    ((st .pre .0 .0, st .pre .1 .1 .0), (search needs, λ k l. st .pre .1 .1 .1 k l .1))
+    let at-start = c .before .before in
+    ((at-start .pre .0 .0, at-start .pre .1 .1 .0), (search needs, λ k l. at-start .pre .1 .1 .1 k l .1))
 
 fill-offsets-requires : tie.Need-fill-offsets-requires
 fill-offsets-requires c κs = search needs
@@ -20,11 +20,11 @@ raise-requires c κs = search needs
 
 fours-requires : tie.Need-fours-requires
 fours-requires c κs =
-    let ra = c .before .before .before .before in
-    let le = ra .before .before .before .before in
-    let oa = le .before .before .before in
-    let st = oa .before .before .before in
-    ((st .pre .1 .1 .0, ra .raise .ensures .0), (st .pre .0 .1 .1, (oa .fill-coefficients .ensures .0, le .fill-offsets .ensures)))
+    let after-raise = c .before .before .before .before in
+    let after-fill-offsets = after-raise .before .before .before .before in
+    let after-fill-coefficients = after-fill-offsets .before .before .before in
+    let at-start = after-fill-coefficients .before .before .before in
+    ((at-start .pre .1 .1 .0, after-raise .raise .ensures .0), (at-start .pre .0 .1 .1, (after-fill-coefficients .fill-coefficients .ensures .0, after-fill-offsets .fill-offsets .ensures)))
 
 lower-requires : tie.Need-lower-requires
 lower-requires c κs = search needs
@@ -37,16 +37,17 @@ same-length-2 c = search needs
 
 returns : tie.Need-returns
 returns c =
-    let lo = c .before .before in
-    let fo = lo .before .before .before .before .before in
-    let ra = fo .before .before .before .before .before in
-    let oa = ra .before .before .before .before .before .before .before in
-    let st = oa .before .before .before in
-    let a = st .args in
-    let r = a .registers .now in
-    let zero-from = subst (λ g. ZeroFrom (a .w) g r) (sym (oa .fill-coefficients .ensures .1 .0)) (st .pre .1 .1 .1) in
-    let p = passed-same (oa .fill-coefficients .ensures .1 .0) (fo .fours .ensures r (st .pre .0 .1 .0) zero-from (ra .raise .ensures .1)) in
-    let e = lowered-to (st .pre .0 .0) (st .pre .0 .1 .0) (st .pre .1 .1 .0) (omega (arith, st .pre .1 .0)) (st .pre .1 .1 .1) p _ (lo .lower .ensures) in
+    let after-lower = c .before .before in
+    let after-fours = after-lower .before .before .before .before .before in
+    let after-raise = after-fours .before .before .before .before .before in
+    let after-offsets = after-raise .before .before .before .before .before in
+    let after-fill-coefficients = after-offsets .before .before in
+    let at-start = after-fill-coefficients .before .before .before in
+    let args = at-start .args in
+    let r = args .registers .now in
+    let zero-from = subst (λ g. ZeroFrom (args .w) g r) (sym (after-fill-coefficients .fill-coefficients .ensures .1 .0)) (at-start .pre .1 .1 .1) in
+    let p = passed-same (after-fill-coefficients .fill-coefficients .ensures .1 .0) (after-fours .fours .ensures r (at-start .pre .0 .1 .0) zero-from (after-raise .raise .ensures .1)) in
+    let e = lowered-to (at-start .pre .0 .0) (at-start .pre .0 .1 .0) (at-start .pre .1 .1 .0) (omega (arith, at-start .pre .1 .0)) (at-start .pre .1 .1 .1) p _ (after-lower .lower .ensures) in
     (passed-zero-from p e, (passed-registers p e, passed-outputs p e))
 
 pub by-fours-spec : {M : Type 1} → statement M

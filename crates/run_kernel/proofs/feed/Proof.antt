@@ -20,10 +20,12 @@ same-length-2 c = search needs
 
 returns : tie.Need-returns
 returns c =
-    let si = c .before .before .before .singly in
-    let st = c .before .before .before .before .before .before .before .before .before .before in
-    let a = st .args in
-    (si .ensures .0, si .ensures .1 ∙ all-outputs (a .h .now) (a .samples .now) (a .registers .now) (a .outputs .now) (st .pre .1 .1))
+    let after-singly = c .before .before .before in
+    let after-used-arg = after-singly .before .before .before .before .before in
+    let at-start = after-used-arg .before .before in
+    let singly = after-singly .singly in
+    let args = at-start .args in
+    (singly .ensures .0, singly .ensures .1 ∙ all-outputs (args .h .now) (args .samples .now) (args .registers .now) (args .outputs .now) (at-start .pre .1 .1))
 
 by-fours-requires : tie.Need-by-fours-requires
 by-fours-requires c κs = search needs
@@ -33,9 +35,10 @@ sub-singly c = search needs
 
 singly-requires-2 : tie.Need-singly-requires-2
 singly-requires-2 c κs =
-    let by = c .before .before .before .before .before in
-    let st = by .before .before .before .before .before .before .before in
-    ((st .pre .0, (search needs, (omega (arith, by .by-fours .kept, st .pre .1 .0), omega (arith, by .by-fours .kept, st .pre .1 .1)))), by .by-fours .ensures .0)
+    let after-by-fours = c .before .before .before .before .before in
+    let after-used-arg = after-by-fours .before .before .before .before .before in
+    let at-start = after-used-arg .before .before in
+    ((at-start .pre .0, (search needs, (omega (arith, after-by-fours .by-fours .kept, at-start .pre .1 .0), omega (arith, after-by-fours .by-fours .kept, at-start .pre .1 .1)))), after-by-fours .by-fours .ensures .0)
 
 same-length-3 : tie.Need-same-length-3
 same-length-3 c = search needs
@@ -45,12 +48,15 @@ same-length-4 c = search needs
 
 returns-2 : tie.Need-returns-2
 returns-2 c =
-    let si = c .before .before .before .singly2 in
-    let by = c .before .before .before .before .before .before .before .before .before in
-    let st = by .before .before .before .before .before .before .before in
-    let a = st .args in (
-      si .ensures .0 ∙ by .by-fours .ensures .1 .0,
-      si .ensures .1 ∙ by .by-fours .ensures .1 .1 ∙ all-outputs (a .h .now) (a .samples .now) (a .registers .now) (a .outputs .now) (st .pre .1 .1),
+    let after-singly2 = c .before .before .before in
+    let after-registers2 = after-singly2 .before .before .before .before .before in
+    let after-by-fours = after-registers2 .before in
+    let after-used-arg = after-by-fours .before .before .before .before .before in
+    let at-start = after-used-arg .before .before in
+    let singly2 = after-singly2 .singly2 in
+    let args = at-start .args in (
+      singly2 .ensures .0 ∙ after-by-fours .by-fours .ensures .1 .0,
+      singly2 .ensures .1 ∙ after-by-fours .by-fours .ensures .1 .1 ∙ all-outputs (args .h .now) (args .samples .now) (args .registers .now) (args .outputs .now) (at-start .pre .1 .1),
     )
 
 pub feed-spec : {M : Type 1} → statement M

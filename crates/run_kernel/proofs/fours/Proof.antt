@@ -30,12 +30,13 @@ sub-loop c = search needs
 
 of-four-requires : tie.Need-of-four-requires Inv-loop μ-loop
 of-four-requires c κs =
-    let at = c .before .before .before in
-    let st = at .before in (
-      (st .pre .0 .0, at .loop .inv .1 .0 .0),
+    let in-loop = c .before .before in
+    let at-loop = in-loop .before in
+    let at-start = at-loop .before in (
+      (at-start .pre .0 .0, at-loop .loop .inv .1 .0 .0),
       (
-        (omega (arith, at .loop .inv .0 .0, c .before .before .loop-test .taken), omega (arith, at .loop .inv .1 .0 .1, st .pre .1 .0)),
-        (st .pre .1 .1 .0, st .pre .1 .1 .1),
+        (omega (arith, at-loop .loop .inv .0 .0, in-loop .loop-test .taken), omega (arith, at-loop .loop .inv .1 .0 .1, at-start .pre .1 .0)),
+        (at-start .pre .1 .1 .0, at-start .pre .1 .1 .1),
       ),
     )
 
@@ -47,18 +48,19 @@ loop-less c = search needs
 
 loop-again : tie.Need-loop-again Inv-loop μ-loop
 loop-again c =
-    let of = c .before in
-    let at = of .before .before .before .before in
-    let st = at .before in
-    let a = st .args in
-    let i = at .loop .i in
-    let l : i + 4 ≤ length (a .samples .now) = omega (arith, at .loop .inv .0 .0, of .before .before .before .loop-test .taken) in (
-      (l, omega (arith, at .loop .inv .0 .1)),
+    let after-of-four = c .before in
+    let in-loop = after-of-four .before .before .before in
+    let at-loop = in-loop .before in
+    let at-start = at-loop .before in
+    let args = at-start .args in
+    let i = at-loop .loop .i in
+    let l : i + 4 ≤ length (args .samples .now) = omega (arith, at-loop .loop .inv .0 .0, in-loop .loop-test .taken) in (
+      (l, omega (arith, at-loop .loop .inv .0 .1)),
       (
-        (of .of-four .ensures .0, search needs),
+        (after-of-four .of-four .ensures .0, search needs),
         (λ r b q f.
-            passed-four (coefficientsIn (a .stored .now)) (omega (arith, length-in (a .stored .now))) (a .w) (a .offsets .now) r (a .samples .now) (a .outputs .now) i (at .loop .bias) _ (at .loop .words) _ (at .loop .outputs) _ l b
-            (of .of-four .ensures .1) (at .loop .inv .1 .1 r b q f)),
+            passed-four (coefficientsIn (args .stored .now)) (omega (arith, length-in (args .stored .now))) (args .w) (args .offsets .now) r (args .samples .now) (args .outputs .now) i (at-loop .loop .bias) _ (at-loop .loop .words) _ (at-loop .loop .outputs) _ l b
+            (after-of-four .of-four .ensures .1) (at-loop .loop .inv .1 .1 r b q f)),
       ),
     )
 
@@ -67,12 +69,13 @@ same-length c = search needs
 
 returns : tie.Need-returns Inv-loop μ-loop
 returns c =
-    let at = c .before in
-    let a = at .before .args in
-    let n = length (a .samples .now) in
-    let e : at .loop .i ≡ n - n % 4 = omega (arith, at .loop .inv .0 .0, at .loop .inv .0 .1, c .loop-test .left) in
+    let at-loop = c .before in
+    let at-start = at-loop .before in
+    let args = at-start .args in
+    let n = length (args .samples .now) in
+    let e : at-loop .loop .i ≡ n - n % 4 = omega (arith, at-loop .loop .inv .0 .0, at-loop .loop .inv .0 .1, c .loop-test .left) in
     λ r b q f.
-    subst (λ i. Passed (coefficientsIn (a .stored .now)) (a .w) (a .offsets .now) r (a .samples .now) (a .outputs .now) i (at .loop .bias) (at .loop .words) (at .loop .outputs)) e (at .loop .inv .1 .1 r b q f)
+    subst (λ i. Passed (coefficientsIn (args .stored .now)) (args .w) (args .offsets .now) r (args .samples .now) (args .outputs .now) i (at-loop .loop .bias) (at-loop .loop .words) (at-loop .loop .outputs)) e (at-loop .loop .inv .1 .1 r b q f)
 
 pub fours-spec : {M : Type 1} → statement M
 fours-spec =

@@ -56,18 +56,19 @@ loop-less c = search needs
 
 loop-again : tie.Need-loop-again Inv-loop μ-loop
 loop-again c =
-    let at = c .before .before .before .before in
-    let st = at .before .before in
-    let a = st .args in
-    let k = at .loop .k in
-    let l : k < a .w = c .before .before .before .loop-test .taken in
-    let n : k < length (a .registers .now) = omega (arith, l, st .pre .0, st .pre .1) in (
+    let in-loop = c .before .before .before in
+    let at-loop = in-loop .before in
+    let at-start = at-loop .before .before in
+    let args = at-start .args in
+    let k = at-loop .loop .k in
+    let l : k < args .w = in-loop .loop-test .taken in
+    let n : k < length (args .registers .now) = omega (arith, l, at-start .pre .0, at-start .pre .1) in (
       search needs,
       (
         (λ r f g.
-            let v : c .lowered .result ≡ held r k = raised-one (getD (a .offsets .now) (k + 5) 0) (a .bias) (c .lowered .result) (held r k) (omega arith) (f k) (c .lowered .ensures ∙ g .at k l) in
-            ap (λ q. set q k (c .lowered .result)) (at .loop .inv .1 .0 r f g) ∙ ap (set (front (held r) (a .registers .now) k) k) v ∙ front-next (held r) (a .registers .now) k 0 n),
-        simp length-set (at .loop .inv .1 .1),
+            let v : c .lowered .result ≡ held r k = raised-one (getD (args .offsets .now) (k + 5) 0) (args .bias) (c .lowered .result) (held r k) (omega arith) (f k) (c .lowered .ensures ∙ g .at k l) in
+            ap (λ q. set q k (c .lowered .result)) (at-loop .loop .inv .1 .0 r f g) ∙ ap (set (front (held r) (args .registers .now) k) k) v ∙ front-next (held r) (args .registers .now) k 0 n),
+        simp length-set (at-loop .loop .inv .1 .1),
       ),
     )
 
@@ -76,10 +77,11 @@ same-length c = search needs
 
 returns : tie.Need-returns Inv-loop μ-loop
 returns c =
-    let at = c .before in
-    let a = at .before .before .args in
-    let e : at .loop .k ≡ a .w = omega (arith, at .loop .inv .0, c .loop-test .left) in
-    λ r f g. at .loop .inv .1 .0 r f g ∙ ap (front (held r) (a .registers .now)) e
+    let at-loop = c .before in
+    let at-start = at-loop .before .before in
+    let args = at-start .args in
+    let e : at-loop .loop .k ≡ args .w = omega (arith, at-loop .loop .inv .0, c .loop-test .left) in
+    λ r f g. at-loop .loop .inv .1 .0 r f g ∙ ap (front (held r) (args .registers .now)) e
 
 pub lower-spec : {M : Type 1} → statement M
 lower-spec =

@@ -53,30 +53,31 @@ loop-less c = search needs
 
 loop-again : tie.Need-loop-again Inv-loop μ-loop
 loop-again c =
-    let at = c .before .before .before .before in
-    let st = at .before .before in
-    let a = st .args in
-    let k = at .loop .k in
-    let f : ℕ → ℕ = λ i. raisedBy (getD (a .offsets .now) (i + 5) 0) 0 (getD (a .registers .now) i 0) in
-    let n : k < length (a .words .now) = omega (arith, c .before .before .before .loop-test .taken, st .pre .0, st .pre .1 .1) in (
+    let in-loop = c .before .before .before in
+    let at-loop = in-loop .before in
+    let at-start = at-loop .before .before in
+    let args = at-start .args in
+    let k = at-loop .loop .k in
+    let f : ℕ → ℕ = λ i. raisedBy (getD (args .offsets .now) (i + 5) 0) 0 (getD (args .registers .now) i 0) in
+    let n : k < length (args .words .now) = omega (arith, in-loop .loop-test .taken, at-start .pre .0, at-start .pre .1 .1) in (
       search needs,
       (
-        ap (λ q. set q k (c .raised .result)) (at .loop .inv .1 .0) ∙ ap (set (front f (a .words .now) k) k) (c .raised .ensures) ∙ front-next f (a .words .now) k 0 n,
-        simp length-set (at .loop .inv .1 .1),
+        ap (λ q. set q k (c .raised .result)) (at-loop .loop .inv .1 .0) ∙ ap (set (front f (args .words .now) k) k) (c .raised .ensures) ∙ front-next f (args .words .now) k 0 n,
+        simp length-set (at-loop .loop .inv .1 .1),
       ),
     )
 
 returns : tie.Need-returns Inv-loop μ-loop
 returns c =
-    let at = c .before in
-    let st = at .before .before in
-    let a = st .args in
-    let e : at .loop .k ≡ a .w = omega (arith, at .loop .inv .0, c .loop-test .left) in (
-      at .loop .inv .1 .1,
+    let at-loop = c .before in
+    let at-start = at-loop .before .before in
+    let args = at-start .args in
+    let e : at-loop .loop .k ≡ args .w = omega (arith, at-loop .loop .inv .0, c .loop-test .left) in (
+      at-loop .loop .inv .1 .1,
       record {
-        at =
-            λ k l. ap (λ q. getD q k 0) (at .loop .inv .1 .0) ∙ front-done _ (a .words .now) (at .loop .k) k 0 (omega (arith, e, l))
-            ∙ ap (raisedBy (getD (a .offsets .now) (k + 5) 0) 0) (sym (held-low (a .registers .now) k (omega (arith, l, st .pre .0))));
+        at-loop =
+            λ k l. ap (λ q. getD q k 0) (at-loop .loop .inv .1 .0) ∙ front-done _ (args .words .now) (at-loop .loop .k) k 0 (omega (arith, e, l))
+            ∙ ap (raisedBy (getD (args .offsets .now) (k + 5) 0) 0) (sym (held-low (args .registers .now) k (omega (arith, l, at-start .pre .0))));
       },
     )
 

@@ -49,28 +49,30 @@ loop-less c = search needs
 
 loop-again : tie.Need-loop-again Inv-loop μ-loop
 loop-again c =
-    let at = c .before .before .before in
-    let st = at .before in
-    let a = st .args in
-    let r = a .words .now in
-    let k = at .loop .k in
-    let f : ℕ → ℕ = λ i. placed (a .stored .now) (a .y0) (a .y1) (a .y2) (a .y3) (i + 4) (getD r (i + 4) 0) in
-    let e : getD (at .loop .words) (k + 4) 0 ≡ getD r (k + 4) 0 = ap (λ q. getD q (k + 4) 0) (at .loop .inv .1 .0) ∙ front-read f r k 4 0 in
-    let v : c .place .result ≡ f k = c .place .ensures ∙ ap (placed (a .stored .now) (a .y0) (a .y1) (a .y2) (a .y3) (k + 4)) e in
-    let n : k < length r = omega (arith, c .before .before .loop-test .taken, st .pre .0, st .pre .1) in (
+    let in-loop = c .before .before in
+    let at-loop = in-loop .before in
+    let at-start = at-loop .before in
+    let args = at-start .args in
+    let r = args .words .now in
+    let k = at-loop .loop .k in
+    let f : ℕ → ℕ = λ i. placed (args .stored .now) (args .y0) (args .y1) (args .y2) (args .y3) (i + 4) (getD r (i + 4) 0) in
+    let e : getD (at-loop .loop .words) (k + 4) 0 ≡ getD r (k + 4) 0 = ap (λ q. getD q (k + 4) 0) (at-loop .loop .inv .1 .0) ∙ front-read f r k 4 0 in
+    let v : c .place .result ≡ f k = c .place .ensures ∙ ap (placed (args .stored .now) (args .y0) (args .y1) (args .y2) (args .y3) (k + 4)) e in
+    let n : k < length r = omega (arith, in-loop .loop-test .taken, at-start .pre .0, at-start .pre .1) in (
       search needs,
       (
-        ap (λ q. set q k (c .place .result)) (at .loop .inv .1 .0) ∙ ap (set (front f r k) k) v ∙ front-next f r k 0 n,
-        simp length-set (at .loop .inv .1 .1),
+        ap (λ q. set q k (c .place .result)) (at-loop .loop .inv .1 .0) ∙ ap (set (front f r k) k) v ∙ front-next f r k 0 n,
+        simp length-set (at-loop .loop .inv .1 .1),
       ),
     )
 
 returns : tie.Need-returns Inv-loop μ-loop
 returns c =
-    let at = c .before in
-    let a = at .before .args in
-    let e : at .loop .k ≡ a .n = omega (arith, at .loop .inv .0, c .loop-test .left) in
-    at .loop .inv .1 .0 ∙ ap (front (λ i. placed (a .stored .now) (a .y0) (a .y1) (a .y2) (a .y3) (i + 4) (getD (a .words .now) (i + 4) 0)) (a .words .now)) e
+    let at-loop = c .before in
+    let at-start = at-loop .before in
+    let args = at-start .args in
+    let e : at-loop .loop .k ≡ args .n = omega (arith, at-loop .loop .inv .0, c .loop-test .left) in
+    at-loop .loop .inv .1 .0 ∙ ap (front (λ i. placed (args .stored .now) (args .y0) (args .y1) (args .y2) (args .y3) (i + 4) (getD (args .words .now) (i + 4) 0)) (args .words .now)) e
 
 pub slide-spec : {M : Type 1} → statement M
 slide-spec =

@@ -35,19 +35,24 @@ start x = x .before .before .before .before .before
 -- the network has passed
 held : (c : tie.Then1) → Result (answer (start (c .before .before))) (buffer (c .before .before))
 held c =
-    let x = c .before .before in
-    result (answer (start x)) (buffer x) (ap isGiven (sym (x .examine .ensures .0)) ∙ sym (c .before .passes .ensures) ∙ c .if1 .taken) (x .examine .ensures .1)
+    let after-passes = c .before in
+    let after-examine = after-passes .before in
+    result (answer (start after-examine)) (buffer after-examine) (ap isGiven (sym (after-examine .examine .ensures .0)) ∙ sym (after-passes .passes .ensures) ∙ c .if1 .taken) (after-examine .examine .ensures .1)
 
 accepted : (c : tie.Then1)
     → let a = start (c .before .before) .args in
     Accepted (ltb (length (a .registers .now)) 256 || ltb (length (a .outputs .now)) (length (a .samples .now))) (a .rows .now) (a .row-count) (a .taps .now) (a .tap-count) (held c .h)
 accepted c =
-    let a = start (c .before .before) .args in
+    let after-h = c .before .before .before in
+    let at-start = after-h .before .before .before .before in
+    let a = at-start .args in
     given-accepted (ltb (length (a .registers .now)) 256 || ltb (length (a .outputs .now)) (length (a .samples .now))) (a .rows .now) (a .row-count) (a .taps .now) (a .tap-count) (held c .h) (held c .given-h)
 
 length-buffer : (c : tie.Then1) → length (buffer (c .before .before)) ≡ 256
 length-buffer c =
-    let a = start (c .before .before) .args in
+    let after-h = c .before .before .before in
+    let at-start = after-h .before .before .before .before in
+    let a = at-start .args in
     ap length (held c .held)
     ∙ length-padded (held c .h) (le-trans (le-of-eq (ap length (accepted c .passed .result) ∙ length-coefficients (a .rows .now) (a .row-count) (a .taps .now) (a .tap-count))) (accepted c .taps-to))
 
@@ -59,10 +64,12 @@ passes-requires c κs = search needs
 
 feed-requires : tie.Need-feed-requires
 feed-requires c κs =
-    let t = c .before .before .before in
-    let a = start (t .before .before) .args in
-    let long = neither (ltb (length (a .registers .now)) 256) (ltb (length (a .outputs .now)) (length (a .samples .now))) (accepted t .others-long) in
-    (length-buffer t, (ltb-false (length (a .registers .now)) 256 (long .0), ltb-false (length (a .outputs .now)) (length (a .samples .now)) (long .1)))
+    let in-then-1 = c .before .before .before in
+    let after-h = in-then-1 .before .before .before in
+    let at-start = after-h .before .before .before .before in
+    let a = at-start .args in
+    let long = neither (ltb (length (a .registers .now)) 256) (ltb (length (a .outputs .now)) (length (a .samples .now))) (accepted in-then-1 .others-long) in
+    (length-buffer in-then-1, (ltb-false (length (a .registers .now)) 256 (long .0), ltb-false (length (a .outputs .now)) (length (a .samples .now)) (long .1)))
 
 same-length : tie.Need-same-length
 same-length c = search needs
@@ -72,25 +79,29 @@ same-length-2 c = search needs
 
 returns : tie.Need-returns
 returns c =
-    let fe = c .before .before .before .feed in
-    let t = c .before .before .before .before .before .before .before in
-    let x = t .before .before in
-    let a = start x .args in
+    let after-feed = c .before .before .before in
+    let in-then-1 = after-feed .before .before .before .before in
+    let after-examine = in-then-1 .before .before in
+    let at-start = after-examine .before .before .before .before .before in
+    let feed = after-feed .feed in
+    let a = at-start .args in
     record {
-      answer = x .examine .ensures .0;
-      registers = fe .ensures .0 ∙ moved (answer (start x)) (held t .h) (buffer x) (held t .given-h) (held t .held) (a .registers .now) (a .samples .now);
-      outputs = fe .ensures .1 ∙ written (answer (start x)) (held t .h) (buffer x) (held t .given-h) (held t .held) (a .registers .now) (a .samples .now) (a .outputs .now);
+      answer = after-examine .examine .ensures .0;
+      registers = feed .ensures .0 ∙ moved (answer (start after-examine)) (held in-then-1 .h) (buffer after-examine) (held in-then-1 .given-h) (held in-then-1 .held) (a .registers .now) (a .samples .now);
+      outputs = feed .ensures .1 ∙ written (answer (start after-examine)) (held in-then-1 .h) (buffer after-examine) (held in-then-1 .given-h) (held in-then-1 .held) (a .registers .now) (a .samples .now) (a .outputs .now);
     }
 
 returns-2 : tie.Need-returns-2
 returns-2 c =
-    let x = c .before .before in
-    let a = start x .args in
-    let e = ap isGiven (sym (x .examine .ensures .0)) ∙ sym (c .before .passes .ensures) ∙ c .if1 .left in
+    let after-passes = c .before in
+    let after-examine = after-passes .before in
+    let at-start = after-examine .before .before .before .before .before in
+    let a = at-start .args in
+    let e = ap isGiven (sym (after-examine .examine .ensures .0)) ∙ sym (after-passes .passes .ensures) ∙ c .if1 .left in
     record {
-      answer = x .examine .ensures .0;
-      registers = kept-registers (answer (start x)) (a .registers .now) (a .samples .now) e;
-      outputs = kept-outputs (answer (start x)) (a .registers .now) (a .samples .now) (a .outputs .now) e;
+      answer = after-examine .examine .ensures .0;
+      registers = kept-registers (answer (start after-examine)) (a .registers .now) (a .samples .now) e;
+      outputs = kept-outputs (answer (start after-examine)) (a .registers .now) (a .samples .now) (a .outputs .now) e;
     }
 
 pub run-spec : {M : Type 1} → statement M

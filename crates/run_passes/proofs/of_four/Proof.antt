@@ -69,44 +69,53 @@ answer-requires : tie.Need-answer-requires
 answer-requires c κs = search needs
 
 slide-requires : tie.Need-slide-requires
-slide-requires c κs = (c .before .before .before .before .before .before .before .before .before .before .before .before .before .before .before .before .pre .0 .0, c .before .before .before .before .before .top .ensures .0)
+slide-requires c κs =
+    let after-top = c .before .before .before .before .before in
+    let after-offset-sample3 = after-top .before .before .before .before .before in
+    let after-offset-sample-arg = after-offset-sample3 .before .before .before .before .before in
+    let at-start = after-offset-sample-arg .before in
+    (at-start .pre .0 .0, after-top .top .ensures .0)
 
 same-length : tie.Need-same-length
 same-length c = search needs
 
 returns : tie.Need-returns
 returns c =
-    let an = c .before .before .before in
-    let to = an .before .before .before in
-    let ga = to .before .before in
-    let q3 = ga .before in
-    let q2 = q3 .before .before in
-    let q1 = q2 .before .before in
-    let q0 = q1 .before .before in
-    let st = q0 .before .before in
-    let a = st .args in
-    let t = a .stored .now in
-    let v = a .offsets .now in
+    let after-answer = c .before .before .before in
+    let after-top = after-answer .before .before .before in
+    let after-bias-after = after-top .before .before in
+    let after-offset-sample4 = after-bias-after .before in
+    let after-offset-sample-arg4 = after-offset-sample4 .before in
+    let after-offset-sample3 = after-offset-sample-arg4 .before in
+    let after-offset-sample-arg3 = after-offset-sample3 .before in
+    let after-offset-sample2 = after-offset-sample-arg3 .before in
+    let after-offset-sample-arg2 = after-offset-sample2 .before in
+    let after-offset-sample = after-offset-sample-arg2 .before in
+    let after-offset-sample-arg = after-offset-sample .before in
+    let at-start = after-offset-sample-arg .before in
+    let args = at-start .args in
+    let t = args .stored .now in
+    let v = args .offsets .now in
     let h = coefficientsIn t in
-    let w = a .w in
-    let xs = a .samples .now in
-    let i = a .i in
-    let y0 = q0 .offset-sample .result in
-    let y1 = q1 .offset-sample2 .result in
-    let y2 = q2 .offset-sample3 .result in
-    let y3 = q3 .offset-sample4 .result in
-    let e0 = q0 .offset-sample .ensures ∙ toZ-ofZ w16 (getD xs i (pos 0)) (record { sfits = q0 .before .offset-sample-arg .given }) in
-    let e1 = q1 .offset-sample2 .ensures ∙ toZ-ofZ w16 (getD xs (i + 1) (pos 0)) (record { sfits = q1 .before .offset-sample-arg2 .given }) in
-    let e2 = q2 .offset-sample3 .ensures ∙ toZ-ofZ w16 (getD xs (i + 2) (pos 0)) (record { sfits = q2 .before .offset-sample-arg3 .given }) in
-    let e3 = q3 .offset-sample4 .ensures ∙ toZ-ofZ w16 (getD xs (i + 3) (pos 0)) (record { sfits = q3 .before .offset-sample-arg4 .given }) in
-    let n : w ≤ length (to .top .last .1 .1 .1 .0) = omega (arith, st .pre .0 .0, to .top .ensures .0) in (
-      ap length (c .slide .ensures) ∙ front-length _ (to .top .last .1 .1 .1 .0) w n ∙ to .top .ensures .0,
+    let w = args .w in
+    let xs = args .samples .now in
+    let i = args .i in
+    let offset-sample-result = after-offset-sample .offset-sample .result in
+    let offset-sample2-result = after-offset-sample2 .offset-sample2 .result in
+    let offset-sample3-result = after-offset-sample3 .offset-sample3 .result in
+    let offset-sample4-result = after-offset-sample4 .offset-sample4 .result in
+    let e0 = after-offset-sample .offset-sample .ensures ∙ toZ-ofZ w16 (getD xs i (pos 0)) (record { sfits = after-offset-sample-arg .offset-sample-arg .given }) in
+    let e1 = after-offset-sample2 .offset-sample2 .ensures ∙ toZ-ofZ w16 (getD xs (i + 1) (pos 0)) (record { sfits = after-offset-sample-arg2 .offset-sample-arg2 .given }) in
+    let e2 = after-offset-sample3 .offset-sample3 .ensures ∙ toZ-ofZ w16 (getD xs (i + 2) (pos 0)) (record { sfits = after-offset-sample-arg3 .offset-sample-arg3 .given }) in
+    let e3 = after-offset-sample4 .offset-sample4 .ensures ∙ toZ-ofZ w16 (getD xs (i + 3) (pos 0)) (record { sfits = after-offset-sample-arg4 .offset-sample-arg4 .given }) in
+    let n : w ≤ length (after-top .top .last .1 .1 .1 .0) = omega (arith, at-start .pre .0 .0, after-top .top .ensures .0) in (
+      ap length (c .slide .ensures) ∙ front-length _ (after-top .top .last .1 .1 .1 .0) w n ∙ after-top .top .ensures .0,
       (λ r q f.
-          let high = to .top .ensures .1 r (λ k l. q k l .0) f in
-          let low : Raised 4 v (a .bias) r (to .top .last .1 .1 .1 .0) = record { at = λ k l. high .at k (omega (arith, l)) } in
-          let new = slide-raised t v (st .pre .1 .1 .1) y0 y1 y2 y3 (omega arith) (omega arith) (omega arith) (omega arith) (a .bias) (st .pre .1 .1 .0) w r (to .top .last .1 .1 .1 .0) _ (st .pre .0 .0) high (c .slide .ensures) in (
-            same-raised h r _ _ _ _ _ _ _ _ e0 e1 e2 e3 (ga .bias-after .ensures) new,
-            an .answer .ensures (a .bias) r (ga .bias-after .ensures) low ∙ same-outputs h r _ _ _ _ _ _ _ _ e0 e1 e2 e3 (a .outputs .now) i,
+          let high = after-top .top .ensures .1 r (λ k l. q k l .0) f in
+          let low : Raised 4 v (args .bias) r (after-top .top .last .1 .1 .1 .0) = record { at = λ k l. high .at k (omega (arith, l)) } in
+          let new = slide-raised t v (at-start .pre .1 .1 .1) offset-sample-result offset-sample2-result offset-sample3-result offset-sample4-result (omega arith) (omega arith) (omega arith) (omega arith) (args .bias) (at-start .pre .1 .1 .0) w r (after-top .top .last .1 .1 .1 .0) _ (at-start .pre .0 .0) high (c .slide .ensures) in (
+            same-raised h r _ _ _ _ _ _ _ _ e0 e1 e2 e3 (after-bias-after .bias-after .ensures) new,
+            after-answer .answer .ensures (args .bias) r (after-bias-after .bias-after .ensures) low ∙ same-outputs h r _ _ _ _ _ _ _ _ e0 e1 e2 e3 (args .outputs .now) i,
           )),
     )
 

@@ -41,20 +41,22 @@ signed-requires c κs = search needs
 
 returns : tie.Need-returns
 returns c =
-    let lo = c .before .lowered in
-    let pl = c .before .before .before .place in
-    let st = c .before .before .before .before .before in
-    let a = st .args in
-    let t = a .stored .now in
-    let v = a .offsets .now in
-    let j = a .j in
+    let after-lowered = c .before in
+    let after-place = after-lowered .before .before in
+    let at-start = after-place .before .before in
+    let lowered = after-lowered .lowered in
+    let place = after-place .place in
+    let args = at-start .args in
+    let t = args .stored .now in
+    let v = args .offsets .now in
+    let j = args .j in
     λ g r e f.
-    let s = fourSums (held r j) (coefficientIn (getD t (j + 4) 0)) (coefficientIn (getD t (j + 3) 0)) (coefficientIn (getD t (j + 2) 0)) (coefficientIn (getD t (j + 1) 0)) (sampleIn (a .y0)) (sampleIn (a .y1)) (sampleIn (a .y2)) (sampleIn (a .y3)) in
-    let p : pl .result ≡ raisedBy (getD v (j + 1) 0) (biasAfter g (a .y0) (a .y1) (a .y2) (a .y3)) s =
-    pl .ensures ∙ ap (placed t (a .y0) (a .y1) (a .y2) (a .y3) j) (f .at j (st .pre .0))
-    ∙ place-raised t v (st .pre .1) (a .y0) (a .y1) (a .y2) (a .y3) (omega arith) (omega arith) (omega arith) (omega arith) g j (held r j) (omega (arith, st .pre .0)) in
-    let q : raisedBy (getD v (j + 1) 0) (a .bias) (lo .result) ≡ raisedBy (getD v (j + 1) 0) (a .bias) s = lo .ensures ∙ p ∙ ap (λ n. raisedBy (getD v (j + 1) 0) n s) (sym e) in
-    toZ-ofZ w64 (c .signed .result) (record { sfits = c .signed .ok }) ∙ c .signed .ensures ∙ ap (toZ w64) (raised-one (getD v (j + 1) 0) (a .bias) (lo .result) s (omega arith) (four-word (held r j) _ _ _ _ _ _ _ _) q)
+    let s = fourSums (held r j) (coefficientIn (getD t (j + 4) 0)) (coefficientIn (getD t (j + 3) 0)) (coefficientIn (getD t (j + 2) 0)) (coefficientIn (getD t (j + 1) 0)) (sampleIn (args .y0)) (sampleIn (args .y1)) (sampleIn (args .y2)) (sampleIn (args .y3)) in
+    let p : place .result ≡ raisedBy (getD v (j + 1) 0) (biasAfter g (args .y0) (args .y1) (args .y2) (args .y3)) s =
+    place .ensures ∙ ap (placed t (args .y0) (args .y1) (args .y2) (args .y3) j) (f .at j (at-start .pre .0))
+    ∙ place-raised t v (at-start .pre .1) (args .y0) (args .y1) (args .y2) (args .y3) (omega arith) (omega arith) (omega arith) (omega arith) g j (held r j) (omega (arith, at-start .pre .0)) in
+    let q : raisedBy (getD v (j + 1) 0) (args .bias) (lowered .result) ≡ raisedBy (getD v (j + 1) 0) (args .bias) s = lowered .ensures ∙ p ∙ ap (λ n. raisedBy (getD v (j + 1) 0) n s) (sym e) in
+    toZ-ofZ w64 (c .signed .result) (record { sfits = c .signed .ok }) ∙ c .signed .ensures ∙ ap (toZ w64) (raised-one (getD v (j + 1) 0) (args .bias) (lowered .result) s (omega arith) (four-word (held r j) _ _ _ _ _ _ _ _) q)
 
 pub output-spec : {M : Type 1} → statement M
 output-spec =

@@ -50,24 +50,26 @@ loop-less c = search needs
 
 loop-again : tie.Need-loop-again Inv-loop μ-loop
 loop-again c =
-    let at = c .before .before .before in
-    let st = at .before in
-    let a = st .args in
-    let k = at .loop .k in
-    let l : k < length (at .loop .words) = omega (arith, c .before .before .loop-test .taken, st .pre .0, at .loop .inv .1 .1) in (
-      (omega (arith, at .loop .inv .0 .0), omega (arith, c .before .before .loop-test .taken)),
+    let in-loop = c .before .before in
+    let at-loop = in-loop .before in
+    let at-start = at-loop .before in
+    let args = at-start .args in
+    let k = at-loop .loop .k in
+    let l : k < length (at-loop .loop .words) = omega (arith, in-loop .loop-test .taken, at-start .pre .0, at-loop .loop .inv .1 .1) in (
+      (omega (arith, at-loop .loop .inv .0 .0), omega (arith, in-loop .loop-test .taken)),
       (
-        (λ r z f. raised-more (a .offsets .now) (a .bias) r (at .loop .words) k (c .raised .result) l (z k (at .loop .inv .0 .0)) (c .raised .ensures) (at .loop .inv .1 .0 r z f)),
-        simp length-set (at .loop .inv .1 .1),
+        (λ r z f. raised-more (args .offsets .now) (args .bias) r (at-loop .loop .words) k (c .raised .result) l (z k (at-loop .loop .inv .0 .0)) (c .raised .ensures) (at-loop .loop .inv .1 .0 r z f)),
+        simp length-set (at-loop .loop .inv .1 .1),
       ),
     )
 
 returns : tie.Need-returns Inv-loop μ-loop
 returns c =
-    let at = c .before in
-    let a = at .before .args in
-    let e : at .loop .k ≡ a .w + 4 = omega (arith, at .loop .inv .0, c .loop-test .left) in
-    (at .loop .inv .1 .1, λ r z f. subst (λ n. Raised n (a .offsets .now) (a .bias) r (at .loop .words)) e (at .loop .inv .1 .0 r z f))
+    let at-loop = c .before in
+    let at-start = at-loop .before in
+    let args = at-start .args in
+    let e : at-loop .loop .k ≡ args .w + 4 = omega (arith, at-loop .loop .inv .0, c .loop-test .left) in
+    (at-loop .loop .inv .1 .1, λ r z f. subst (λ n. Raised n (args .offsets .now) (args .bias) r (at-loop .loop .words)) e (at-loop .loop .inv .1 .0 r z f))
 
 pub top-spec : {M : Type 1} → statement M
 top-spec =

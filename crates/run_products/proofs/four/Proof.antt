@@ -31,14 +31,19 @@ wrapping-add-u64-requires c κs = search needs
 
 returns : tie.Need-returns
 returns c =
-    let a = c .before .before .before .before .before .args in
-    let q0 = c .before .before .before .before .part in
-    let q1 = c .before .before .before .part2 in
-    let q2 = c .before .before .part3 in
-    let q3 = c .before .part4 in
+    let after-part4 = c .before in
+    let after-part3 = after-part4 .before in
+    let after-part2 = after-part3 .before in
+    let after-part = after-part2 .before in
+    let at-start = after-part .before in
+    let args = at-start .args in
+    let part = after-part .part in
+    let part2 = after-part2 .part2 in
+    let part3 = after-part3 .part3 in
+    let part4 = after-part4 .part4 in
     c .wrapping-add-u64 .ensures
-    ∙ four-is (a .register) (a .c0) (a .c1) (a .c2) (a .c3) (a .y0) (a .y1) (a .y2) (a .y3) (q0 .result) (q1 .result) (q2 .result) (q3 .result)
-    (q0 .ensures .0) (q1 .ensures .0) (q2 .ensures .0) (q3 .ensures .0)
+    ∙ four-is (args .register) (args .c0) (args .c1) (args .c2) (args .c3) (args .y0) (args .y1) (args .y2) (args .y3) (part .result) (part2 .result) (part3 .result) (part4 .result)
+    (part .ensures .0) (part2 .ensures .0) (part3 .ensures .0) (part4 .ensures .0)
 
 pub four-spec : {M : Type 1} → statement M
 four-spec =

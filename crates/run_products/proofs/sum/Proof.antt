@@ -23,14 +23,16 @@ wrapping-add-u64-requires c κs = search needs
 
 returns : tie.Need-returns
 returns c =
-    let st = c .before .before .before in
-    let pr = c .before .before .product in
-    let z = st .args .c *ℤ st .args .x in
-    let p : c .before .pattern-64 .result ≡ ofZ w64 (pr .result) = c .before .pattern-64 .ensures ∙ ap (ofZ w64) (toZ-ofZ w64 (pr .result) (record { sfits = pr .ok })) in
-    let q : pr .result ≡ z =
-    simp (toZ-ofZ w32 (st .args .c) (st .fits .c), toZ-ofZ w16 (st .args .x) (st .fits .x)) at (pr .ensures) in
-    c .wrapping-add-u64 .ensures ∙ ap (λ n. (st .args .register + n) % 2 ^ 64) (p ∙ ap (ofZ w64) q)
-    ∙ wrapped-sum (st .args .register) z (omega arith) (product-fits (st .args .c) (st .args .x) (st .fits .c) (st .fits .x))
+    let after-pattern-64 = c .before in
+    let after-product = after-pattern-64 .before in
+    let at-start = after-product .before in
+    let product = after-product .product in
+    let z = at-start .args .c *ℤ at-start .args .x in
+    let p : after-pattern-64 .pattern-64 .result ≡ ofZ w64 (product .result) = after-pattern-64 .pattern-64 .ensures ∙ ap (ofZ w64) (toZ-ofZ w64 (product .result) (record { sfits = product .ok })) in
+    let q : product .result ≡ z =
+    simp (toZ-ofZ w32 (at-start .args .c) (at-start .fits .c), toZ-ofZ w16 (at-start .args .x) (at-start .fits .x)) at (product .ensures) in
+    c .wrapping-add-u64 .ensures ∙ ap (λ n. (at-start .args .register + n) % 2 ^ 64) (p ∙ ap (ofZ w64) q)
+    ∙ wrapped-sum (at-start .args .register) z (omega arith) (product-fits (at-start .args .c) (at-start .args .x) (at-start .fits .c) (at-start .fits .x))
 
 pub sum-spec : {M : Type 1} → statement M
 sum-spec = tie.close (tie.spec product-requires pattern-64-requires wrapping-add-u64-requires returns)

@@ -69,27 +69,30 @@ loop-less c = search needs
 
 loop-again : tie.Need-loop-again Inv-loop μ-loop
 loop-again c =
-    let at = c .before .before .before .before in
-    let st = at .before .before .before in
-    let a = st .args in
-    let r = a .registers .now in
-    let h = a .h .now in
-    let x = toZ w16 (ofZ w16 (a .x)) in
-    let k = at .loop .k in
+    let after-sum-arg = c .before in
+    let in-loop = after-sum-arg .before .before in
+    let at-loop = in-loop .before in
+    let after-least = at-loop .before in
+    let at-start = after-least .before .before in
+    let args = at-start .args in
+    let r = args .registers .now in
+    let h = args .h .now in
+    let x = toZ w16 (ofZ w16 (args .x)) in
+    let k = at-loop .loop .k in
     let f = held (next h x r) in
-    let l : k < at .before .least .result = c .before .before .before .loop-test .taken in
-    let m : k < 255 = omega (arith, l, at .before .least .ensures) in
-    let e : getD (at .loop .registers) (k + 1) 0 ≡ held r (k + 1) =
-    ap (λ q. getD q (k + 1) 0) (at .loop .inv .1 .0) ∙ front-read f r k 1 0 ∙ sym (held-low r (k + 1) (omega (arith, m))) in
-    let u : toZ w32 (ofZ w32 (getD h (k + 1) (pos 0))) ≡ getD h (k + 1) (pos 0) = toZ-ofZ w32 (getD h (k + 1) (pos 0)) (record { sfits = c .before .sum-arg .given }) in
+    let l : k < after-least .least .result = in-loop .loop-test .taken in
+    let m : k < 255 = omega (arith, l, after-least .least .ensures) in
+    let e : getD (at-loop .loop .registers) (k + 1) 0 ≡ held r (k + 1) =
+    ap (λ q. getD q (k + 1) 0) (at-loop .loop .inv .1 .0) ∙ front-read f r k 1 0 ∙ sym (held-low r (k + 1) (omega (arith, m))) in
+    let u : toZ w32 (ofZ w32 (getD h (k + 1) (pos 0))) ≡ getD h (k + 1) (pos 0) = toZ-ofZ w32 (getD h (k + 1) (pos 0)) (record { sfits = after-sum-arg .sum-arg .given }) in
     let v : c .sum .result ≡ f k =
     c .sum .ensures ∙ ap₂ (λ p q. wrapped (pos p +ℤ q *ℤ x)) e u ∙ ap (λ i. wrapped (pos (held r i) +ℤ getD h i (pos 0) *ℤ x)) (add-one k)
-    ∙ sym (held-next h (omega (arith, st .pre .0)) x r k) in
-    let n : k < length r = omega (arith, m, st .pre .1 .0) in (
+    ∙ sym (held-next h (omega (arith, at-start .pre .0)) x r k) in
+    let n : k < length r = omega (arith, m, at-start .pre .1 .0) in (
       omega (arith, l),
       (
-        ap (λ q. set q k (c .sum .result)) (at .loop .inv .1 .0) ∙ ap (set (front f r k) k) v ∙ front-next f r k 0 n,
-        simp length-set (at .loop .inv .1 .1),
+        ap (λ q. set q k (c .sum .result)) (at-loop .loop .inv .1 .0) ∙ ap (set (front f r k) k) v ∙ front-next f r k 0 n,
+        simp length-set (at-loop .loop .inv .1 .1),
       ),
     )
 
@@ -101,16 +104,17 @@ same-length c = search needs
 
 returns : tie.Need-returns Inv-loop μ-loop
 returns c =
-    let at = c .before in
-    let st = at .before .before .before in
-    let a = st .args in
-    let r = a .registers .now in
-    let h = a .h .now in
-    let x = toZ w16 (ofZ w16 (a .x)) in
+    let at-loop = c .before in
+    let after-least = at-loop .before in
+    let at-start = after-least .before .before in
+    let args = at-start .args in
+    let r = args .registers .now in
+    let h = args .h .now in
+    let x = toZ w16 (ofZ w16 (args .x)) in
     let f = held (next h x r) in
-    let e : at .loop .k ≡ min (a .w) 255 = omega (arith, at .loop .inv .0, c .loop-test .left, at .before .least .ensures) in
-    moved-one h (omega (arith, st .pre .0)) (a .w) x r (st .pre .1 .0) (st .pre .1 .1) (at .loop .registers) (at .loop .inv .1 .0 ∙ ap (front f r) e)
-    ∙ ap (λ y. next h y r) (toZ-ofZ w16 (a .x) (st .fits .x))
+    let e : at-loop .loop .k ≡ min (args .w) 255 = omega (arith, at-loop .loop .inv .0, c .loop-test .left, after-least .least .ensures) in
+    moved-one h (omega (arith, at-start .pre .0)) (args .w) x r (at-start .pre .1 .0) (at-start .pre .1 .1) (at-loop .loop .registers) (at-loop .loop .inv .1 .0 ∙ ap (front f r) e)
+    ∙ ap (λ y. next h y r) (toZ-ofZ w16 (args .x) (at-start .fits .x))
 
 pub move-one-spec : {M : Type 1} → statement M
 move-one-spec =

@@ -56,9 +56,10 @@ slice-set-from-outputs c = search needs
 
 move-one-requires : tie.Need-move-one-requires Inv-loop μ-loop
 move-one-requires c κs =
-    let at = c .before .before .before .before .before .before .before in
-    let st = at .before .before in
-    (st .pre .0 .0, (omega (arith, at .loop .inv .1 .0, st .pre .0 .1 .1 .0), at .loop .inv .0 .1))
+    let after-x = c .before .before .before .before .before in
+    let at-loop = after-x .before .before in
+    let at-start = at-loop .before .before in
+    (at-start .pre .0 .0, (omega (arith, at-loop .loop .inv .1 .0, at-start .pre .0 .1 .1 .0), at-loop .loop .inv .0 .1))
 
 add-i : tie.Need-add-i Inv-loop μ-loop
 add-i c = search needs
@@ -69,33 +70,36 @@ loop-less c = search needs
 loop-again : tie.Need-loop-again Inv-loop μ-loop
 unfolding sumAt
 loop-again c =
-    let mo = c .before .before in
-    let sg = mo .before .before in
-    let sm = sg .before in
-    let at = sm .before .before .before .before .before in
-    let st = at .before .before in
-    let a = st .args in
-    let h = a .h .now in
-    let xs = a .samples .now in
-    let r = at .loop .registers in
-    let i = at .loop .i in
+    let after-move-one = c .before .before in
+    let after-signed = after-move-one .before .before in
+    let after-sum = after-signed .before in
+    let after-sum-arg = after-sum .before in
+    let after-x = after-sum-arg .before .before in
+    let in-loop = after-x .before in
+    let at-loop = in-loop .before in
+    let at-start = at-loop .before .before in
+    let args = at-start .args in
+    let h = args .h .now in
+    let xs = args .samples .now in
+    let r = at-loop .loop .registers in
+    let i = at-loop .loop .i in
     let x = getD xs i (pos 0) in
-    let u : toZ w16 (ofZ w16 x) ≡ x = toZ-ofZ w16 x (record { sfits = sm .before .before .before .x .given }) in
-    let v : toZ w32 (ofZ w32 (getD h 0 (pos 0))) ≡ getD h 0 (pos 0) = toZ-ofZ w32 (getD h 0 (pos 0)) (record { sfits = sm .before .sum-arg .given }) in
-    let s : sm .sum .result ≡ sumAt h x r 0 = sm .sum .ensures ∙ ap₂ (λ p q. wrapped (pos (getD r 0 0) +ℤ p *ℤ q)) v u in
-    let o : toZ w64 (ofZ w64 (sg .signed .result)) ≡ toZ w64 (sumAt h x r 0) =
-    toZ-ofZ w64 (sg .signed .result) (record { sfits = sg .signed .ok }) ∙ sg .signed .ensures ∙ ap (toZ w64) s in
-    let e = mo .move-one .ensures ∙ ap (λ y. next h y r) u in
-    let l : i < length xs = sm .before .before .before .before .loop-test .taken in
-    let q = zero-from-next h (omega (arith, st .pre .0 .0)) (a .w) x r (at .loop .inv .0 .1) in (
-      (omega (arith, l), subst (ZeroFrom (a .w) h) (sym e) q),
+    let u : toZ w16 (ofZ w16 x) ≡ x = toZ-ofZ w16 x (record { sfits = after-x .x .given }) in
+    let v : toZ w32 (ofZ w32 (getD h 0 (pos 0))) ≡ getD h 0 (pos 0) = toZ-ofZ w32 (getD h 0 (pos 0)) (record { sfits = after-sum-arg .sum-arg .given }) in
+    let s : after-sum .sum .result ≡ sumAt h x r 0 = after-sum .sum .ensures ∙ ap₂ (λ p q. wrapped (pos (getD r 0 0) +ℤ p *ℤ q)) v u in
+    let o : toZ w64 (ofZ w64 (after-signed .signed .result)) ≡ toZ w64 (sumAt h x r 0) =
+    toZ-ofZ w64 (after-signed .signed .result) (record { sfits = after-signed .signed .ok }) ∙ after-signed .signed .ensures ∙ ap (toZ w64) s in
+    let e = after-move-one .move-one .ensures ∙ ap (λ y. next h y r) u in
+    let l : i < length xs = in-loop .loop-test .taken in
+    let q = zero-from-next h (omega (arith, at-start .pre .0 .0)) (args .w) x r (at-loop .loop .inv .0 .1) in (
+      (omega (arith, l), subst (ZeroFrom (args .w) h) (sym e) q),
       (
         search needs,
         (
-          simp length-set (at .loop .inv .1 .1 .0),
+          simp length-set (at-loop .loop .inv .1 .1 .0),
           (
-            one-registers h xs r i l _ e ∙ at .loop .inv .1 .1 .1 .0,
-            one-outputs h xs r i l _ e (at .loop .outputs) (toZ w64 (ofZ w64 (sg .signed .result))) o ∙ at .loop .inv .1 .1 .1 .1,
+            one-registers h xs r i l _ e ∙ at-loop .loop .inv .1 .1 .1 .0,
+            one-outputs h xs r i l _ e (at-loop .loop .outputs) (toZ w64 (ofZ w64 (after-signed .signed .result))) o ∙ at-loop .loop .inv .1 .1 .1 .1,
           ),
         ),
       ),
@@ -109,11 +113,13 @@ same-length-2 c = search needs
 
 returns : tie.Need-returns Inv-loop μ-loop
 returns c =
-    let at = c .before .loop in
-    let a = c .before .before .before .args in
-    let l : length (a .samples .now) ≤ at .i = c .loop-test .left in (
-      sym (end-registers (a .h .now) (a .samples .now) (at .registers) (at .i) l) ∙ at .inv .1 .1 .1 .0,
-      sym (end-outputs (a .h .now) (a .samples .now) (at .registers) (at .i) (at .outputs) l) ∙ at .inv .1 .1 .1 .1,
+    let at-loop = c .before in
+    let at-start = at-loop .before .before in
+    let loop = at-loop .loop in
+    let args = at-start .args in
+    let l : length (args .samples .now) ≤ loop .i = c .loop-test .left in (
+      sym (end-registers (args .h .now) (args .samples .now) (loop .registers) (loop .i) l) ∙ loop .inv .1 .1 .1 .0,
+      sym (end-outputs (args .h .now) (args .samples .now) (loop .registers) (loop .i) (loop .outputs) l) ∙ loop .inv .1 .1 .1 .1,
     )
 
 pub singly-spec : {M : Type 1} → statement M

@@ -36,7 +36,9 @@ mul-stored : tie.Need-mul-stored Inv-loop μ-loop
 mul-stored c = search needs
 
 element-write-stored : tie.Need-element-write-stored Inv-loop μ-loop
-element-write-stored c = omega (arith, c .before .before .before .loop .inv .1 .size)
+element-write-stored c =
+    let at-loop = c .before .before .before in
+    omega (arith, at-loop .loop .inv .1 .size)
 
 add-k : tie.Need-add-k Inv-loop μ-loop
 add-k c = search needs
@@ -46,22 +48,25 @@ loop-less c = search needs
 
 loop-again : tie.Need-loop-again Inv-loop μ-loop
 loop-again c =
-    let at = c .before .before .before in
-    let h = at .before .args .h .now in
-    let k = at .loop .k in
-    let u = toZ-ofZ w32 (getD h k (pos 0)) (record { sfits = c .before .offset-coefficient-arg .given }) in
-    (search needs, filled-next h (at .loop .stored) k (c .offset-coefficient .result) (omega (arith, c .before .before .loop-test .taken)) (at .loop .inv .1) (c .offset-coefficient .ensures ∙ u))
+    let after-offset-coefficient-arg = c .before in
+    let in-loop = after-offset-coefficient-arg .before in
+    let at-loop = in-loop .before in
+    let at-start = at-loop .before in
+    let h = at-start .args .h .now in
+    let k = at-loop .loop .k in
+    let u = toZ-ofZ w32 (getD h k (pos 0)) (record { sfits = after-offset-coefficient-arg .offset-coefficient-arg .given }) in
+    (search needs, filled-next h (at-loop .loop .stored) k (c .offset-coefficient .result) (omega (arith, in-loop .loop-test .taken)) (at-loop .loop .inv .1) (c .offset-coefficient .ensures ∙ u))
 
 returns : tie.Need-returns Inv-loop μ-loop
 returns c =
-    let at = c .before in
-    let h = at .before .args .h .now in
-    let st = at .before in
-    let w = st .args .w in
-    let e : at .loop .k ≡ w = omega (arith, at .loop .inv .0, c .loop-test .left) in
-    let f : Filled h (at .loop .stored) w = subst (Filled h (at .loop .stored)) e (at .loop .inv .1) in (
-      filled-padded h _ w (st .pre .0 .1) (st .pre .0 .0) (st .pre .1 .1) f,
-      (filled-all h _ w (st .pre .0 .1) (st .pre .0 .0) (st .pre .1 .1) f, filled-zero-from h _ w (st .pre .0 .1) (st .pre .0 .0) (st .pre .1 .1) f),
+    let at-loop = c .before in
+    let at-start = at-loop .before in
+    let h = at-start .args .h .now in
+    let w = at-start .args .w in
+    let e : at-loop .loop .k ≡ w = omega (arith, at-loop .loop .inv .0, c .loop-test .left) in
+    let f : Filled h (at-loop .loop .stored) w = subst (Filled h (at-loop .loop .stored)) e (at-loop .loop .inv .1) in (
+      filled-padded h _ w (at-start .pre .0 .1) (at-start .pre .0 .0) (at-start .pre .1 .1) f,
+      (filled-all h _ w (at-start .pre .0 .1) (at-start .pre .0 .0) (at-start .pre .1 .1) f, filled-zero-from h _ w (at-start .pre .0 .1) (at-start .pre .0 .0) (at-start .pre .1 .1) f),
     )
 
 pub fill-coefficients-spec : {M : Type 1} → statement M

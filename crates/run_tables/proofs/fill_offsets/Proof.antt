@@ -44,25 +44,29 @@ mul-offsets : tie.Need-mul-offsets Inv-loop μ-loop
 mul-offsets c = search needs
 
 element-write-offsets : tie.Need-element-write-offsets Inv-loop μ-loop
-element-write-offsets c = omega (arith, c .before .before .before .before .loop .inv .1 .size)
+element-write-offsets c =
+    let at-loop = c .before .before .before .before in
+    omega (arith, at-loop .loop .inv .1 .size)
 
 loop-less : tie.Need-loop-less Inv-loop μ-loop
 loop-less c = search needs
 
 loop-again : tie.Need-loop-again Inv-loop μ-loop
 loop-again c =
-    let at = c .before .before .before .before in
-    let j = at .loop .j in
-    let table = at .before .args .stored .now in
-    let v = at .loop .offsets in
+    let at-loop = c .before .before .before .before in
+    let at-start = at-loop .before in
+    let j = at-loop .loop .j in
+    let table = at-start .args .stored .now in
+    let v = at-loop .loop .offsets in
     let e : j ≡ j - 1 + 1 = omega arith in
-    (search needs, from-next table v (j - 1) (c .offset-below .result) (omega arith) (subst (From table v) e (at .loop .inv .1)) (c .offset-below .ensures))
+    (search needs, from-next table v (j - 1) (c .offset-below .result) (omega arith) (subst (From table v) e (at-loop .loop .inv .1)) (c .offset-below .ensures))
 
 returns : tie.Need-returns Inv-loop μ-loop
 returns c =
-    let at = c .before in
-    let e : at .loop .j ≡ 0 = omega arith in
-    from-all _ _ (subst (From (at .before .args .stored .now) (at .loop .offsets)) e (at .loop .inv .1))
+    let at-loop = c .before in
+    let at-start = at-loop .before in
+    let e : at-loop .loop .j ≡ 0 = omega arith in
+    from-all _ _ (subst (From (at-start .args .stored .now) (at-loop .loop .offsets)) e (at-loop .loop .inv .1))
 
 pub fill-offsets-spec : {M : Type 1} → statement M
 fill-offsets-spec =

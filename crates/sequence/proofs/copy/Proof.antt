@@ -48,14 +48,15 @@ loop-less c = search needs
 
 loop-again : tie.Need-loop-again Inv-loop μ-loop
 loop-again c =
-    let l = c .before .before in
-    let a = l .before .args in
-    let z = getD (a .from .now) (l .loop .i) (pos 0) in (
+    let at-loop = c .before .before in
+    let at-start = at-loop .before in
+    let args = at-start .args in
+    let z = getD (args .from .now) (at-loop .loop .i) (pos 0) in (
       search needs,
-      ap (λ (y : ℤ). set (l .loop .to) (l .loop .i) y) (toZ-ofZ w32 z (record { sfits = c .to .given }))
-          ∙ ap (λ (t : List ℤ). set t (l .loop .i) z) (l .loop .inv .1)
-          ∙ front-next (at (a .from .now)) (a .to .now) (l .loop .i) (pos 0) (omega arith),
-      length-set (l .loop .to) (l .loop .i) _ ∙ l .loop .inv .2,
+      ap (λ (y : ℤ). set (at-loop .loop .to) (at-loop .loop .i) y) (toZ-ofZ w32 z (record { sfits = c .to .given }))
+          ∙ ap (λ (t : List ℤ). set t (at-loop .loop .i) z) (at-loop .loop .inv .1)
+          ∙ front-next (at (args .from .now)) (args .to .now) (at-loop .loop .i) (pos 0) (omega arith),
+      length-set (at-loop .loop .to) (at-loop .loop .i) _ ∙ at-loop .loop .inv .2,
     )
 
 same-length : tie.Need-same-length Inv-loop μ-loop
@@ -64,10 +65,11 @@ same-length c = search needs
 returns : tie.Need-returns Inv-loop μ-loop
 unfolding front
 returns c =
-    let l = c .before in
-    let a = l .before .args in
-    let e : l .loop .i ≡ a .n = omega arith in
-    l .loop .inv .1 ∙ ap (front (at (a .from .now)) (a .to .now)) e ∙ ap (λ (r : List ℤ). r ++ drop (a .n) (a .to .now)) (upTo-take (a .from .now) (pos 0) (a .n) (omega arith))
+    let at-loop = c .before in
+    let at-start = at-loop .before in
+    let args = at-start .args in
+    let e : at-loop .loop .i ≡ args .n = omega arith in
+    at-loop .loop .inv .1 ∙ ap (front (at (args .from .now)) (args .to .now)) e ∙ ap (λ (r : List ℤ). r ++ drop (args .n) (args .to .now)) (upTo-take (args .from .now) (pos 0) (args .n) (omega arith))
 
 pub copy-spec : {M : Type 1} → statement M
 copy-spec =

@@ -10,37 +10,52 @@ use Rattle.sheet_input.proofs.fraction_bits.Tie as tie
 
 returns : tie.Need-returns
 returns c =
-    let a = c .before .before .before .args in
-    sym (no-taps (a .input .now) (argumentOf (a .given) (a .argument .now)) (c .if1 .taken))
+    let at-start = c .before .before .before in
+    let args = at-start .args in
+    sym (no-taps (args .input .now) (argumentOf (args .given) (args .argument .now)) (c .if1 .taken))
 
 returns-2 : tie.Need-returns-2
 returns-2 c =
-    let a = c .before .before .before .before .args in
-    sym (too-many (a .input .now) (argumentOf (a .given) (a .argument .now)) (c .before .if1 .left) (c .if2 .taken))
+    let in-else-1 = c .before in
+    let at-start = in-else-1 .before .before .before in
+    let args = at-start .args in
+    sym (too-many (args .input .now) (argumentOf (args .given) (args .argument .now)) (in-else-1 .if1 .left) (c .if2 .taken))
 
 returns-3 : tie.Need-returns-3
 returns-3 c =
-    let a = c .before .before .before .before .before .args in
-    sym (cut-tap (a .input .now) (argumentOf (a .given) (a .argument .now)) (c .before .before .if1 .left) (c .before .if2 .left) (c .if3 .taken))
+    let in-else-2 = c .before in
+    let in-else-1 = in-else-2 .before in
+    let at-start = in-else-1 .before .before .before in
+    let args = at-start .args in
+    sym (cut-tap (args .input .now) (argumentOf (args .given) (args .argument .now)) (in-else-1 .if1 .left) (in-else-2 .if2 .left) (c .if3 .taken))
 
 returns-4 : tie.Need-returns-4
 unfolding fractionBits
 returns-4 c =
-    let a = c .before .before .before .before .before .before .args in
-    let e = not-true (a .given) (c .if4 .taken) in
-    sym (whole-taps (a .input .now) (argumentOf (a .given) (a .argument .now)) (c .before .before .before .if1 .left) (c .before .before .if2 .left) (c .before .if3 .left)
-    ∙ ap (λ (b : Bool). fractionBits (argumentOf b (a .argument .now))) e)
+    let in-else-3 = c .before in
+    let in-else-2 = in-else-3 .before in
+    let in-else-1 = in-else-2 .before in
+    let at-start = in-else-1 .before .before .before in
+    let args = at-start .args in
+    let e = not-true (args .given) (c .if4 .taken) in
+    sym (whole-taps (args .input .now) (argumentOf (args .given) (args .argument .now)) (in-else-1 .if1 .left) (in-else-2 .if2 .left) (in-else-3 .if3 .left)
+    ∙ ap (λ (b : Bool). fractionBits (argumentOf b (args .argument .now))) e)
 
 bits-of-requires : tie.Need-bits-of-requires
 bits-of-requires c κs = search needs
 
 returns-5 : tie.Need-returns-5
 returns-5 c =
-    let a = c .before .before .before .before .before .before .before .args in
-    let e = not-false (a .given) (c .before .if4 .left) in
+    let in-else-4 = c .before in
+    let in-else-3 = in-else-4 .before in
+    let in-else-2 = in-else-3 .before in
+    let in-else-1 = in-else-2 .before in
+    let at-start = in-else-1 .before .before .before in
+    let args = at-start .args in
+    let e = not-false (args .given) (in-else-4 .if4 .left) in
     c .bits-of .ensures
-    ∙ sym (whole-taps (a .input .now) (argumentOf (a .given) (a .argument .now)) (c .before .before .before .before .if1 .left) (c .before .before .before .if2 .left) (c .before .before .if3 .left)
-    ∙ ap (λ (b : Bool). fractionBits (argumentOf b (a .argument .now))) e)
+    ∙ sym (whole-taps (args .input .now) (argumentOf (args .given) (args .argument .now)) (in-else-1 .if1 .left) (in-else-2 .if2 .left) (in-else-3 .if3 .left)
+    ∙ ap (λ (b : Bool). fractionBits (argumentOf b (args .argument .now))) e)
 
 pub fraction-bits-spec : {M : Type 1} → statement M
 fraction-bits-spec =

@@ -35,15 +35,19 @@ same-length c = search needs
 
 returns : tie.Need-returns
 returns c =
-    let s = c .before .before .before .before .before .before .before .before .before .before .before .before .before .before .before .before .before .before .before in
-    let a = s .args in
-    let q = s .pre .0 in
-    let p = c .before .before .total-line in
-    subst (λ (t : List ℕ). Put (a .out .now) 0 t areaBytes (p .last .0) (p .result)) (network-written (a .rows .now) (a .n) (a .tap-rows .now) (a .coefficients .now) q)
+    let after-total-line = c .before .before in
+    let after-tap-lines = after-total-line .before .before .before .before in
+    let after-node-lines = after-tap-lines .before .before .before .before in
+    let after-put-header = after-node-lines .before .before .before .before in
+    let at-start = after-put-header .before .before .before .before .before in
+    let args = at-start .args in
+    let q = at-start .pre .0 in
+    let total-line = after-total-line .total-line in
+    subst (λ (t : List ℕ). Put (args .out .now) 0 t areaBytes (total-line .last .0) (total-line .result)) (network-written (args .rows .now) (args .n) (args .tap-rows .now) (args .coefficients .now) q)
     (widen (omega (arith, q .rows-in .few, q .taps-in .few))
-    (then (c .before .before .before .before .before .before .before .before .before .before .before .before .before .before .put-header .ensures)
-    (then (c .before .before .before .before .before .before .before .before .before .before .node-lines .ensures)
-    (then (c .before .before .before .before .before .before .tap-lines .ensures) (p .ensures)))))
+    (then (after-put-header .put-header .ensures)
+    (then (after-node-lines .node-lines .ensures)
+    (then (after-tap-lines .tap-lines .ensures) (total-line .ensures)))))
 
 pub network-sheet-spec : {M : Type 1} → statement M
 network-sheet-spec =

@@ -25,11 +25,16 @@ same-length c = search needs
 
 returns : tie.Need-returns
 returns c =
-    let x = c .before .before .before .before .before .before .before .before .before .before .before .before .before .before .before .before .before .before .args in
-    rw (refused-parts (x .number) (x .place))
-    (then (c .before .before .before .before .before .before .before .before .before .before .before .before .before .before .put .ensures)
-    (value-after (x .number) (c .before .before .before .before .before .before .before .before .before .before .put-to-value .ensures)
-    (then (c .before .before .before .before .before .before .put-number .ensures) (c .before .before .put-end .ensures))))
+    let after-put-end = c .before .before in
+    let after-put-number = after-put-end .before .before .before .before in
+    let after-put-to-value = after-put-number .before .before .before .before in
+    let after-put = after-put-to-value .before .before .before .before in
+    let at-start = after-put .before .before .before .before in
+    let args = at-start .args in
+    rw (refused-parts (args .number) (args .place))
+    (then (after-put .put .ensures)
+    (value-after (args .number) (after-put-to-value .put-to-value .ensures)
+    (then (after-put-number .put-number .ensures) (after-put-end .put-end .ensures))))
 
 pub refused-line-spec : {M : Type 1} → statement M
 refused-line-spec =

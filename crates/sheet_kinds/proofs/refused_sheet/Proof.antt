@@ -29,14 +29,17 @@ same-length c = search needs
 returns : tie.Need-returns
 unfolding refusedText
 returns c =
-    let after-header = c .before .before .before .before .before .before in
-    let after-place = after-header .before .before in
-    let number = after-place .before .number in
-    let start = after-place .before .before .before .args in
-    let line = c .before .before .refused-line in
+    let after-refused-line = c .before .before in
+    let after-put-header = after-refused-line .before .before .before .before in
+    let after-place = after-put-header .before .before in
+    let after-number = after-place .before in
+    let at-start = after-number .before .before in
+    let number = after-number .number in
+    let start = at-start .args in
+    let line = after-refused-line .refused-line in
     subst (λ (n : ℕ). Put (start .out .now) 0 (refusedText n (placeOf (start .refusal))) areaBytes (line .last .0) (line .result)) (number .ensures)
     (subst (λ (p : ℕ). Put (start .out .now) 0 (refusedText (number .result) p) areaBytes (line .last .0) (line .result)) (after-place .place .ensures)
-    (widen (lit≤ tt) (then (after-header .put-header .ensures) (line .ensures))))
+    (widen (lit≤ tt) (then (after-put-header .put-header .ensures) (line .ensures))))
 
 pub refused-sheet-spec : {M : Type 1} → statement M
 refused-sheet-spec =

@@ -22,9 +22,13 @@ same-length c = search needs
 
 returns : tie.Need-returns
 returns c =
-    let total = c .before .before .before .before .before .before .before .before .before .before .before .before .before .before .args .adders in
+    let after-put-end = c .before .before in
+    let after-put-to-value = after-put-end .before .before .before .before in
+    let after-put = after-put-to-value .before .before .before .before in
+    let at-start = after-put .before .before .before .before in
+    let total = at-start .args .adders in
     rw (total-parts total)
-    (then (c .before .before .before .before .before .before .before .before .before .before .put .ensures) (value-after total (c .before .before .before .before .before .before .put-to-value .ensures) (c .before .before .put-end .ensures)))
+    (then (after-put .put .ensures) (value-after total (after-put-to-value .put-to-value .ensures) (after-put-end .put-end .ensures)))
 
 pub total-line-spec : {M : Type 1} → statement M
 total-line-spec =

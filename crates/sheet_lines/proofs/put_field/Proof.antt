@@ -15,8 +15,9 @@ same-length c = search needs
 
 returns : tie.Need-returns
 returns c =
-    let d = c .before .before in
-    then (d .before .before .before .before .put-number .ensures) (d .put-byte .ensures)
+    let after-put-byte = c .before .before in
+    let after-put-number = after-put-byte .before .before .before .before in
+    then (after-put-number .put-number .ensures) (after-put-byte .put-byte .ensures)
 
 pub put-field-spec : {M : Type 1} → statement M
 put-field-spec = tie.close (tie.spec put-number-requires put-byte-requires same-length returns)

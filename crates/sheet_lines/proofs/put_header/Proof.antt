@@ -16,7 +16,8 @@ same-length c = search needs
 returns : tie.Need-returns
 unfolding line columns header
 returns c =
-    c .before .before .put .ensures
+    let after-put = c .before .before in
+    after-put .put .ensures
 
 pub put-header-spec : {M : Type 1} → statement M
 put-header-spec = tie.close (tie.spec slice-aggregate-put put-requires same-length returns)

@@ -29,11 +29,17 @@ same-length c = search needs
 
 returns : tie.Need-returns
 returns c =
-    let x = c .before .before .before .before .before .before .before .before .before .before .before .before .before .before .before .before .before .before .before .before .before .args in
-    comma (decimal (x .number)) (c .before .before .before .before .before .before .before .before .before .before .before .before .before .before .before .before .before .before .put-field .ensures)
-    (comma (decimal (x .left)) (c .before .before .before .before .before .before .before .before .before .before .before .before .before .before .put-field2 .ensures)
-    (comma (decimal (x .shift)) (c .before .before .before .before .before .before .before .before .before .before .put-field3 .ensures)
-    (then (c .before .before .before .before .before .before .put-byte .ensures) (c .before .before .put-byte2 .ensures))))
+    let after-put-byte2 = c .before .before in
+    let after-put-byte = after-put-byte2 .before .before .before .before in
+    let after-put-field3 = after-put-byte .before .before .before .before in
+    let after-put-field2 = after-put-field3 .before .before .before .before in
+    let after-put-field = after-put-field2 .before .before .before .before in
+    let at-start = after-put-field .before .before .before in
+    let args = at-start .args in
+    comma (decimal (args .number)) (after-put-field .put-field .ensures)
+    (comma (decimal (args .left)) (after-put-field2 .put-field2 .ensures)
+    (comma (decimal (args .shift)) (after-put-field3 .put-field3 .ensures)
+    (then (after-put-byte .put-byte .ensures) (after-put-byte2 .put-byte2 .ensures))))
 
 pub put-to-sign-spec : {M : Type 1} → statement M
 put-to-sign-spec =

@@ -18,7 +18,9 @@ same-length c = search needs
 
 returns : tie.Need-returns
 returns c =
-    then (c .before .before .before .before .before .before .before .put-number .ensures) (c .before .before .put .ensures)
+    let after-put = c .before .before in
+    let after-put-number = after-put .before .before .before .before .before in
+    then (after-put-number .put-number .ensures) (after-put .put .ensures)
 
 pub put-to-value-spec : {M : Type 1} → statement M
 put-to-value-spec =

@@ -26,10 +26,15 @@ same-length c = search needs
 
 returns : tie.Need-returns
 returns c =
-    rw (node-first (c .before .before .before .before .before .before .before .before .before .before .before .before .before .before .before .before .before .before .args .row)) (widen (lit≤ tt)
-    (then (c .before .before .before .before .before .before .before .before .before .before .before .before .before .before .put .ensures)
-    (value-after 0 (c .before .before .before .before .before .before .before .before .before .before .put-to-value .ensures)
-    (then (c .before .before .before .before .before .before .put-number .ensures) (c .before .before .put-end .ensures)))))
+    let after-put-end = c .before .before in
+    let after-put-number = after-put-end .before .before .before .before in
+    let after-put-to-value = after-put-number .before .before .before .before in
+    let after-put = after-put-to-value .before .before .before .before in
+    let at-start = after-put .before .before .before .before in
+    rw (node-first (at-start .args .row)) (widen (lit≤ tt)
+    (then (after-put .put .ensures)
+    (value-after 0 (after-put-to-value .put-to-value .ensures)
+    (then (after-put-number .put-number .ensures) (after-put-end .put-end .ensures)))))
 
 pub first-line-spec : {M : Type 1} → statement M
 first-line-spec =

@@ -29,13 +29,19 @@ same-length c = search needs
 
 returns : tie.Need-returns
 returns c =
-    let x = c .before .before .before .before .before .before .before .before .before .before .before .before .before .before .before .before .before .before .before .before .before .before .args in
-    let r = x .row in
-    rw (later-parts (x .i) r)
-    (then (c .before .before .before .before .before .before .before .before .before .before .before .before .before .before .before .before .before .before .put .ensures)
-    (after-sign (x .i) (r .left) (r .shift) (r .sign) (c .before .before .before .before .before .before .before .before .before .before .before .before .before .before .put-to-sign .ensures)
-    (comma (decimal (r .right)) (c .before .before .before .before .before .before .before .before .before .before .put-field .ensures)
-    (then (c .before .before .before .before .before .before .put-number .ensures) (c .before .before .put-end .ensures)))))
+    let after-put-end = c .before .before in
+    let after-put-number = after-put-end .before .before .before .before in
+    let after-put-field = after-put-number .before .before .before .before in
+    let after-put-to-sign = after-put-field .before .before .before .before in
+    let after-put = after-put-to-sign .before .before .before .before in
+    let at-start = after-put .before .before .before .before in
+    let args = at-start .args in
+    let r = args .row in
+    rw (later-parts (args .i) r)
+    (then (after-put .put .ensures)
+    (after-sign (args .i) (r .left) (r .shift) (r .sign) (after-put-to-sign .put-to-sign .ensures)
+    (comma (decimal (r .right)) (after-put-field .put-field .ensures)
+    (then (after-put-number .put-number .ensures) (after-put-end .put-end .ensures)))))
 
 pub later-line-spec : {M : Type 1} → statement M
 later-line-spec =

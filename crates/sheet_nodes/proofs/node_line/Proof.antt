@@ -12,7 +12,9 @@ same-length c = search needs
 
 returns : tie.Need-returns
 returns c =
-    rw (c .before .before .before .before .if1 .taken) (c .before .before .first-line .ensures)
+    let after-first-line = c .before .before in
+    let in-then-1 = after-first-line .before .before in
+    rw (in-then-1 .if1 .taken) (after-first-line .first-line .ensures)
 
 later-line-requires : tie.Need-later-line-requires
 later-line-requires c κs = search needs
@@ -22,8 +24,11 @@ same-length-2 c = search needs
 
 returns-2 : tie.Need-returns-2
 returns-2 c =
-    let x = c .before .before .before .before .before .before .args in
-    rw (node-later (x .i) (x .row) (c .before .before .before .before .if1 .left)) (c .before .before .later-line .ensures)
+    let after-later-line = c .before .before in
+    let in-else-1 = after-later-line .before .before in
+    let at-start = in-else-1 .before .before in
+    let args = at-start .args in
+    rw (node-later (args .i) (args .row) (in-else-1 .if1 .left)) (after-later-line .later-line .ensures)
 
 pub node-line-spec : {M : Type 1} → statement M
 node-line-spec =

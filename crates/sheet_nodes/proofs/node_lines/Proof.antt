@@ -23,7 +23,8 @@ abbrev μ-loop : tie.MeasureT-loop
 
 loop-holds : tie.Need-loop-holds Inv-loop μ-loop
 loop-holds c =
-    (search needs, (nothing-put nodeLine (rowAt (c .before .before .args .rows .now)) _ _, refl))
+    let at-start = c .before .before in
+    (search needs, (nothing-put nodeLine (rowAt (at-start .args .rows .now)) _ _, refl))
 
 read-row-requires : tie.Need-read-row-requires Inv-loop μ-loop
 read-row-requires c κs = search needs
@@ -33,12 +34,13 @@ cast-node-line c = search needs
 
 node-line-requires : tie.Need-node-line-requires Inv-loop μ-loop
 node-line-requires c κs =
-    let at-test = c .before .before in
-    let at-loop = at-test .before in
+    let after-read-row = c .before in
+    let in-loop = after-read-row .before in
+    let at-loop = in-loop .before in
     let at-start = at-loop .before .before .before in
-    let sign = ap (λ (r : Row). r .sign) (c .before .read-row .ensures) in (
-      omega (arith, sign, at-start .pre .0 .signs (at-loop .loop .i) (at-test .loop-test .taken)),
-      omega (arith, at-start .pre .1, at-test .loop-test .taken, at-loop .loop .inv .1 .0 .within, at-loop .loop .inv .1 .1),
+    let sign = ap (λ (r : Row). r .sign) (after-read-row .read-row .ensures) in (
+      omega (arith, sign, at-start .pre .0 .signs (at-loop .loop .i) (in-loop .loop-test .taken)),
+      omega (arith, at-start .pre .1, in-loop .loop-test .taken, at-loop .loop .inv .1 .0 .within, at-loop .loop .inv .1 .1),
     )
 
 add-i : tie.Need-add-i Inv-loop μ-loop
@@ -49,14 +51,15 @@ loop-less c = search needs
 
 loop-again : tie.Need-loop-again Inv-loop μ-loop
 loop-again c =
-    let after-line = c .before .before in
-    let after-read = after-line .before .before in
-    let at-loop = after-read .before .before in
-    let rows = at-loop .before .before .before .args .rows .now in
-    let line = after-line .node-line in
+    let after-node-line = c .before .before in
+    let after-read-row = after-node-line .before .before in
+    let at-loop = after-read-row .before .before in
+    let at-start = at-loop .before .before .before in
+    let rows = at-start .args .rows .now in
+    let line = after-node-line .node-line in
     let i = at-loop .loop .i in
     let put : Put (at-loop .loop .out) (at-loop .loop .to) (nodeLine i (rowAt rows i)) nodeLineBytes (line .last .0) (line .result)
-    = subst (λ (r : Row). Put (at-loop .loop .out) (at-loop .loop .to) (nodeLine i r) nodeLineBytes (line .last .0) (line .result)) (after-read .read-row .ensures) (line .ensures) in (
+    = subst (λ (r : Row). Put (at-loop .loop .out) (at-loop .loop .to) (nodeLine i r) nodeLineBytes (line .last .0) (line .result)) (after-read-row .read-row .ensures) (line .ensures) in (
       search needs,
       (
         rw (lines-next nodeLine (rowAt rows) i) (widen (omega arith) (then (at-loop .loop .inv .1 .0) put)),
@@ -70,7 +73,8 @@ same-length c = search needs
 returns : tie.Need-returns Inv-loop μ-loop
 returns c =
     let at-loop = c .before in
-    let start = at-loop .before .before .before .args in
+    let at-start = at-loop .before .before .before in
+    let start = at-start .args in
     let all : at-loop .loop .i ≡ start .n = omega (arith, c .loop-test .left, at-loop .loop .inv .0) in
     subst (λ (k : ℕ). Put (start .out .now) (start .at) (linesFrom nodeLine 0 (rowsOf (start .rows .now) k)) (nodeLineBytes * k) (at-loop .loop .out) (at-loop .loop .to)) all (at-loop .loop .inv .1 .0)
 

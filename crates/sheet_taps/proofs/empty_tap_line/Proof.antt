@@ -26,11 +26,16 @@ same-length c = search needs
 
 returns : tie.Need-returns
 returns c =
-    let i = c .before .before .before .before .before .before .before .before .before .before .before .before .before .before .before .before .before .before .args .i in
+    let after-put-end = c .before .before in
+    let after-put-byte = after-put-end .before .before .before .before in
+    let after-put-to-value = after-put-byte .before .before .before .before in
+    let after-put = after-put-to-value .before .before .before .before in
+    let at-start = after-put .before .before .before .before in
+    let i = at-start .args .i in
     rw (empty-parts i) (widen (lit≤ tt)
-    (then (c .before .before .before .before .before .before .before .before .before .before .before .before .before .before .put .ensures)
-    (value-after i (c .before .before .before .before .before .before .before .before .before .before .put-to-value .ensures)
-    (then (c .before .before .before .before .before .before .put-byte .ensures) (c .before .before .put-end .ensures)))))
+    (then (after-put .put .ensures)
+    (value-after i (after-put-to-value .put-to-value .ensures)
+    (then (after-put-byte .put-byte .ensures) (after-put-end .put-end .ensures)))))
 
 pub empty-tap-line-spec : {M : Type 1} → statement M
 empty-tap-line-spec =

@@ -36,16 +36,21 @@ same-length c = search needs
 
 returns : tie.Need-returns
 returns c =
-    let s = c .before .before .before .before .before .before .before .before .before .before .before .before .before .before .before .before .before .before .before .before .before .before in
-    let x = s .args in
-    let t = x .tap in
-    let p = c .before .before .put-end in
-    subst (λ (z : ℤ). Put (x .out .now) (x .at) (productLine (x .i) t z) tapLineBytes (p .last .0) (p .result)) (toZ-ofZ w32 (x .value) (s .fits .value))
-    (rw (product-parts (x .i) t _)
-    (then (c .before .before .before .before .before .before .before .before .before .before .before .before .before .before .before .before .before .before .put .ensures)
-    (after-sign (x .i) (t .row) (t .shift) (t .sign) (c .before .before .before .before .before .before .before .before .before .before .before .before .before .before .put-to-sign .ensures)
-    (then (c .before .before .before .before .before .before .before .before .before .before .put-byte .ensures)
-    (then (c .before .before .before .before .before .before .put-integer .ensures) (p .ensures))))))
+    let after-put-end = c .before .before in
+    let after-put-integer = after-put-end .before .before .before .before in
+    let after-put-byte = after-put-integer .before .before .before .before in
+    let after-put-to-sign = after-put-byte .before .before .before .before in
+    let after-put = after-put-to-sign .before .before .before .before in
+    let at-start = after-put .before .before .before .before in
+    let args = at-start .args in
+    let t = args .tap in
+    let put-end = after-put-end .put-end in
+    subst (λ (z : ℤ). Put (args .out .now) (args .at) (productLine (args .i) t z) tapLineBytes (put-end .last .0) (put-end .result)) (toZ-ofZ w32 (args .value) (at-start .fits .value))
+    (rw (product-parts (args .i) t _)
+    (then (after-put .put .ensures)
+    (after-sign (args .i) (t .row) (t .shift) (t .sign) (after-put-to-sign .put-to-sign .ensures)
+    (then (after-put-byte .put-byte .ensures)
+    (then (after-put-integer .put-integer .ensures) (put-end .ensures))))))
 
 pub product-line-spec : {M : Type 1} → statement M
 product-line-spec =

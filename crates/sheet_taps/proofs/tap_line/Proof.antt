@@ -19,8 +19,11 @@ same-length c = search needs
 
 returns : tie.Need-returns
 returns c =
-    let x = c .before .before .before .before .before .before .before .args in
-    rw (tap-none (x .i) (x .tap) (x .value) (c .before .before .before .before .if1 .taken)) (c .before .before .empty-tap-line .ensures)
+    let after-empty-tap-line = c .before .before in
+    let in-then-1 = after-empty-tap-line .before .before in
+    let at-start = in-then-1 .before .before .before in
+    let args = at-start .args in
+    rw (tap-none (args .i) (args .tap) (args .value) (in-then-1 .if1 .taken)) (after-empty-tap-line .empty-tap-line .ensures)
 
 product-line-requires : tie.Need-product-line-requires
 product-line-requires c κs = search needs
@@ -30,11 +33,13 @@ same-length-2 c = search needs
 
 returns-2 : tie.Need-returns-2
 returns-2 c =
-    let s = c .before .before .before .before .before .before .before in
-    let x = s .args in
-    let p = c .before .before .product-line in
-    rw (tap-some (x .i) (x .tap) (x .value) (c .before .before .before .before .if1 .left))
-    (subst (λ (z : ℤ). Put (x .out .now) (x .at) (productLine (x .i) (x .tap) z) tapLineBytes (p .last .0) (p .result)) (toZ-ofZ w32 (x .value) (s .fits .value)) (p .ensures))
+    let after-product-line = c .before .before in
+    let in-else-1 = after-product-line .before .before in
+    let at-start = in-else-1 .before .before .before in
+    let args = at-start .args in
+    let product-line = after-product-line .product-line in
+    rw (tap-some (args .i) (args .tap) (args .value) (in-else-1 .if1 .left))
+    (subst (λ (z : ℤ). Put (args .out .now) (args .at) (productLine (args .i) (args .tap) z) tapLineBytes (product-line .last .0) (product-line .result)) (toZ-ofZ w32 (args .value) (at-start .fits .value)) (product-line .ensures))
 
 pub tap-line-spec : {M : Type 1} → statement M
 tap-line-spec =

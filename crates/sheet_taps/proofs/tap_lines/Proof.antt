@@ -28,8 +28,9 @@ abbrev μ-loop : tie.MeasureT-loop
 
 loop-holds : tie.Need-loop-holds Inv-loop μ-loop
 loop-holds c =
-    let a = c .before .before .args in
-    (search needs, (nothing-put (tapLineOf (a .coefficients .now)) (tapRowAt (a .tap-rows .now)) _ _, refl))
+    let at-start = c .before .before in
+    let args = at-start .args in
+    (search needs, (nothing-put (tapLineOf (args .coefficients .now)) (tapRowAt (args .tap-rows .now)) _ _, refl))
 
 read-tap-row-requires : tie.Need-read-tap-row-requires Inv-loop μ-loop
 read-tap-row-requires c κs = search needs
@@ -45,13 +46,15 @@ shared-slice-copy-out-tap-line c = search needs
 
 tap-line-requires : tie.Need-tap-line-requires Inv-loop μ-loop
 tap-line-requires c κs =
-    let l = c .before .before .before .before in
-    let s = c .before .before .before .before .before .before .before in
-    let q = s .pre in
-    let t = c .before .before .before .loop-test .taken in
-    let j = l .loop .j in
-    let e = ap (λ (r : TapRow). r .sign) (c .before .before .read-tap-row .ensures) in
-    (omega (arith, e, q .0 .signs j t), omega (arith, q .1, t, l .loop .inv .1 .0 .within, l .loop .inv .1 .1))
+    let after-read-tap-row = c .before .before in
+    let in-loop = after-read-tap-row .before in
+    let at-loop = in-loop .before in
+    let at-start = at-loop .before .before .before in
+    let pre = at-start .pre in
+    let loop-test-taken = in-loop .loop-test .taken in
+    let j = at-loop .loop .j in
+    let e = ap (λ (r : TapRow). r .sign) (after-read-tap-row .read-tap-row .ensures) in
+    (omega (arith, e, pre .0 .signs j loop-test-taken), omega (arith, pre .1, loop-test-taken, at-loop .loop .inv .1 .0 .within, at-loop .loop .inv .1 .1))
 
 add-j : tie.Need-add-j Inv-loop μ-loop
 add-j c = search needs
@@ -61,20 +64,23 @@ loop-less c = search needs
 
 loop-again : tie.Need-loop-again Inv-loop μ-loop
 loop-again c =
-    let d = c .before .before .tap-line in
-    let l = c .before .before .before .before .before .before .before in
-    let s = c .before .before .before .before .before .before .before .before .before .before in
-    let a = s .args in
-    let j = l .loop .j in
-    let z = getD (a .coefficients .now) j (pos 0) in
-    let e = toZ-ofZ w32 z (record { sfits = c .before .before .before .tap-line-arg2 .given }) in
-    let p : Put (l .loop .out) (l .loop .to) (tapLine j (tapRowAt (a .tap-rows .now) j) z) tapLineBytes (d .last .0) (d .result)
-    = subst (λ (t : TapRow). Put (l .loop .out) (l .loop .to) (tapLine j t z) tapLineBytes (d .last .0) (d .result)) (c .before .before .before .before .before .read-tap-row .ensures)
-    (subst (λ (v : ℤ). Put (l .loop .out) (l .loop .to) (tapLine j (c .before .before .before .before .before .read-tap-row .result) v) tapLineBytes (d .last .0) (d .result)) e (d .ensures)) in (
+    let after-tap-line = c .before .before in
+    let after-tap-line-arg2 = after-tap-line .before in
+    let after-read-tap-row = after-tap-line-arg2 .before .before in
+    let at-loop = after-read-tap-row .before .before in
+    let at-start = at-loop .before .before .before in
+    let tap-line = after-tap-line .tap-line in
+    let args = at-start .args in
+    let j = at-loop .loop .j in
+    let z = getD (args .coefficients .now) j (pos 0) in
+    let e = toZ-ofZ w32 z (record { sfits = after-tap-line-arg2 .tap-line-arg2 .given }) in
+    let p : Put (at-loop .loop .out) (at-loop .loop .to) (tapLine j (tapRowAt (args .tap-rows .now) j) z) tapLineBytes (tap-line .last .0) (tap-line .result)
+    = subst (λ (t : TapRow). Put (at-loop .loop .out) (at-loop .loop .to) (tapLine j t z) tapLineBytes (tap-line .last .0) (tap-line .result)) (after-read-tap-row .read-tap-row .ensures)
+    (subst (λ (v : ℤ). Put (at-loop .loop .out) (at-loop .loop .to) (tapLine j (after-read-tap-row .read-tap-row .result) v) tapLineBytes (tap-line .last .0) (tap-line .result)) e (tap-line .ensures)) in (
       search needs,
       (
-        rw (lines-next (tapLineOf (a .coefficients .now)) (tapRowAt (a .tap-rows .now)) j) (widen (omega arith) (then (l .loop .inv .1 .0) p)),
-        d .kept .0 ∙ l .loop .inv .1 .1,
+        rw (lines-next (tapLineOf (args .coefficients .now)) (tapRowAt (args .tap-rows .now)) j) (widen (omega arith) (then (at-loop .loop .inv .1 .0) p)),
+        tap-line .kept .0 ∙ at-loop .loop .inv .1 .1,
       ),
     )
 
@@ -83,11 +89,11 @@ same-length c = search needs
 
 returns : tie.Need-returns Inv-loop μ-loop
 returns c =
-    let l = c .before in
-    let s = c .before .before .before .before in
-    let a = s .args in
-    let e : l .loop .j ≡ length (a .coefficients .now) = omega (arith, c .loop-test .left, l .loop .inv .0) in
-    subst (λ k. Put (a .out .now) (a .at) (linesFrom (tapLineOf (a .coefficients .now)) 0 (tapRowsOf (a .tap-rows .now) k)) (tapLineBytes * k) (l .loop .out) (l .loop .to)) e (l .loop .inv .1 .0)
+    let at-loop = c .before in
+    let at-start = at-loop .before .before .before in
+    let args = at-start .args in
+    let e : at-loop .loop .j ≡ length (args .coefficients .now) = omega (arith, c .loop-test .left, at-loop .loop .inv .0) in
+    subst (λ k. Put (args .out .now) (args .at) (linesFrom (tapLineOf (args .coefficients .now)) 0 (tapRowsOf (args .tap-rows .now) k)) (tapLineBytes * k) (at-loop .loop .out) (at-loop .loop .to)) e (at-loop .loop .inv .1 .0)
 
 pub tap-lines-spec : {M : Type 1} → statement M
 tap-lines-spec =

@@ -17,10 +17,11 @@ printed : (c : tie.After-answer) → let s = c .before .before .before .before .
     Printable (s .args .coefficients .now) (s .pre .0) (zeros rowTable) (zeros tapTable) (room rowTable) (room tapTable) (c .answer .given .0 .0) (b .last .1 .1 .0) (b .last .1 .1 .1 .0)
 unfolding choices
 printed c =
-    let s = c .before .before .before .before .before .before .before .before .before in
-    let b = c .before .before .before .before .build in
+    let after-build = c .before .before .before .before in
+    let at-start = after-build .before .before .before .before .before in
+    let build = after-build .build in
     let k = c .answer .given in
-    printable (s .args .coefficients .now) (s .pre .0) (zeros rowTable) (zeros tapTable) (room rowTable) (room tapTable) (k .0 .0) _ _ (ap answerOf (sym (k .1)) ∙ b .ensures .answer) (b .ensures .rows-left) (b .ensures .taps-left)
+    printable (at-start .args .coefficients .now) (at-start .pre .0) (zeros rowTable) (zeros tapTable) (room rowTable) (room tapTable) (k .0 .0) _ _ (ap answerOf (sym (k .1)) ∙ build .ensures .answer) (build .ensures .rows-left) (build .ensures .taps-left)
 
 slice-aggregate-build : tie.Need-slice-aggregate-build
 slice-aggregate-build c = search needs
@@ -48,8 +49,10 @@ slice-aggregate-network-sheet-2 c = search needs
 
 network-sheet-requires : tie.Need-network-sheet-requires
 network-sheet-requires c κs =
-    let s = c .before .before .before .before .before .before .before .before .before .before .before .before .before in
-    (printed (c .before .before .before .before) .ready, s .pre .1)
+    let after-answer = c .before .before .before .before in
+    let after-taps = after-answer .before .before .before .before .before in
+    let at-start = after-taps .before .before .before .before in
+    (printed (after-answer) .ready, at-start .pre .1)
 
 enum-known-answer-2 : tie.Need-enum-known-answer-2
 enum-known-answer-2 c = search needs
@@ -62,10 +65,13 @@ same-length c = search needs
 
 returns : tie.Need-returns
 returns c =
-    let s = c .before .before .before .before .before .before .before .before .before .before .before .before .before .before .before .before in
-    let a = s .args in
-    let p = c .before .before .network-sheet in
-    subst (λ (q : Network). Put (a .out .now) 0 (networkText q) areaBytes (p .last .0) (p .result)) (printed (c .before .before .before .before .before .before .before) .network) (p .ensures)
+    let after-network-sheet = c .before .before in
+    let after-answer = after-network-sheet .before .before .before .before .before in
+    let after-taps = after-answer .before .before .before .before .before in
+    let at-start = after-taps .before .before .before .before in
+    let args = at-start .args in
+    let network-sheet = after-network-sheet .network-sheet in
+    subst (λ (q : Network). Put (args .out .now) 0 (networkText q) areaBytes (network-sheet .last .0) (network-sheet .result)) (printed (after-answer) .network) (network-sheet .ensures)
 
 same-length-2 : tie.Need-same-length-2
 same-length-2 c = search needs
@@ -73,10 +79,12 @@ same-length-2 c = search needs
 returns-2 : tie.Need-returns-2
 unfolding choices
 returns-2 c =
-    let s = c .before .before .before .before .before .before .before .before .before .before .before .before .before .before in
-    let a = s .args in
-    let k = c .before .before .before .before .before .answer2 .given in
-    absurd (never-refused (a .coefficients .now) (s .pre .0) (zeros rowTable) (zeros tapTable) (room rowTable) (room tapTable) _ _ (ap answerOf (sym (k .1)) ∙ c .before .before .before .before .before .before .before .before .before .build .ensures .answer))
+    let after-answer2 = c .before .before .before .before .before in
+    let after-build = after-answer2 .before .before .before .before in
+    let at-start = after-build .before .before .before .before .before in
+    let args = at-start .args in
+    let k = after-answer2 .answer2 .given in
+    absurd (never-refused (args .coefficients .now) (at-start .pre .0) (zeros rowTable) (zeros tapTable) (room rowTable) (room tapTable) _ _ (ap answerOf (sym (k .1)) ∙ after-build .build .ensures .answer))
 
 pub coefficient-sheet-spec : {M : Type 1} → statement M
 coefficient-sheet-spec =

@@ -19,9 +19,12 @@ enum-known-fraction c = search needs
 
 tap-sheet-requires : tie.Need-tap-sheet-requires
 tap-sheet-requires c κs =
-    let a = c .before .before .before .before .before .before .before .args in
-    let e = sym (c .before .before .before .before .fraction-bits .ensures) ∙ ap answerOf (c .before .before .fraction .given .1) in
-    (at-most-256 (a .input .now) (argumentOf (a .given) (a .argument .now)) _ e, search needs)
+    let after-fraction = c .before .before in
+    let after-fraction-bits = after-fraction .before .before in
+    let at-start = after-fraction-bits .before .before .before in
+    let args = at-start .args in
+    let e = sym (after-fraction-bits .fraction-bits .ensures) ∙ ap answerOf (after-fraction .fraction .given .1) in
+    (at-most-256 (args .input .now) (argumentOf (args .given) (args .argument .now)) _ e, search needs)
 
 enum-known-fraction-2 : tie.Need-enum-known-fraction-2
 enum-known-fraction-2 c = search needs
@@ -31,17 +34,23 @@ refused-sheet-requires c κs = search needs
 
 returns : tie.Need-returns
 returns c =
-    let a = c .before .before .before .before .before .before .before .before .args in
-    let e = sym (c .before .before .before .before .before .fraction-bits .ensures) ∙ ap answerOf (c .before .before .before .fraction .given .1) in
-    let k : areaBytes ≤ length (a .out .now) = search needs in
-    put-sheet (a .input .now) (argumentOf (a .given) (a .argument .now)) (sheet-given (a .input .now) (argumentOf (a .given) (a .argument .now)) _ e) (c .tap-sheet .ensures) k
+    let after-fraction = c .before .before .before in
+    let after-fraction-bits = after-fraction .before .before in
+    let at-start = after-fraction-bits .before .before .before in
+    let args = at-start .args in
+    let e = sym (after-fraction-bits .fraction-bits .ensures) ∙ ap answerOf (after-fraction .fraction .given .1) in
+    let k : areaBytes ≤ length (args .out .now) = search needs in
+    put-sheet (args .input .now) (argumentOf (args .given) (args .argument .now)) (sheet-given (args .input .now) (argumentOf (args .given) (args .argument .now)) _ e) (c .tap-sheet .ensures) k
 
 returns-2 : tie.Need-returns-2
 returns-2 c =
-    let a = c .before .before .before .before .before .before .before .before .args in
-    let e = sym (c .before .before .before .before .before .fraction-bits .ensures) ∙ ap answerOf (c .before .before .before .fraction2 .given .1) in
-    let k : areaBytes ≤ length (a .out .now) = search needs in
-    put-sheet (a .input .now) (argumentOf (a .given) (a .argument .now)) (sheet-refused (a .input .now) (argumentOf (a .given) (a .argument .now)) _ _ e) (c .refused-sheet .ensures) k
+    let after-fraction2 = c .before .before .before in
+    let after-fraction-bits = after-fraction2 .before .before in
+    let at-start = after-fraction-bits .before .before .before in
+    let args = at-start .args in
+    let e = sym (after-fraction-bits .fraction-bits .ensures) ∙ ap answerOf (after-fraction2 .fraction2 .given .1) in
+    let k : areaBytes ≤ length (args .out .now) = search needs in
+    put-sheet (args .input .now) (argumentOf (args .given) (args .argument .now)) (sheet-refused (args .input .now) (argumentOf (args .given) (args .argument .now)) _ _ e) (c .refused-sheet .ensures) k
 
 pub sheet-spec : {M : Type 1} → statement M
 sheet-spec =

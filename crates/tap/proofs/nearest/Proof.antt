@@ -26,10 +26,10 @@ half-is = refl
 -- the number that is counted, as the machine has it
 read : (c : tie.After-nearest-even) → toZ w64 (ofZ w64 (toSigned 63 (c .nearest-even .result))) ≡ pos (evenOf (c .before .args .x))
 read c =
-    let s = c .before in
-    let h = by-half (s .args .x) (s .pre .0) (s .pre .1) .0 in
-    ap (λ (z : ℤ). toZ w64 (ofZ w64 z)) (ap (toSigned 63) (c .nearest-even .ensures) ∙ counted (evenOf (s .args .x)) h .1)
-    ∙ toZ-ofZ w64 (pos (evenOf (s .args .x))) (record { sfits = lt-of-le-of-lt h (lit< tt) })
+    let at-start = c .before in
+    let h = by-half (at-start .args .x) (at-start .pre .0) (at-start .pre .1) .0 in
+    ap (λ (z : ℤ). toZ w64 (ofZ w64 z)) (ap (toSigned 63) (c .nearest-even .ensures) ∙ counted (evenOf (at-start .args .x)) h .1)
+    ∙ toZ-ofZ w64 (pos (evenOf (at-start .args .x))) (record { sfits = lt-of-le-of-lt h (lit< tt) })
 
 even : (c : tie.After-nearest-even) → natAbs (toZ w64 (ofZ w64 (toSigned 63 (c .nearest-even .result)))) ≡ evenOf (c .before .args .x)
 even c = ap natAbs (read c)
@@ -46,34 +46,34 @@ nearest-even-requires c κs = search needs
 
 float-to-int-n : tie.Need-float-to-int-n
 float-to-int-n c =
-    let e = c .before in
-    let s = e .before in
-    subst (λ (y : Float). T (inSigned binary64 63 y)) (sym (e .nearest-even .ensures)) (counted (evenOf (s .args .x)) (by-half (s .args .x) (s .pre .0) (s .pre .1) .0) .0)
+    let after-nearest-even = c .before in
+    let at-start = after-nearest-even .before in
+    subst (λ (y : Float). T (inSigned binary64 63 y)) (sym (after-nearest-even .nearest-even .ensures)) (counted (evenOf (at-start .args .x)) (by-half (at-start .args .x) (at-start .pre .0) (at-start .pre .1) .0) .0)
 
 cast-n : tie.Need-cast-n
 cast-n c =
-    let e = c .before in
-    let s = e .before in
-    subst (λ (z : ℤ). T (nonNeg z) × Fits w64 (natAbs z)) (sym (read e)) (tt, record { fits = lt-of-le-of-lt (by-half (s .args .x) (s .pre .0) (s .pre .1) .0) (lit< tt) })
+    let after-nearest-even = c .before in
+    let at-start = after-nearest-even .before in
+    subst (λ (z : ℤ). T (nonNeg z) × Fits w64 (natAbs z)) (sym (read after-nearest-even)) (tt, record { fits = lt-of-le-of-lt (by-half (at-start .args .x) (at-start .pre .0) (at-start .pre .1) .0) (lit< tt) })
 
 half-requires : tie.Need-half-requires
 half-requires c κs =
-    let e = c .before .before in
-    let s = e .before in
-    subst (λ (n : ℕ). n ≤ 2 ^ 32) (sym (even e)) (by-half (s .args .x) (s .pre .0) (s .pre .1) .0)
+    let after-nearest-even = c .before .before in
+    let at-start = after-nearest-even .before in
+    subst (λ (n : ℕ). n ≤ 2 ^ 32) (sym (even after-nearest-even)) (by-half (at-start .args .x) (at-start .pre .0) (at-start .pre .1) .0)
 
 returns : tie.Need-returns
 returns c =
-    let t = c .before in
-    let e = t .before .before in
-    let s = e .before in
-    c .half .ensures ∙ ap halfOf (even e) ∙ by-half (s .args .x) (s .pre .0) (s .pre .1) .1 (tested e _ (t .if1 .taken))
+    let in-then-1 = c .before in
+    let after-nearest-even = in-then-1 .before .before in
+    let at-start = after-nearest-even .before in
+    c .half .ensures ∙ ap halfOf (even after-nearest-even) ∙ by-half (at-start .args .x) (at-start .pre .0) (at-start .pre .1) .1 (tested after-nearest-even _ (in-then-1 .if1 .taken))
 
 returns-2 : tie.Need-returns-2
 returns-2 c =
-    let e = c .before .before in
-    let s = e .before in
-    even e ∙ by-half (s .args .x) (s .pre .0) (s .pre .1) .2 (tested e _ (c .if1 .left))
+    let after-nearest-even = c .before .before in
+    let at-start = after-nearest-even .before in
+    even after-nearest-even ∙ by-half (at-start .args .x) (at-start .pre .0) (at-start .pre .1) .2 (tested after-nearest-even _ (c .if1 .left))
 
 pub nearest-spec : {M : Type 1} → statement M
 nearest-spec =

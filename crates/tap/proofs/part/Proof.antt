@@ -22,16 +22,18 @@ int-to-float-y c = search needs
 
 returns : tie.Need-returns
 returns c =
-    let x = c .before .before .args .x in
-    let n = c .before .before .args .n in
-    let b = back (c .before .before) in
+    let at-start = c .before .before in
+    let x = at-start .args .x in
+    let n = at-start .args .n in
+    let b = back (at-start) in
     ap (λ (z : ℤ). given (exact z)) b ∙ ap given (parted-yes x n (subst (λ (y : ℤ). eq x (ofInt binary64 y) ≡ true) b (c .if1 .taken)))
 
 returns-2 : tie.Need-returns-2
 returns-2 c =
-    let x = c .before .before .args .x in
-    let n = c .before .before .args .n in
-    let b = back (c .before .before) in
+    let at-start = c .before .before in
+    let x = at-start .args .x in
+    let n = at-start .args .n in
+    let b = back (at-start) in
     subst (λ (y : ℤ). given (rounded y (sub binary64 x (ofInt binary64 y))) ≡ given (parted x n)) (sym b)
     (ap given (parted-no x n (subst (λ (y : ℤ). eq x (ofInt binary64 y) ≡ false) b (c .if1 .left))))
 

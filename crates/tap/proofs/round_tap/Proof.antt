@@ -45,7 +45,9 @@ tested : (c : tie.After-magnitude) (b : Bool) → lt (c .magnitude .result) (ofB
 tested c b h = ap (λ (y : Float). lt y (two-to 32)) (sym (size-is c)) ∙ ap (lt (c .magnitude .result)) (sym limit-is) ∙ h
 
 counted : (c : tie.After-nearest) → c .nearest .result ≡ nearestOf (size (c .before .before .before .before .before))
-counted c = c .nearest .ensures ∙ ap nearestOf (size-is (c .before .before))
+counted c =
+    let after-magnitude = c .before .before in
+    c .nearest .ensures ∙ ap nearestOf (size-is (after-magnitude))
 
 -- N, as the laws have it
 whole : (c : tie.After-with-sign) → toZ w64 (ofZ w64 (c .with-sign .result)) ≡ signed (negative (c .before .before .before .before .before .before)) (c .before .nearest .result)
@@ -62,66 +64,79 @@ magnitude-requires c κs = search needs
 
 nearest-requires : tie.Need-nearest-requires
 nearest-requires c κs =
-    let m = c .before in
-    (ap (lt (m .magnitude .result)) (sym limit-is) ∙ c .if2 .taken, ap (λ (y : Float). lt y nought) (m .magnitude .ensures) ∙ magnitude-low (m .before .scaled .result))
+    let after-magnitude = c .before in
+    let after-scaled = after-magnitude .before in
+    (ap (lt (after-magnitude .magnitude .result)) (sym limit-is) ∙ c .if2 .taken, ap (λ (y : Float). lt y nought) (after-magnitude .magnitude .ensures) ∙ magnitude-low (after-scaled .scaled .result))
 
 with-sign-requires : tie.Need-with-sign-requires
 with-sign-requires c κs =
-    let t = c .before in
-    let s = t .before .before .before .before in
-    size-small (s .args .fraction-bits) (s .args .tap) (c .nearest .result) (held s) (tested (t .before) true (t .if2 .taken)) (counted c)
+    let in-then-2 = c .before in
+    let after-magnitude = in-then-2 .before in
+    let at-start = after-magnitude .before .before .before in
+    size-small (at-start .args .fraction-bits) (at-start .args .tap) (c .nearest .result) (held at-start) (tested (after-magnitude) true (in-then-2 .if2 .taken)) (counted c)
 
 -- N is outside the bounds
 out : (c : tie.After-with-sign) → let s = c .before .before .before .before .before .before in most (negative s) < c .before .nearest .result → refused 6 0 ≡ roundedTap (s .args .fraction-bits) (s .args .tap)
 out c l =
-    let n = c .before in
-    let t = n .before in
-    let e = t .before .before .before in
-    let s = e .before in
-    refused-most (s .args .fraction-bits) (negative s) (n .nearest .result) (e .if1 .left) (s .args .tap) (held s) (tested (t .before) true (t .if2 .taken)) (sign s) (counted n) l
+    let after-nearest = c .before in
+    let in-then-2 = after-nearest .before in
+    let after-magnitude = in-then-2 .before in
+    let in-else-1 = after-magnitude .before .before in
+    let at-start = in-else-1 .before in
+    refused-most (at-start .args .fraction-bits) (negative at-start) (after-nearest .nearest .result) (in-else-1 .if1 .left) (at-start .args .tap) (held at-start) (tested (after-magnitude) true (in-then-2 .if2 .taken)) (sign at-start) (counted after-nearest) l
 
 returns-2 : tie.Need-returns-2
 returns-2 c =
-    let w = c .before in
-    record { answer = out w (above-most (negative (w .before .before .before .before .before .before)) (w .before .nearest .result) (ap (ltZ (pos (2 ^ 31 - 1))) (sym (whole w)) ∙ c .if3 .taken)) }
+    let after-with-sign = c .before in
+    let after-nearest = after-with-sign .before in
+    let at-start = after-nearest .before .before .before .before .before in
+    record { answer = out after-with-sign (above-most (negative (at-start)) (after-nearest .nearest .result) (ap (ltZ (pos (2 ^ 31 - 1))) (sym (whole after-with-sign)) ∙ c .if3 .taken)) }
 
 returns-3 : tie.Need-returns-3
 returns-3 c =
-    let w = c .before .before in
-    record { answer = out w (below-least (negative (w .before .before .before .before .before .before)) (w .before .nearest .result) (ap (λ (z : ℤ). ltZ z (negsuc (2 ^ 31 - 1))) (sym (whole w)) ∙ c .if4 .taken)) }
+    let after-with-sign = c .before .before in
+    let after-nearest = after-with-sign .before in
+    let at-start = after-nearest .before .before .before .before .before in
+    record { answer = out after-with-sign (below-least (negative (at-start)) (after-nearest .nearest .result) (ap (λ (z : ℤ). ltZ z (negsuc (2 ^ 31 - 1))) (sym (whole after-with-sign)) ∙ c .if4 .taken)) }
 
 -- N is within them
 within : (c : tie.Else4) → let w = c .before .before in w .before .nearest .result ≤ most (negative (w .before .before .before .before .before .before))
 within c =
-    let w = c .before .before in
-    between (negative (w .before .before .before .before .before .before)) (w .before .nearest .result) (ap (ltZ (pos (2 ^ 31 - 1))) (sym (whole w)) ∙ c .before .if3 .left)
-    (ap (λ (z : ℤ). ltZ z (negsuc (2 ^ 31 - 1))) (sym (whole w)) ∙ c .if4 .left)
+    let in-else-3 = c .before in
+    let after-with-sign = in-else-3 .before in
+    let after-nearest = after-with-sign .before in
+    let at-start = after-nearest .before .before .before .before .before in
+    between (negative (at-start)) (after-nearest .nearest .result) (ap (ltZ (pos (2 ^ 31 - 1))) (sym (whole after-with-sign)) ∙ in-else-3 .if3 .left)
+    (ap (λ (z : ℤ). ltZ z (negsuc (2 ^ 31 - 1))) (sym (whole after-with-sign)) ∙ c .if4 .left)
 
 cast-part : tie.Need-cast-part
 cast-part c =
-    let w = c .before .before in
-    subst (SFits w32) (sym (whole w)) (in-bounds (negative (w .before .before .before .before .before .before)) (w .before .nearest .result) (within c))
+    let after-with-sign = c .before .before in
+    let after-nearest = after-with-sign .before in
+    let at-start = after-nearest .before .before .before .before .before in
+    subst (SFits w32) (sym (whole after-with-sign)) (in-bounds (negative (at-start)) (after-nearest .nearest .result) (within c))
 
 part-requires : tie.Need-part-requires
 part-requires c κs = search needs
 
 returns-4 : tie.Need-returns-4
 returns-4 c =
-    let g = c .before in
-    let w = g .before .before in
-    let n = w .before in
-    let t = n .before in
-    let k = t .before .before in
-    let e = k .before in
-    let s = e .before in
-    let b = negative s in
-    let r = n .nearest .result in
+    let in-else-4 = c .before in
+    let after-with-sign = in-else-4 .before .before in
+    let after-nearest = after-with-sign .before in
+    let in-then-2 = after-nearest .before in
+    let after-magnitude = in-then-2 .before in
+    let after-scaled = after-magnitude .before in
+    let in-else-1 = after-scaled .before in
+    let at-start = in-else-1 .before in
+    let b = negative at-start in
+    let nearest-result = after-nearest .nearest .result in
     record {
       answer = c .part .ensures
-          ∙ ap (λ (z : ℤ). given (parted (k .scaled .result) (toZ w32 (ofZ w32 z)))) (whole w)
-          ∙ ap (λ (z : ℤ). given (parted (k .scaled .result) z)) (toZ-ofZ w32 (signed b r) (in-bounds b r (within g)))
-          ∙ ap (λ (x : Float). given (parted x (signed b r))) (k .scaled .ensures)
-          ∙ accepted (s .args .fraction-bits) b r (e .if1 .left) (s .args .tap) (held s) (tested (t .before) true (t .if2 .taken)) (sign s) (counted n) (within g);
+          ∙ ap (λ (z : ℤ). given (parted (after-scaled .scaled .result) (toZ w32 (ofZ w32 z)))) (whole after-with-sign)
+          ∙ ap (λ (z : ℤ). given (parted (after-scaled .scaled .result) z)) (toZ-ofZ w32 (signed b nearest-result) (in-bounds b nearest-result (within in-else-4)))
+          ∙ ap (λ (x : Float). given (parted x (signed b nearest-result))) (after-scaled .scaled .ensures)
+          ∙ accepted (at-start .args .fraction-bits) b nearest-result (in-else-1 .if1 .left) (at-start .args .tap) (held at-start) (tested (after-magnitude) true (in-then-2 .if2 .taken)) (sign at-start) (counted after-nearest) (within in-else-4);
     }
 
 is-finite-requires : tie.Need-is-finite-requires
@@ -129,18 +144,19 @@ is-finite-requires c κs = search needs
 
 returns-5 : tie.Need-returns-5
 returns-5 c =
-    let f = c .before in
-    let u = f .before in
-    let e = u .before .before .before in
-    let s = e .before in
-    record { answer = refused-size (s .args .fraction-bits) (s .args .tap) (held s) (e .if1 .left) (sym (f .is-finite .ensures) ∙ c .if5 .taken) (tested (u .before) false (u .if2 .left)) }
+    let after-is-finite = c .before in
+    let in-else-2 = after-is-finite .before in
+    let after-magnitude = in-else-2 .before in
+    let in-else-1 = after-magnitude .before .before in
+    let at-start = in-else-1 .before in
+    record { answer = refused-size (at-start .args .fraction-bits) (at-start .args .tap) (held at-start) (in-else-1 .if1 .left) (sym (after-is-finite .is-finite .ensures) ∙ c .if5 .taken) (tested (after-magnitude) false (in-else-2 .if2 .left)) }
 
 returns-6 : tie.Need-returns-6
 returns-6 c =
-    let f = c .before in
-    let e = f .before .before .before .before in
-    let s = e .before in
-    record { answer = refused-tap (s .args .fraction-bits) (s .args .tap) (e .if1 .left) (sym (f .is-finite .ensures) ∙ c .if5 .left) }
+    let after-is-finite = c .before in
+    let in-else-1 = after-is-finite .before .before .before .before in
+    let at-start = in-else-1 .before in
+    record { answer = refused-tap (at-start .args .fraction-bits) (at-start .args .tap) (in-else-1 .if1 .left) (sym (after-is-finite .is-finite .ensures) ∙ c .if5 .left) }
 
 pub round-tap-spec : {M : Type 1} → statement M
 round-tap-spec =

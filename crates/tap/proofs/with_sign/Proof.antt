@@ -17,22 +17,24 @@ cast-result : tie.Need-cast-result
 cast-result c = search needs
 
 sub-result : tie.Need-sub-result
-sub-result c = let s = c .before in subst (SFits w64) (sym (neg-is (s .args .size) (s .pre))) (neg-held (s .args .size) (s .pre))
+sub-result c =
+    let at-start = c .before in
+    subst (SFits w64) (sym (neg-is (at-start .args .size) (at-start .pre))) (neg-held (at-start .args .size) (at-start .pre))
 
 cast-result-2 : tie.Need-cast-result-2
 cast-result-2 c = search needs
 
 returns : tie.Need-returns
 returns c =
-    let s = c .before in
-    let n = s .args .size in
-    ap (λ (z : ℤ). toZ w64 (ofZ w64 z)) (neg-is n (s .pre)) ∙ toZ-ofZ w64 (negℤ (pos n)) (neg-held n (s .pre)) ∙ ap (λ (b : Bool). signed b n) (sym (c .if1 .taken))
+    let at-start = c .before in
+    let size = at-start .args .size in
+    ap (λ (z : ℤ). toZ w64 (ofZ w64 z)) (neg-is size (at-start .pre)) ∙ toZ-ofZ w64 (negℤ (pos size)) (neg-held size (at-start .pre)) ∙ ap (λ (b : Bool). signed b size) (sym (c .if1 .taken))
 
 returns-2 : tie.Need-returns-2
 returns-2 c =
-    let s = c .before in
-    let n = s .args .size in
-    toZ-pos w64 n (lt-of-le-of-lt (s .pre) (lit< tt)) ∙ ap (λ (b : Bool). signed b n) (sym (c .if1 .left))
+    let at-start = c .before in
+    let size = at-start .args .size in
+    toZ-pos w64 size (lt-of-le-of-lt (at-start .pre) (lit< tt)) ∙ ap (λ (b : Bool). signed b size) (sym (c .if1 .left))
 
 pub with-sign-spec : {M : Type 1} → statement M
 with-sign-spec = tie.close (tie.spec cast-result sub-result cast-result-2 returns returns-2)

@@ -48,12 +48,13 @@ loop-less c = search needs
 
 loop-again : tie.Need-loop-again Inv-loop μ-loop
 loop-again c =
-    let l = c .before .before in
-    let a = l .before .args in
-    let f = at (a .taps .now) (a .sum) in (
+    let at-loop = c .before .before in
+    let at-start = at-loop .before in
+    let args = at-start .args in
+    let f = at (args .taps .now) (args .sum) in (
       search needs,
-      ap (λ (t : List Float). set t (l .loop .i) (f (l .loop .i))) (l .loop .inv .1) ∙ front-next f (a .table .now) (l .loop .i) nan (omega arith),
-      length-set (l .loop .table) (l .loop .i) _ ∙ l .loop .inv .2,
+      ap (λ (t : List Float). set t (at-loop .loop .i) (f (at-loop .loop .i))) (at-loop .loop .inv .1) ∙ front-next f (args .table .now) (at-loop .loop .i) nan (omega arith),
+      length-set (at-loop .loop .table) (at-loop .loop .i) _ ∙ at-loop .loop .inv .2,
     )
 
 same-length : tie.Need-same-length Inv-loop μ-loop
@@ -61,9 +62,10 @@ same-length c = search needs
 
 returns : tie.Need-returns Inv-loop μ-loop
 returns c =
-    let l = c .before in
-    let a = l .before .args in
-    l .loop .inv .1 ∙ front-map (over (a .sum)) nan (a .taps .now) (a .table .now) (l .loop .i) (l .loop .inv .0) (c .loop-test .left)
+    let at-loop = c .before in
+    let at-start = at-loop .before in
+    let args = at-start .args in
+    at-loop .loop .inv .1 ∙ front-map (over (args .sum)) nan (args .taps .now) (args .table .now) (at-loop .loop .i) (at-loop .loop .inv .0) (c .loop-test .left)
 
 pub divide-spec : {M : Type 1} → statement M
 divide-spec =

@@ -36,11 +36,13 @@ is-finite-requires c κs = search needs
 
 returns : tie.Need-returns Inv-loop μ-loop
 returns c =
-    let t = c .before .before .before in
-    let l = t .before in
-    let xs = l .before .before .args .xs .now in
-    let b : breaks (getD xs (l .loop .i) nan) ≡ true = ap not (sym (c .before .is-finite .ensures)) ∙ c .if1 .taken in
-    ap (placeOr (length xs)) (sym (lowest-here nan breaks xs (l .loop .i) (t .loop-test .taken) b) ∙ l .loop .inv .1)
+    let after-is-finite = c .before in
+    let in-loop = after-is-finite .before .before in
+    let at-loop = in-loop .before in
+    let at-start = at-loop .before .before in
+    let xs = at-start .args .xs .now in
+    let b : breaks (getD xs (at-loop .loop .i) nan) ≡ true = ap not (sym (after-is-finite .is-finite .ensures)) ∙ c .if1 .taken in
+    ap (placeOr (length xs)) (sym (lowest-here nan breaks xs (at-loop .loop .i) (in-loop .loop-test .taken) b) ∙ at-loop .loop .inv .1)
 
 add-i : tie.Need-add-i Inv-loop μ-loop
 add-i c = search needs
@@ -50,18 +52,21 @@ loop-less c = search needs
 
 loop-again : tie.Need-loop-again Inv-loop μ-loop
 loop-again c =
-    let t = c .before .before .before in
-    let l = t .before in
-    let xs = l .before .before .args .xs .now in
-    let b : breaks (getD xs (l .loop .i) nan) ≡ false = ap not (sym (c .before .is-finite .ensures)) ∙ c .if1 .left in
-    (search needs, sym (lowest-later nan breaks xs (l .loop .i) (t .loop-test .taken) b) ∙ l .loop .inv .1)
+    let after-is-finite = c .before in
+    let in-loop = after-is-finite .before .before in
+    let at-loop = in-loop .before in
+    let at-start = at-loop .before .before in
+    let xs = at-start .args .xs .now in
+    let b : breaks (getD xs (at-loop .loop .i) nan) ≡ false = ap not (sym (after-is-finite .is-finite .ensures)) ∙ c .if1 .left in
+    (search needs, sym (lowest-later nan breaks xs (at-loop .loop .i) (in-loop .loop-test .taken) b) ∙ at-loop .loop .inv .1)
 
 returns-2 : tie.Need-returns-2 Inv-loop μ-loop
 returns-2 c =
-    let l = c .before in
-    let xs = l .before .before .args .xs .now in
-    let e : l .loop .i ≡ length xs = omega (arith, l .loop .inv .0, c .loop-test .left) in
-    e ∙ ap (placeOr (length xs)) (sym (lowest-none nan breaks xs (l .loop .i) (c .loop-test .left)) ∙ l .loop .inv .1)
+    let at-loop = c .before in
+    let at-start = at-loop .before .before in
+    let xs = at-start .args .xs .now in
+    let e : at-loop .loop .i ≡ length xs = omega (arith, at-loop .loop .inv .0, c .loop-test .left) in
+    e ∙ ap (placeOr (length xs)) (sym (lowest-none nan breaks xs (at-loop .loop .i) (c .loop-test .left)) ∙ at-loop .loop .inv .1)
 
 pub first-not-finite-spec : {M : Type 1} → statement M
 first-not-finite-spec =

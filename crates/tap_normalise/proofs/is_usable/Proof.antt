@@ -12,11 +12,16 @@ is-finite-requires c κs = search needs
 
 returns : tie.Need-returns
 returns c =
-    let x = c .before .before .args .sum in
-    ap (λ (k : Float). ne x k) zero-is ∙ usable-finite x (sym (c .before .is-finite .ensures) ∙ c .if1 .taken)
+    let after-is-finite = c .before in
+    let at-start = after-is-finite .before in
+    let sum = at-start .args .sum in
+    ap (λ (k : Float). ne sum k) zero-is ∙ usable-finite sum (sym (after-is-finite .is-finite .ensures) ∙ c .if1 .taken)
 
 returns-2 : tie.Need-returns-2
-returns-2 c = usable-never (c .before .before .args .sum) (sym (c .before .is-finite .ensures) ∙ c .if1 .left)
+returns-2 c =
+    let after-is-finite = c .before in
+    let at-start = after-is-finite .before in
+    usable-never (at-start .args .sum) (sym (after-is-finite .is-finite .ensures) ∙ c .if1 .left)
 
 pub is-usable-spec : {M : Type 1} → statement M
 is-usable-spec = tie.close (tie.spec is-finite-requires returns returns-2)

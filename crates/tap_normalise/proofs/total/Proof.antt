@@ -44,13 +44,16 @@ loop-less c = search needs
 
 loop-again : tie.Need-loop-again Inv-loop μ-loop
 loop-again c =
-    let l = c .before .before in
-    (search needs, sym (step (l .loop .sum) (l .before .args .taps .now) (l .loop .i) (c .before .loop-test .taken)) ∙ l .loop .inv .1)
+    let in-loop = c .before in
+    let at-loop = in-loop .before in
+    let at-start = at-loop .before in
+    (search needs, sym (step (at-loop .loop .sum) (at-start .args .taps .now) (at-loop .loop .i) (in-loop .loop-test .taken)) ∙ at-loop .loop .inv .1)
 
 returns : tie.Need-returns Inv-loop μ-loop
 returns c =
-    let l = c .before in
-    sym (done (l .loop .sum) (l .before .args .taps .now) (l .loop .i) (c .loop-test .left)) ∙ l .loop .inv .1
+    let at-loop = c .before in
+    let at-start = at-loop .before in
+    sym (done (at-loop .loop .sum) (at-start .args .taps .now) (at-loop .loop .i) (c .loop-test .left)) ∙ at-loop .loop .inv .1
 
 pub total-spec : {M : Type 1} → statement M
 total-spec = tie.close (tie.spec Inv-loop μ-loop loop-holds mul-sum shared-slice-read-sum add-i loop-less loop-again returns)

@@ -18,10 +18,14 @@ enum-told-2 : tie.Need-enum-told-2
 enum-told-2 c = search needs
 
 returns : tie.Need-returns
-returns c = ap (count (c .before .before .args .n)) (sym (c .enum-told .given .1))
+returns c =
+    let at-start = c .before .before in
+    ap (count (at-start .args .n)) (sym (c .enum-told .given .1))
 
 returns-2 : tie.Need-returns-2
-returns-2 c = ap (count (c .before .before .args .n)) (sym (c .enum-told2 .given .1))
+returns-2 c =
+    let at-start = c .before .before in
+    ap (count (at-start .args .n)) (sym (c .enum-told2 .given .1))
 
 pub accepted-spec : {M : Type 1} → statement M
 accepted-spec = tie.close (tie.spec enum-told enum-told-2 returns returns-2)

@@ -17,15 +17,17 @@ cast-t6 c = search needs
 
 returns : tie.Need-returns
 returns c =
-    let n = c .before in
-    let taps = n .before .before .args .taps .now in
-    ap (λ (p : Place). refuseAt {A = Report} p 5 (refused 7 0)) (sym (found notFinite taps (n .first-not-finite .result) (length taps) (n .first-not-finite .ensures) refl (c .if1 .taken)))
+    let after-first-not-finite = c .before in
+    let at-start = after-first-not-finite .before .before in
+    let taps = at-start .args .taps .now in
+    ap (λ (p : Place). refuseAt {A = Report} p 5 (refused 7 0)) (sym (found notFinite taps (after-first-not-finite .first-not-finite .result) (length taps) (after-first-not-finite .first-not-finite .ensures) refl (c .if1 .taken)))
 
 returns-2 : tie.Need-returns-2
 returns-2 c =
-    let n = c .before in
-    let taps = n .before .before .args .taps .now in
-    ap (λ (p : Place). refuseAt {A = Report} p 5 (refused 7 0)) (sym (found-none notFinite taps (n .first-not-finite .result) (length taps) (n .first-not-finite .ensures) refl (c .if1 .left)))
+    let after-first-not-finite = c .before in
+    let at-start = after-first-not-finite .before .before in
+    let taps = at-start .args .taps .now in
+    ap (λ (p : Place). refuseAt {A = Report} p 5 (refused 7 0)) (sym (found-none notFinite taps (after-first-not-finite .first-not-finite .result) (length taps) (after-first-not-finite .first-not-finite .ensures) refl (c .if1 .left)))
 
 pub no-sum-spec : {M : Type 1} → statement M
 no-sum-spec = tie.close (tie.spec first-not-finite-requires cast-t6 returns returns-2)

@@ -47,12 +47,15 @@ loop-holds c =
 
 -- in the loop's body, i is below 256 and below the buffer's length
 in-range : (c : tie.In-loop Inv-loop μ-loop) → c .before .loop .i < 256
-in-range c = lt-of-lt-of-le (c .loop-test .taken) (c .before .before .before .pre .0)
+in-range c =
+    let at-start = c .before .before .before in
+    lt-of-lt-of-le (c .loop-test .taken) (at-start .pre .0)
 
 room : (c : tie.In-loop Inv-loop μ-loop) → c .before .loop .i < length (c .before .loop .buffer)
 room c =
-    let l = c .before in
-    lt-of-lt-of-le (in-range c) (le-trans (l .before .before .pre .1) (le-of-eq (sym (l .loop .inv .4))))
+    let at-loop = c .before in
+    let at-start = at-loop .before .before in
+    lt-of-lt-of-le (in-range c) (le-trans (at-start .pre .1) (le-of-eq (sym (at-loop .loop .inv .4))))
 
 mul-round-tap : tie.Need-mul-round-tap Inv-loop μ-loop
 mul-round-tap c = search needs
@@ -67,19 +70,23 @@ is-refused-requires : tie.Need-is-refused-requires Inv-loop μ-loop
 is-refused-requires c κs = search needs
 
 cast-t13 : tie.Need-cast-t13 Inv-loop μ-loop
-cast-t13 c = record { fits = omega (arith, in-range (c .before .before .before .before)) }
+cast-t13 c =
+    let in-loop = c .before .before .before .before in
+    record { fits = omega (arith, in-range (in-loop)) }
 
 same-length : tie.Need-same-length Inv-loop μ-loop
 same-length c = search needs
 
 returns : tie.Need-returns Inv-loop μ-loop
 returns c =
-    let t = c .before .before .before .before in
-    let l = t .before in
-    let a = l .before .before .args in
-    let r = c .before .before in
-    let o : turned (a .f) (getD (a .xs .now) (l .loop .i) nan) ≡ true = ap isRefused (sym (r .round-tap .ensures .answer)) ∙ sym (c .before .is-refused .ensures) ∙ c .if1 .taken in
-    (tried-stop (a .f) (a .divisor) (a .xs .now) (l .loop .i) (l .loop .inv .1) (t .loop-test .taken) o, tt)
+    let after-is-refused = c .before in
+    let after-round-tap = after-is-refused .before in
+    let in-loop = after-round-tap .before .before in
+    let at-loop = in-loop .before in
+    let at-start = at-loop .before .before in
+    let args = at-start .args in
+    let o : turned (args .f) (getD (args .xs .now) (at-loop .loop .i) nan) ≡ true = ap isRefused (sym (after-round-tap .round-tap .ensures .answer)) ∙ sym (after-is-refused .is-refused .ensures) ∙ c .if1 .taken in
+    (tried-stop (args .f) (args .divisor) (args .xs .now) (at-loop .loop .i) (at-loop .loop .inv .1) (in-loop .loop-test .taken) o, tt)
 
 coefficient-requires : tie.Need-coefficient-requires Inv-loop μ-loop
 coefficient-requires c κs = search needs
@@ -88,7 +95,9 @@ mul-t8 : tie.Need-mul-t8 Inv-loop μ-loop
 mul-t8 c = search needs
 
 slice-set-from-buffer : tie.Need-slice-set-from-buffer Inv-loop μ-loop
-slice-set-from-buffer c = room (c .before .before .before .before .before)
+slice-set-from-buffer c =
+    let in-loop = c .before .before .before .before .before in
+    room (in-loop)
 
 with-tap-requires : tie.Need-with-tap-requires Inv-loop μ-loop
 with-tap-requires c κs = search needs
@@ -101,28 +110,30 @@ loop-less c = search needs
 
 loop-again : tie.Need-loop-again Inv-loop μ-loop
 loop-again c =
-    let k = c .before in
-    let u = k .before in
-    let r = u .before .before in
-    let t = r .before .before in
-    let l = t .before in
-    let a = l .before .before .args in
-    let i = l .loop .i in
-    let xs = a .xs .now in
+    let after-coefficient = c .before in
+    let in-else-1 = after-coefficient .before in
+    let after-is-refused = in-else-1 .before in
+    let after-round-tap = after-is-refused .before in
+    let in-loop = after-round-tap .before .before in
+    let at-loop = in-loop .before in
+    let at-start = at-loop .before .before in
+    let args = at-start .args in
+    let i = at-loop .loop .i in
+    let xs = args .xs .now in
     let x = getD xs i nan in
-    let p = answerOf (r .round-tap .result) in
-    let no : isRefused p ≡ false = sym (u .before .is-refused .ensures) ∙ u .if1 .left in
-    let w : toZ w32 (ofZ w32 (k .coefficient .result)) ≡ whole (a .f) x = toZ-ofZ w32 (k .coefficient .result) (record { sfits = k .coefficient .ok })
-    ∙ k .coefficient .ensures
-    ∙ whole-is (a .f) x p (r .round-tap .ensures .answer) no in
-    let q : c .with-tap .result ≡ withLeftover (l .loop .report) (leftOf (resultOf (a .f) x)) = c .with-tap .ensures ∙ ap (withLeftover (l .loop .report)) (left-is (a .f) x p (r .round-tap .ensures .answer) no) in (
+    let p = answerOf (after-round-tap .round-tap .result) in
+    let no : isRefused p ≡ false = sym (after-is-refused .is-refused .ensures) ∙ in-else-1 .if1 .left in
+    let w : toZ w32 (ofZ w32 (after-coefficient .coefficient .result)) ≡ whole (args .f) x = toZ-ofZ w32 (after-coefficient .coefficient .result) (record { sfits = after-coefficient .coefficient .ok })
+    ∙ after-coefficient .coefficient .ensures
+    ∙ whole-is (args .f) x p (after-round-tap .round-tap .ensures .answer) no in
+    let q : c .with-tap .result ≡ withLeftover (at-loop .loop .report) (leftOf (resultOf (args .f) x)) = c .with-tap .ensures ∙ ap (withLeftover (at-loop .loop .report)) (left-is (args .f) x p (after-round-tap .round-tap .ensures .answer) no) in (
       search needs,
-      sym (lowest-later nan (turned (a .f)) xs i (t .loop-test .taken) (ap isRefused (sym (r .round-tap .ensures .answer)) ∙ no)) ∙ l .loop .inv .1,
-      ap (λ (y : Report). reportFrom (a .f) y (drop (i + 1) xs)) q ∙ report-next (a .f) (l .loop .report) xs i (t .loop-test .taken) ∙ l .loop .inv .2,
-      ap (λ (z : ℤ). set (l .loop .buffer) i z) w
-          ∙ ap (λ (b : List ℤ). set b i (whole (a .f) x)) (l .loop .inv .3)
-          ∙ front-next (at (a .f) xs) (a .buffer .now) i (pos 0) (subst (λ (n : ℕ). i < n) (l .loop .inv .4) (room t)),
-      length-set (l .loop .buffer) i _ ∙ l .loop .inv .4,
+      sym (lowest-later nan (turned (args .f)) xs i (in-loop .loop-test .taken) (ap isRefused (sym (after-round-tap .round-tap .ensures .answer)) ∙ no)) ∙ at-loop .loop .inv .1,
+      ap (λ (y : Report). reportFrom (args .f) y (drop (i + 1) xs)) q ∙ report-next (args .f) (at-loop .loop .report) xs i (in-loop .loop-test .taken) ∙ at-loop .loop .inv .2,
+      ap (λ (z : ℤ). set (at-loop .loop .buffer) i z) w
+          ∙ ap (λ (b : List ℤ). set b i (whole (args .f) x)) (at-loop .loop .inv .3)
+          ∙ front-next (at (args .f) xs) (args .buffer .now) i (pos 0) (subst (λ (n : ℕ). i < n) (at-loop .loop .inv .4) (room in-loop)),
+      length-set (at-loop .loop .buffer) i _ ∙ at-loop .loop .inv .4,
     )
 
 same-length-2 : tie.Need-same-length-2 Inv-loop μ-loop
@@ -130,14 +141,14 @@ same-length-2 c = search needs
 
 returns-2 : tie.Need-returns-2 Inv-loop μ-loop
 returns-2 c =
-    let l = c .before in
-    let s = l .before .before in
-    let a = s .args in
-    let xs = a .xs .now in (
-      tried-end (a .f) (a .divisor) xs (l .loop .i) (l .loop .report) (l .loop .inv .1) (l .loop .inv .2) (c .loop-test .left),
-      l .loop .inv .3
-          ∙ front-map (whole (a .f)) nan xs (a .buffer .now) (l .loop .i) (l .loop .inv .0) (c .loop-test .left)
-          ∙ ap (λ (n : ℕ). map (whole (a .f)) xs ++ drop n (a .buffer .now)) (sym (length-map xs (whole (a .f)))),
+    let at-loop = c .before in
+    let at-start = at-loop .before .before in
+    let args = at-start .args in
+    let xs = args .xs .now in (
+      tried-end (args .f) (args .divisor) xs (at-loop .loop .i) (at-loop .loop .report) (at-loop .loop .inv .1) (at-loop .loop .inv .2) (c .loop-test .left),
+      at-loop .loop .inv .3
+          ∙ front-map (whole (args .f)) nan xs (args .buffer .now) (at-loop .loop .i) (at-loop .loop .inv .0) (c .loop-test .left)
+          ∙ ap (λ (n : ℕ). map (whole (args .f)) xs ++ drop n (args .buffer .now)) (sym (length-map xs (whole (args .f)))),
     )
 
 pub round-all-spec : {M : Type 1} → statement M

@@ -33,17 +33,19 @@ front-held taps sum rest table e s = ap (take (length taps)) (e ∙ ap (λ (y : 
 -- the sum can be divided by
 usable : (c : tie.Else1) → unusable (sumOf (c .before .before .before .before .args .taps .now)) ≡ false
 usable c =
-    let t = c .before .before in
-    let h = not-false (c .before .is-usable .result) (c .if1 .left) in
-    ap unusable (sym (t .total .ensures)) ∙ not-true (unusable (t .total .result)) (sym (c .before .is-usable .ensures) ∙ h)
+    let after-is-usable = c .before in
+    let after-total = after-is-usable .before in
+    let h = not-false (after-is-usable .is-usable .result) (c .if1 .left) in
+    ap unusable (sym (after-total .total .ensures)) ∙ not-true (unusable (after-total .total .result)) (sym (after-is-usable .is-usable .ensures) ∙ h)
 
 -- the front of the table holds the quotients
 held : (c : tie.After-divide) → let a = c .before .before .before .before .before .before .args in take (length (a .taps .now)) (c .divide .last .1 .1 .0) ≡ Q (a .taps .now)
 held c =
-    let t = c .before .before .before .before in
-    let a = t .before .before .args in
-    let taps = a .taps .now in
-    front-held taps (t .total .result) _ _ (c .divide .ensures) (t .total .ensures)
+    let after-total = c .before .before .before .before in
+    let at-start = after-total .before .before in
+    let args = at-start .args in
+    let taps = args .taps .now in
+    front-held taps (after-total .total .result) _ _ (c .divide .ensures) (after-total .total .ensures)
 
 -- the quotients, once they are rounded
 divided : (f : ℕ) (taps : List Float) (sum : Float) (ys : List Float) (old new : List ℤ) (r : Answer Report) → sum ≡ sumOf taps → unusable (sumOf taps) ≡ false → ys ≡ Q taps → r ≡ checked true f sum ys
@@ -67,14 +69,15 @@ no-sum-requires c κs = search needs
 
 returns : tie.Need-returns
 returns c =
-    let u = c .before .before in
-    let t = u .before in
-    let s = t .before .before in
-    let a = s .args in
-    let h = not-true (u .is-usable .result) (c .before .if1 .taken) in
-    let b : unusable (sumOf (a .taps .now)) ≡ true = ap unusable (sym (t .total .ensures)) ∙ not-false (unusable (t .total .result)) (sym (u .is-usable .ensures) ∙ h) in
-    let e = without-sum (a .f) (a .taps .now) b in
-    (c .no-sum .ensures ∙ e, kept (a .f) (a .taps .now) (a .coefficients .now) (lowest notFinite (a .taps .now)) e)
+    let in-then-1 = c .before in
+    let after-is-usable = in-then-1 .before in
+    let after-total = after-is-usable .before in
+    let at-start = after-total .before .before in
+    let args = at-start .args in
+    let h = not-true (after-is-usable .is-usable .result) (in-then-1 .if1 .taken) in
+    let b : unusable (sumOf (args .taps .now)) ≡ true = ap unusable (sym (after-total .total .ensures)) ∙ not-false (unusable (after-total .total .result)) (sym (after-is-usable .is-usable .ensures) ∙ h) in
+    let e = without-sum (args .f) (args .taps .now) b in
+    (c .no-sum .ensures ∙ e, kept (args .f) (args .taps .now) (args .coefficients .now) (lowest notFinite (args .taps .now)) e)
   where
     kept : (f : ℕ) (taps : List Float) (old : List ℤ) (p : Place) → refuseAt {A = Report} p 5 (refused 7 0) ≡ settled f true taps → old ≡ filled (settled f true taps) (coefficientsOf f (Q taps)) old
     kept f taps old nowhere e = ap (λ (b : Answer Report). filled b (coefficientsOf f (Q taps)) old) e
@@ -91,29 +94,32 @@ array-share-prefix-table c = search needs
 
 slice-aggregate-settle : tie.Need-slice-aggregate-settle
 slice-aggregate-settle c =
-    let d = c .before .before in
-    sym (ap length (held d) ∙ many (d .before .before .before .before .before .before .args .taps .now))
+    let after-divide = c .before .before in
+    let after-total = after-divide .before .before .before .before in
+    let at-start = after-total .before .before in
+    sym (ap length (held after-divide) ∙ many (at-start .args .taps .now))
 
 settle-requires : tie.Need-settle-requires
 settle-requires c κs =
-    let d = c .before .before .before in
-    let s = d .before .before .before .before .before .before in
-    let l = ap length (held d) ∙ many (s .args .taps .now) in
-    (s .pre .0, le-trans (le-of-eq l) (s .pre .1), le-trans (le-of-eq l) (s .pre .2))
+    let after-divide = c .before .before .before in
+    let after-total = after-divide .before .before .before .before in
+    let at-start = after-total .before .before in
+    let l = ap length (held after-divide) ∙ many (at-start .args .taps .now) in
+    (at-start .pre .0, le-trans (le-of-eq l) (at-start .pre .1), le-trans (le-of-eq l) (at-start .pre .2))
 
 same-length : tie.Need-same-length
 same-length c = search needs
 
 returns-2 : tie.Need-returns-2
 returns-2 c =
-    let k = c .before in
-    let d = k .before .before .before .before in
-    let e1 = d .before .before in
-    let t = e1 .before .before in
-    let s = t .before .before in
-    let a = s .args in
-    divided (a .f) (a .taps .now) (t .total .result) (take (length (a .taps .now)) (d .divide .last .1 .1 .0)) (a .coefficients .now) _ _ (t .total .ensures) (usable e1) (held d) (k .settle .ensures .0)
-    (k .settle .ensures .1)
+    let after-settle = c .before in
+    let after-divide = after-settle .before .before .before .before in
+    let in-else-1 = after-divide .before .before in
+    let after-total = in-else-1 .before .before in
+    let at-start = after-total .before .before in
+    let args = at-start .args in
+    divided (args .f) (args .taps .now) (after-total .total .result) (take (length (args .taps .now)) (after-divide .divide .last .1 .1 .0)) (args .coefficients .now) _ _ (after-total .total .ensures) (usable in-else-1) (held after-divide) (after-settle .settle .ensures .0)
+    (after-settle .settle .ensures .1)
 
 pub round-quotients-spec : {M : Type 1} → statement M
 round-quotients-spec =

@@ -46,47 +46,47 @@ module _ (F : ℕ) (taps : List Float) (old new : List ℤ) (r : Answer Report) 
 
 returns : tie.Need-returns
 returns c =
-    let s = c .before .before in
-    let a = s .args in
-    let e = no-taps (a .fraction-bits) (a .normalised) (a .taps .now) (length (a .coefficients .now)) (c .if1 .taken) in
-    record { answer = e; written = ap (table s) e }
+    let at-start = c .before .before in
+    let args = at-start .args in
+    let e = no-taps (args .fraction-bits) (args .normalised) (args .taps .now) (length (args .coefficients .now)) (c .if1 .taken) in
+    record { answer = e; written = ap (table at-start) e }
 
 returns-2 : tie.Need-returns-2
 returns-2 c =
-    let e1 = c .before in
-    let s = e1 .before .before in
-    let a = s .args in
-    let e = many-taps (a .fraction-bits) (a .normalised) (a .taps .now) (length (a .coefficients .now)) (e1 .if1 .left) (c .if2 .taken) in
-    record { answer = e; written = ap (table s) e }
+    let in-else-1 = c .before in
+    let at-start = in-else-1 .before .before in
+    let args = at-start .args in
+    let e = many-taps (args .fraction-bits) (args .normalised) (args .taps .now) (length (args .coefficients .now)) (in-else-1 .if1 .left) (c .if2 .taken) in
+    record { answer = e; written = ap (table at-start) e }
 
 returns-3 : tie.Need-returns-3
 returns-3 c =
-    let e2 = c .before in
-    let e1 = e2 .before in
-    let s = e1 .before .before in
-    let a = s .args in
-    let e = short-table (a .fraction-bits) (a .normalised) (a .taps .now) (length (a .coefficients .now)) (e1 .if1 .left) (e2 .if2 .left) (c .if3 .taken) in
-    record { answer = e; written = ap (table s) e }
+    let in-else-2 = c .before in
+    let in-else-1 = in-else-2 .before in
+    let at-start = in-else-1 .before .before in
+    let args = at-start .args in
+    let e = short-table (args .fraction-bits) (args .normalised) (args .taps .now) (length (args .coefficients .now)) (in-else-1 .if1 .left) (in-else-2 .if2 .left) (c .if3 .taken) in
+    record { answer = e; written = ap (table at-start) e }
 
 returns-4 : tie.Need-returns-4
 returns-4 c =
-    let e3 = c .before in
-    let e2 = e3 .before in
-    let e1 = e2 .before in
-    let s = e1 .before .before in
-    let a = s .args in
-    let e = many-bits (a .fraction-bits) (a .normalised) (a .taps .now) (length (a .coefficients .now)) (e1 .if1 .left) (e2 .if2 .left) (e3 .if3 .left) (c .if4 .taken) in
-    record { answer = e; written = ap (table s) e }
+    let in-else-3 = c .before in
+    let in-else-2 = in-else-3 .before in
+    let in-else-1 = in-else-2 .before in
+    let at-start = in-else-1 .before .before in
+    let args = at-start .args in
+    let e = many-bits (args .fraction-bits) (args .normalised) (args .taps .now) (length (args .coefficients .now)) (in-else-1 .if1 .left) (in-else-2 .if2 .left) (in-else-3 .if3 .left) (c .if4 .taken) in
+    record { answer = e; written = ap (table at-start) e }
 
 -- the checks 1 to 4 have passed
 settled-is : (c : tie.Else4) → let s = c .before .before .before .before .before in let a = s .args in settled (a .fraction-bits) (a .normalised) (a .taps .now) ≡ answer s
 settled-is c =
-    let e3 = c .before in
-    let e2 = e3 .before in
-    let e1 = e2 .before in
-    let s = e1 .before .before in
-    let a = s .args in
-    few-bits (a .fraction-bits) (a .normalised) (a .taps .now) (length (a .coefficients .now)) (e1 .if1 .left) (e2 .if2 .left) (e3 .if3 .left) (c .if4 .left)
+    let in-else-3 = c .before in
+    let in-else-2 = in-else-3 .before in
+    let in-else-1 = in-else-2 .before in
+    let at-start = in-else-1 .before .before in
+    let args = at-start .args in
+    few-bits (args .fraction-bits) (args .normalised) (args .taps .now) (length (args .coefficients .now)) (in-else-1 .if1 .left) (in-else-2 .if2 .left) (in-else-3 .if3 .left) (c .if4 .left)
 
 round-quotients-requires : tie.Need-round-quotients-requires
 round-quotients-requires c κs = search needs
@@ -99,22 +99,24 @@ same-length c = search needs
 
 returns-5 : tie.Need-returns-5
 returns-5 c =
-    let k = c .before in
-    let t = k .before .before in
-    let e4 = t .before in
-    let a = e4 .before .before .before .before .before .args in
-    divided (a .fraction-bits) (a .taps .now) (a .coefficients .now) _ _ (a .normalised) (t .if5 .taken) (settled-is e4) (k .round-quotients .ensures .0) (k .round-quotients .ensures .1)
+    let after-round-quotients = c .before in
+    let in-then-5 = after-round-quotients .before .before in
+    let in-else-4 = in-then-5 .before in
+    let at-start = in-else-4 .before .before .before .before .before in
+    let args = at-start .args in
+    divided (args .fraction-bits) (args .taps .now) (args .coefficients .now) _ _ (args .normalised) (in-then-5 .if5 .taken) (settled-is in-else-4) (after-round-quotients .round-quotients .ensures .0) (after-round-quotients .round-quotients .ensures .1)
 
 same-length-2 : tie.Need-same-length-2
 same-length-2 c = search needs
 
 returns-6 : tie.Need-returns-6
 returns-6 c =
-    let k = c .before in
-    let t = k .before .before in
-    let e4 = t .before in
-    let a = e4 .before .before .before .before .before .args in
-    undivided (a .fraction-bits) (a .taps .now) (a .coefficients .now) _ _ (a .normalised) (t .if5 .left) (settled-is e4) (ofBits binary64 0x3ff0_0000_0000_0000) one-is (k .settle .ensures .0) (k .settle .ensures .1)
+    let after-settle = c .before in
+    let in-else-5 = after-settle .before .before in
+    let in-else-4 = in-else-5 .before in
+    let at-start = in-else-4 .before .before .before .before .before in
+    let args = at-start .args in
+    undivided (args .fraction-bits) (args .taps .now) (args .coefficients .now) _ _ (args .normalised) (in-else-5 .if5 .left) (settled-is in-else-4) (ofBits binary64 0x3ff0_0000_0000_0000) one-is (after-settle .settle .ensures .0) (after-settle .settle .ensures .1)
 
 pub round-taps-spec : {M : Type 1} → statement M
 round-taps-spec =

@@ -42,12 +42,12 @@ left cs rest old new buffer (refused number place) k n e a l w = e ∙ ap (λ (i
 -- the table after the copy, by the answer that `round_all` gave
 copied : (c : tie.After-copy) → let r = c .before .before .before .before .before in c .copy .last .1 .1 .0 ≡ table (r .before .before .before) (answerOf (r .round-all .result))
 copied c =
-    let p = c .before .before in
-    let r = p .before .before .before in
-    let s = r .before .before .before in
-    let a = s .args in
-    left (coefficientsOf (a .f) (a .xs .now)) _ (a .coefficients .now) _ _ (answerOf (r .round-all .result)) (p .accepted .result) (length (a .xs .now)) (c .copy .ensures) (p .accepted .ensures)
-    (length-map (a .xs .now) (whole (a .f))) (r .round-all .ensures .1)
+    let after-accepted = c .before .before in
+    let after-round-all = after-accepted .before .before .before in
+    let at-start = after-round-all .before .before .before in
+    let args = at-start .args in
+    left (coefficientsOf (args .f) (args .xs .now)) _ (args .coefficients .now) _ _ (answerOf (after-round-all .round-all .result)) (after-accepted .accepted .result) (length (args .xs .now)) (c .copy .ensures) (after-accepted .accepted .ensures)
+    (length-map (args .xs .now) (whole (args .f))) (after-round-all .round-all .ensures .1)
 
 slice-aggregate-round-all : tie.Need-slice-aggregate-round-all
 slice-aggregate-round-all c = search needs
@@ -63,11 +63,11 @@ accepted-requires c κs = search needs
 
 copy-requires : tie.Need-copy-requires
 copy-requires c κs =
-    let p = c .before in
-    let r = p .before .before .before in
-    let s = r .before .before .before in
-    let h = le-trans (le-of-eq (p .accepted .ensures)) (accepted-le (answerOf (r .round-all .result)) (length (s .args .xs .now))) in
-    (le-trans h (search needs), le-trans h (s .pre .2))
+    let after-accepted = c .before in
+    let after-round-all = after-accepted .before .before .before in
+    let at-start = after-round-all .before .before .before in
+    let h = le-trans (le-of-eq (after-accepted .accepted .ensures)) (accepted-le (answerOf (after-round-all .round-all .result)) (length (at-start .args .xs .now))) in
+    (le-trans h (search needs), le-trans h (at-start .pre .2))
 
 enum-known-answer : tie.Need-enum-known-answer
 enum-known-answer c = search needs
@@ -89,45 +89,47 @@ same-length c = search needs
 
 returns : tie.Need-returns
 returns c =
-    let m = c .before in
-    let k = m .before .before .before in
-    let r = k .before .before .before .before .before in
-    let s = r .before .before .before in
-    let a = s .args in
-    let told = ap answerOf (m .answer .given .1) in
-    let e = checked-all (a .normalised) (a .f) (a .divisor) (a .xs .now) _ (sym told ∙ r .round-all .ensures .0) in
-    (e, copied k ∙ ap (table s) (told ∙ e))
+    let after-answer = c .before in
+    let after-copy = after-answer .before .before .before in
+    let after-round-all = after-copy .before .before .before .before .before in
+    let at-start = after-round-all .before .before .before in
+    let args = at-start .args in
+    let told = ap answerOf (after-answer .answer .given .1) in
+    let e = checked-all (args .normalised) (args .f) (args .divisor) (args .xs .now) _ (sym told ∙ after-round-all .round-all .ensures .0) in
+    (e, copied after-copy ∙ ap (table at-start) (told ∙ e))
 
 same-length-2 : tie.Need-same-length-2
 same-length-2 c = search needs
 
 returns-2 : tie.Need-returns-2
 returns-2 c =
-    let n = c .before .before in
-    let m = n .before .before in
-    let k = m .before .before .before in
-    let s = k .before .before .before .before .before .before .before .before in
-    let a = s .args in
-    let xs = a .xs .now in
-    let i = n .first-not-finite .result in
-    let p = checked-stop (a .normalised) (a .f) (a .divisor) xs i (found notFinite xs i (length xs) (n .first-not-finite .ensures) refl (c .before .if1 .taken)) in
-    (c .not-finite .ensures ∙ p, copied k ∙ ap (λ (b : RoundedTaps). table s (answerOf b)) (m .answer2 .given .1) ∙ ap (table s) p)
+    let in-then-1 = c .before in
+    let after-first-not-finite = in-then-1 .before in
+    let after-answer2 = after-first-not-finite .before .before in
+    let after-copy = after-answer2 .before .before .before in
+    let after-round-all = after-copy .before .before .before .before .before in
+    let at-start = after-round-all .before .before .before in
+    let args = at-start .args in
+    let xs = args .xs .now in
+    let first-not-finite-result = after-first-not-finite .first-not-finite .result in
+    let p = checked-stop (args .normalised) (args .f) (args .divisor) xs first-not-finite-result (found notFinite xs first-not-finite-result (length xs) (after-first-not-finite .first-not-finite .ensures) refl (in-then-1 .if1 .taken)) in
+    (c .not-finite .ensures ∙ p, copied after-copy ∙ ap (λ (b : RoundedTaps). table at-start (answerOf b)) (after-answer2 .answer2 .given .1) ∙ ap (table at-start) p)
 
 same-length-3 : tie.Need-same-length-3
 same-length-3 c = search needs
 
 returns-3 : tie.Need-returns-3
 returns-3 c =
-    let n = c .before in
-    let m = n .before .before in
-    let k = m .before .before .before in
-    let r = k .before .before .before .before .before in
-    let s = r .before .before .before in
-    let a = s .args in
-    let xs = a .xs .now in
-    let told = ap answerOf (m .answer2 .given .1) in
-    let q = r .round-all .ensures .0 ∙ checked-tried (a .normalised) (a .f) (a .divisor) xs (s .pre .0) (found-none notFinite xs (n .first-not-finite .result) (length xs) (n .first-not-finite .ensures) refl (c .if1 .left)) in
-    (sym told ∙ q, copied k ∙ ap (table s) q)
+    let after-first-not-finite = c .before in
+    let after-answer2 = after-first-not-finite .before .before in
+    let after-copy = after-answer2 .before .before .before in
+    let after-round-all = after-copy .before .before .before .before .before in
+    let at-start = after-round-all .before .before .before in
+    let args = at-start .args in
+    let xs = args .xs .now in
+    let told = ap answerOf (after-answer2 .answer2 .given .1) in
+    let q = after-round-all .round-all .ensures .0 ∙ checked-tried (args .normalised) (args .f) (args .divisor) xs (at-start .pre .0) (found-none notFinite xs (after-first-not-finite .first-not-finite .result) (length xs) (after-first-not-finite .first-not-finite .ensures) refl (c .if1 .left)) in
+    (sym told ∙ q, copied after-copy ∙ ap (table at-start) q)
 
 pub settle-spec : {M : Type 1} → statement M
 settle-spec =

@@ -20,8 +20,10 @@ report d l = record { divisor = d; leftover = l }
 returns : tie.Need-returns
 unfolding withLeftover report
 returns c =
-    let r = c .before .before .args .report in
-    ap (report (r .divisor)) (c .larger .ensures ∙ ap (largerOf (r .leftover)) (c .before .leftover .ensures))
+    let after-leftover = c .before in
+    let at-start = after-leftover .before in
+    let r = at-start .args .report in
+    ap (report (r .divisor)) (c .larger .ensures ∙ ap (largerOf (r .leftover)) (after-leftover .leftover .ensures))
 
 pub with-tap-spec : {M : Type 1} → statement M
 with-tap-spec = tie.close (tie.spec leftover-requires larger-requires returns)

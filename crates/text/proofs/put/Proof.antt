@@ -36,13 +36,15 @@ loop-less c = search needs
 
 loop-again : tie.Need-loop-again Inv-loop μ-loop
 loop-again c =
-    let at = c .before .before in
-    let a = at .before .args in
-    let i = at .loop .i in (
+    let in-loop = c .before in
+    let at-loop = in-loop .before in
+    let at-start = at-loop .before in
+    let args = at-start .args in
+    let i = at-loop .loop .i in (
       search needs,
       (
-        ap (λ l. set l (a .at + i) (getD (a .text .now) i 0)) (at .loop .inv .1 .0) ∙ sets-next (a .text .now) (a .out .now) (a .at) i (c .before .loop-test .taken),
-        simp length-set (at .loop .inv .1 .1),
+        ap (λ l. set l (args .at + i) (getD (args .text .now) i 0)) (at-loop .loop .inv .1 .0) ∙ sets-next (args .text .now) (args .out .now) (args .at) i (in-loop .loop-test .taken),
+        simp length-set (at-loop .loop .inv .1 .1),
       ),
     )
 
@@ -54,10 +56,12 @@ same-length c = search needs
 
 returns : tie.Need-returns Inv-loop μ-loop
 returns c =
-    let a = c .before .before .args in
+    let at-loop = c .before in
+    let at-start = at-loop .before in
+    let args = at-start .args in
     record {
       next = refl;
-      text = c .before .loop .inv .1 .0 ∙ ap (λ t. sets (a .out .now) (a .at) t) (take-all (c .before .loop .i) (a .text .now) (c .loop-test .left));
+      text = at-loop .loop .inv .1 .0 ∙ ap (λ t. sets (args .out .now) (args .at) t) (take-all (at-loop .loop .i) (args .text .now) (c .loop-test .left));
       within = omega arith;
     }
 

@@ -28,15 +28,16 @@ same-length c = search needs
 
 returns : tie.Need-returns
 returns c =
-    let d = c .before .before in
-    let b = d .before .before .before .before in
-    let t = b .before .before in
-    let m = t .before .magnitude in
-    let s = t .before .before .before in
-    let a = s .args in
-    let e = negative (a .n) (low w32 w32 (a .n) (s .fits .n) (lit≤ tt) (t .if1 .taken)) in
-    rw e (subst (λ k. Put (a .out .now) (a .at) (45 ∷ decimal k) integerBytes (d .put-number .last .0) (d .put-number .result)) (m .ensures ∙ ap natAbs (toZ-ofZ w32 (a .n) (s .fits .n)))
-    (then (b .put-byte .ensures) (d .put-number .ensures)))
+    let after-put-number = c .before .before in
+    let after-put-byte = after-put-number .before .before .before .before in
+    let in-then-1 = after-put-byte .before .before in
+    let after-magnitude = in-then-1 .before in
+    let at-start = after-magnitude .before .before in
+    let magnitude = after-magnitude .magnitude in
+    let args = at-start .args in
+    let e = negative (args .n) (low w32 w32 (args .n) (at-start .fits .n) (lit≤ tt) (in-then-1 .if1 .taken)) in
+    rw e (subst (λ k. Put (args .out .now) (args .at) (45 ∷ decimal k) integerBytes (after-put-number .put-number .last .0) (after-put-number .put-number .result)) (magnitude .ensures ∙ ap natAbs (toZ-ofZ w32 (args .n) (at-start .fits .n)))
+    (then (after-put-byte .put-byte .ensures) (after-put-number .put-number .ensures)))
 
 put-number-requires-2 : tie.Need-put-number-requires-2
 put-number-requires-2 c κs = search needs
@@ -46,14 +47,15 @@ same-length-2 c = search needs
 
 returns-2 : tie.Need-returns-2
 returns-2 c =
-    let d = c .before .before in
-    let t = d .before .before in
-    let m = t .before .magnitude in
-    let s = t .before .before .before in
-    let a = s .args in
-    let e = not-negative (a .n) (high w32 w32 (a .n) (s .fits .n) (lit≤ tt) (t .if1 .left)) in
-    rw e (subst (λ k. Put (a .out .now) (a .at) (decimal k) integerBytes (d .put-number2 .last .0) (d .put-number2 .result)) (m .ensures ∙ ap natAbs (toZ-ofZ w32 (a .n) (s .fits .n)))
-    (widen (lit≤ tt) (d .put-number2 .ensures)))
+    let after-put-number2 = c .before .before in
+    let in-else-1 = after-put-number2 .before .before in
+    let after-magnitude = in-else-1 .before in
+    let at-start = after-magnitude .before .before in
+    let magnitude = after-magnitude .magnitude in
+    let args = at-start .args in
+    let e = not-negative (args .n) (high w32 w32 (args .n) (at-start .fits .n) (lit≤ tt) (in-else-1 .if1 .left)) in
+    rw e (subst (λ k. Put (args .out .now) (args .at) (decimal k) integerBytes (after-put-number2 .put-number2 .last .0) (after-put-number2 .put-number2 .result)) (magnitude .ensures ∙ ap natAbs (toZ-ofZ w32 (args .n) (at-start .fits .n)))
+    (widen (lit≤ tt) (after-put-number2 .put-number2 .ensures)))
 
 pub put-integer-spec : {M : Type 1} → statement M
 put-integer-spec =

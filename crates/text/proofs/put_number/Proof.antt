@@ -21,23 +21,24 @@ slice-aggregate-put c = search needs
 
 put-requires : tie.Need-put-requires
 put-requires c κs =
-    let d = c .before .before in
-    let s = d .before .before .before in
-    let e = d .decimal .ensures .1 .1 ∙ digits-decimal (d .decimal .result) (s .args .n) (d .decimal .ensures .1 .0) in
-    rw e (omega (arith, s .pre, decimal-le numberBytes (s .args .n) (lit≤ tt) (omega (arith, s .fits .n))))
+    let after-decimal = c .before .before in
+    let at-start = after-decimal .before .before .before in
+    let e = after-decimal .decimal .ensures .1 .1 ∙ digits-decimal (after-decimal .decimal .result) (at-start .args .n) (after-decimal .decimal .ensures .1 .0) in
+    rw e (omega (arith, at-start .pre, decimal-le numberBytes (at-start .args .n) (lit≤ tt) (omega (arith, at-start .fits .n))))
 
 same-length : tie.Need-same-length
 same-length c = search needs
 
 returns : tie.Need-returns
 returns c =
-    let d = c .before .before .before .before .before in
-    let s = d .before .before .before in
-    let a = s .args in
-    let e = d .decimal .ensures .1 .1 ∙ digits-decimal (d .decimal .result) (a .n) (d .decimal .ensures .1 .0) in
-    let p = c .before .before .put in
-    widen (decimal-le numberBytes (a .n) (lit≤ tt) (omega (arith, s .fits .n)))
-    (subst (λ t. Put (a .out .now) (a .at) t (length t) (p .last .0) (p .result)) e (p .ensures))
+    let after-put = c .before .before in
+    let after-decimal = after-put .before .before .before in
+    let at-start = after-decimal .before .before .before in
+    let args = at-start .args in
+    let e = after-decimal .decimal .ensures .1 .1 ∙ digits-decimal (after-decimal .decimal .result) (args .n) (after-decimal .decimal .ensures .1 .0) in
+    let put = after-put .put in
+    widen (decimal-le numberBytes (args .n) (lit≤ tt) (omega (arith, at-start .fits .n)))
+    (subst (λ t. Put (args .out .now) (args .at) t (length t) (put .last .0) (put .result)) e (put .ensures))
 
 pub put-number-spec : {M : Type 1} → statement M
 put-number-spec =

@@ -21,8 +21,9 @@ loop-holds c = (search needs, record { left = 32; within = omega arith; bit-is =
 
 of-odd-requires : tie.Need-of-odd-requires Inv-loop μ-loop
 of-odd-requires c κs =
-    let l = c .before in
-    room (l .before .args .magnitude) (l .loop .bit) (l .loop .here) (l .loop .next) (l .loop .inv .1) (c .loop-test .taken)
+    let at-loop = c .before in
+    let at-start = at-loop .before in
+    room (at-start .args .magnitude) (at-loop .loop .bit) (at-loop .loop .here) (at-loop .loop .next) (at-loop .loop .inv .1) (c .loop-test .taken)
 
 div-if1 : tie.Need-div-if1 Inv-loop μ-loop
 div-if1 c = search needs
@@ -32,24 +33,28 @@ loop-less c = search needs
 
 loop-again : tie.Need-loop-again Inv-loop μ-loop
 loop-again c =
-    let l = c .before .before .before in
-    let m = l .before .args .magnitude in
-    let h = l .loop .here in
-    let x = l .loop .next in
-    let o = c .before .of-odd in
-    let w = l .loop .inv .1 in
-    let p = c .before .before .loop-test .taken in (
+    let after-of-odd = c .before in
+    let in-loop = after-of-odd .before in
+    let at-loop = in-loop .before in
+    let at-start = at-loop .before in
+    let magnitude = at-start .args .magnitude in
+    let h = at-loop .loop .here in
+    let x = at-loop .loop .next in
+    let of-odd = after-of-odd .of-odd in
+    let w = at-loop .loop .inv .1 in
+    let loop-test-taken = in-loop .loop-test .taken in (
       search needs,
       ⊎-elim
-          (λ a. walked-by (walked-even m (l .loop .bit) h x w p (a .0 .taken)) (c .if1 .here) (c .if1 .next) (a .1) (a .2 ∙ o .ensures))
-          (λ a. walked-by (walked-odd m (l .loop .bit) h x w p (a .0 .left)) (c .if1 .here) (c .if1 .next) (a .1 ∙ o .ensures) (a .2))
+          (λ a. walked-by (walked-even magnitude (at-loop .loop .bit) h x w loop-test-taken (a .0 .taken)) (c .if1 .here) (c .if1 .next) (a .1) (a .2 ∙ of-odd .ensures))
+          (λ a. walked-by (walked-odd magnitude (at-loop .loop .bit) h x w loop-test-taken (a .0 .left)) (c .if1 .here) (c .if1 .next) (a .1 ∙ of-odd .ensures) (a .2))
           (c .if1 .came),
     )
 
 returns : tie.Need-returns Inv-loop μ-loop
 returns c =
-    let l = c .before in
-    record { least = walked-all (l .before .args .magnitude) (l .loop .bit) (l .loop .here) (l .loop .next) (l .loop .inv .1) (omega (arith, c .loop-test .left)) }
+    let at-loop = c .before in
+    let at-start = at-loop .before in
+    record { least = walked-all (at-start .args .magnitude) (at-loop .loop .bit) (at-loop .loop .here) (at-loop .loop .next) (at-loop .loop .inv .1) (omega (arith, c .loop-test .left)) }
 
 pub least-spec : {M : Type 1} → statement M
 least-spec =

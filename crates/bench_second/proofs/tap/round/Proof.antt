@@ -12,18 +12,22 @@ refused-requires c κs = search needs
 
 returns : tie.Need-returns
 returns c =
-    let a = c .before .before .args in
-    refused-4 (a .tap) (a .f) (c .refused .result .refusal) (c .refused .result .negative) (c .refused .result .size) (c .before .if1 .taken) (c .refused .ensures .0) (c .refused .ensures .1)
+    let in-then-1 = c .before in
+    let at-start = in-then-1 .before in
+    let args = at-start .args in
+    refused-4 (args .tap) (args .f) (c .refused .result .refusal) (c .refused .result .negative) (c .refused .result .size) (in-then-1 .if1 .taken) (c .refused .ensures .0) (c .refused .ensures .1)
 
 refused-requires-2 : tie.Need-refused-requires-2
 refused-requires-2 c κs = search needs
 
 returns-2 : tie.Need-returns-2
 returns-2 c =
-    let e = c .before .before in
-    let a = e .before .args in
-    let r = c .refused2 in
-    refused-5 (a .tap) (a .f) (r .result .refusal) (r .result .negative) (r .result .size) (e .if1 .left) (not-finite (a .tap) (c .before .if2 .taken)) (r .ensures .0) (r .ensures .1)
+    let in-then-2 = c .before in
+    let in-else-1 = in-then-2 .before in
+    let at-start = in-else-1 .before in
+    let args = at-start .args in
+    let refused2 = c .refused2 in
+    refused-5 (args .tap) (args .f) (refused2 .result .refusal) (refused2 .result .negative) (refused2 .result .size) (in-else-1 .if1 .left) (not-finite (args .tap) (in-then-2 .if2 .taken)) (refused2 .ensures .0) (refused2 .ensures .1)
 
 signed-requires : tie.Need-signed-requires
 signed-requires c κs = search needs
@@ -36,10 +40,12 @@ refused-requires-3 c κs = search needs
 
 returns-3 : tie.Need-returns-3
 returns-3 c =
-    let e = c .before .before .before .before in
-    let a = e .before .before .args in
-    let r = c .refused3 in
-    refused-6 (a .tap) (a .f) (r .result .refusal) (r .result .negative) (r .result .size) (e .before .if1 .left) (is-finite (a .tap) (e .if2 .left)) (r .ensures .0) (r .ensures .1)
+    let in-else-2 = c .before .before .before .before in
+    let in-else-1 = in-else-2 .before in
+    let at-start = in-else-1 .before in
+    let args = at-start .args in
+    let refused3 = c .refused3 in
+    refused-6 (args .tap) (args .f) (refused3 .result .refusal) (refused3 .result .negative) (refused3 .result .size) (in-else-1 .if1 .left) (is-finite (args .tap) (in-else-2 .if2 .left)) (refused3 .ensures .0) (refused3 .ensures .1)
 
 whole-part-requires : tie.Need-whole-part-requires
 whole-part-requires c κs = search needs
@@ -55,19 +61,26 @@ refused-requires-4 c κs = search needs
 
 returns-4 : tie.Need-returns-4
 returns-4 c =
-    let e = c .before .before .before .before .before .before .before .before .before in
-    let a = e .before .before .args in
-    let r = c .refused4 in
-    refused-6 (a .tap) (a .f) (r .result .refusal) (r .result .negative) (r .result .size) (e .before .if1 .left) (is-finite (a .tap) (e .if2 .left)) (r .ensures .0) (r .ensures .1)
+    let after-whole-part = c .before .before .before .before .before in
+    let in-else-2 = after-whole-part .before .before .before .before in
+    let in-else-1 = in-else-2 .before in
+    let at-start = in-else-1 .before in
+    let args = at-start .args in
+    let refused4 = c .refused4 in
+    refused-6 (args .tap) (args .f) (refused4 .result .refusal) (refused4 .result .negative) (refused4 .result .size) (in-else-1 .if1 .left) (is-finite (args .tap) (in-else-2 .if2 .left)) (refused4 .ensures .0) (refused4 .ensures .1)
 
 signed-requires-2 : tie.Need-signed-requires-2
 signed-requires-2 c κs = search needs
 
 returns-5 : tie.Need-returns-5
 returns-5 c =
-    let e = c .before .before .before .before .before .before .before .before .before .before in
-    let a = e .before .before .args in
-    given (a .tap) (a .f) _ _ _ (e .before .if1 .left) (is-finite (a .tap) (e .if2 .left)) refl (omega arith) (λ h. omega (arith, c .before .before .before .most .ensures .1 h))
+    let after-most = c .before .before .before in
+    let after-doubled = after-most .before .before .before .before .before in
+    let in-else-2 = after-doubled .before .before in
+    let in-else-1 = in-else-2 .before in
+    let at-start = in-else-1 .before in
+    let args = at-start .args in
+    given (args .tap) (args .f) _ _ _ (in-else-1 .if1 .left) (is-finite (args .tap) (in-else-2 .if2 .left)) refl (omega arith) (λ h. omega (arith, after-most .most .ensures .1 h))
 
 pub round-spec : {M : Type 1} → statement M
 round-spec =

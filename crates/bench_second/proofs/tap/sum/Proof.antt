@@ -45,13 +45,15 @@ loop-less c = search needs
 
 loop-again : tie.Need-loop-again Inv-loop μ-loop
 loop-again c =
-    let l = c .before .before in
-    (search needs, search needs, sym (step (l .loop .s) (l .before .args .taps .now) (l .loop .i) (omega arith)) ∙ l .loop .inv .2)
+    let at-loop = c .before .before in
+    let at-start = at-loop .before in
+    (search needs, search needs, sym (step (at-loop .loop .s) (at-start .args .taps .now) (at-loop .loop .i) (omega arith)) ∙ at-loop .loop .inv .2)
 
 returns : tie.Need-returns Inv-loop μ-loop
 returns c =
-    let l = c .before in
-    record { sum = sym (done (l .loop .s) (l .before .args .taps .now) (l .loop .i) (omega arith)) ∙ l .loop .inv .2 }
+    let at-loop = c .before in
+    let at-start = at-loop .before in
+    record { sum = sym (done (at-loop .loop .s) (at-start .args .taps .now) (at-loop .loop .i) (omega arith)) ∙ at-loop .loop .inv .2 }
 
 pub sum-spec : {M : Type 1} → statement M
 sum-spec =

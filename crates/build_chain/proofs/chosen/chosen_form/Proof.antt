@@ -21,12 +21,13 @@ canonical-requires c κs = search needs
 
 returns : tie.Need-returns
 returns c =
-    let s = c .before .before in
-    let v = s .args .v in
+    let in-then-1 = c .before in
+    let at-start = in-then-1 .before in
+    let v = at-start .args .v in
     c .canonical .ensures .masks
-    ∙ ap (λ (z : ℤ). formOf (canonical 32 z)) (toZ-ofZ w32 (pos v) (record { sfits = s .pre .0 }))
-    ∙ ap formOf (first-chosen v (omega (arith, s .pre .0)))
-    ∙ ap (λ (k : ℕ). formOf (chosenForm v k)) (sym (c .before .if1 .taken))
+    ∙ ap (λ (z : ℤ). formOf (canonical 32 z)) (toZ-ofZ w32 (pos v) (record { sfits = at-start .pre .0 }))
+    ∙ ap formOf (first-chosen v (omega (arith, at-start .pre .0)))
+    ∙ ap (λ (k : ℕ). formOf (chosenForm v k)) (sym (in-then-1 .if1 .taken))
 
 listed-form-requires : tie.Need-listed-form-requires
 listed-form-requires c κs = search needs

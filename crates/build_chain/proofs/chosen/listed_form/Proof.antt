@@ -38,28 +38,32 @@ mul-t12 : tie.Need-mul-t12
 mul-t12 c = search needs
 
 array-read-t15 : tie.Need-array-read-t15
-array-read-t15 c = within (c .before .before .before .before .before)
+array-read-t15 c =
+    let at-start = c .before .before .before .before .before in
+    within (at-start)
 
 mul-t16 : tie.Need-mul-t16
 mul-t16 c = search needs
 
 array-read-t19 : tie.Need-array-read-t19
-array-read-t19 c = within (c .before .before .before .before .before)
+array-read-t19 c =
+    let at-start = c .before .before .before .before .before in
+    within (at-start)
 
 returns : tie.Need-returns
 unfolding chosenForm formCount
 returns c =
-    let m = c .before .before in
-    let s = m .before .before .before in
-    let v = s .args .v in
-    let k = s .args .choice in
+    let after-minimal-forms = c .before .before in
+    let at-start = after-minimal-forms .before .before .before in
+    let v = at-start .args .v in
+    let choice = at-start .args .choice in
     let l = listing 32 (pos v) in
-    let e = ap (λ (z : ℤ). listing 32 z) (toZ-ofZ w32 (pos v) (record { sfits = s .pre .0 })) in
+    let e = ap (λ (z : ℤ). listing 32 z) (toZ-ofZ w32 (pos v) (record { sfits = at-start .pre .0 })) in
     let rest : (DigitString → ℕ) → List ℕ = λ (f : DigitString → ℕ). drop (length (map f l)) (replicate {A = ℕ} 1597 0) in
-    let tables = m .minimal-forms .ensures in
+    let tables = after-minimal-forms .minimal-forms .ensures in
     ap₂ (λ (x y : ℕ). record { plus = x; minus = y })
-    (listed plusMask l (rest plusMask) (m .minimal-forms .last .1 .0) k refl (s .pre .1) (tables .plus-table ∙ ap (λ (x : List DigitString). map plusMask x ++ drop (length (map plusMask x)) (replicate {A = ℕ} 1597 0)) e))
-    (listed minusMask l (rest minusMask) (m .minimal-forms .last .1 .1 .0) k refl (s .pre .1) (tables .minus-table ∙ ap (λ (x : List DigitString). map minusMask x ++ drop (length (map minusMask x)) (replicate {A = ℕ} 1597 0)) e))
+    (listed plusMask l (rest plusMask) (after-minimal-forms .minimal-forms .last .1 .0) choice refl (at-start .pre .1) (tables .plus-table ∙ ap (λ (x : List DigitString). map plusMask x ++ drop (length (map plusMask x)) (replicate {A = ℕ} 1597 0)) e))
+    (listed minusMask l (rest minusMask) (after-minimal-forms .minimal-forms .last .1 .1 .0) choice refl (at-start .pre .1) (tables .minus-table ∙ ap (λ (x : List DigitString). map minusMask x ++ drop (length (map minusMask x)) (replicate {A = ℕ} 1597 0)) e))
 
 pub listed-form-spec : {M : Type 1} → statement M
 listed-form-spec =

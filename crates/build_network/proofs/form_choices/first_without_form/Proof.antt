@@ -71,13 +71,14 @@ tested c t e =
 
 returns : tie.Need-returns Inv-loop μ-loop
 returns c =
-    let t = c .before .before .before .before in
-    let l = t .before in
-    let s = l .before .before in
-    let xs = choicesOf (s .args .coefficients .now) (s .args .choices .now) in
-    let m = length-choices (s .args .coefficients .now) (s .args .choices .now) (s .pre) in
-    let b = tested (c .before) true (not-true (c .before .has-form .result) (c .if1 .taken)) in
-    (ap (placeOr (length (s .args .coefficients .now))) (sym (lowest-here noChoice breaks xs (l .loop .i) (omega (arith, m, t .loop-test .taken)) b) ∙ l .loop .inv .1), l .loop .inv .2)
+    let after-has-form = c .before in
+    let in-loop = after-has-form .before .before .before in
+    let at-loop = in-loop .before in
+    let at-start = at-loop .before .before in
+    let xs = choicesOf (at-start .args .coefficients .now) (at-start .args .choices .now) in
+    let m = length-choices (at-start .args .coefficients .now) (at-start .args .choices .now) (at-start .pre) in
+    let b = tested (after-has-form) true (not-true (after-has-form .has-form .result) (c .if1 .taken)) in
+    (ap (placeOr (length (at-start .args .coefficients .now))) (sym (lowest-here noChoice breaks xs (at-loop .loop .i) (omega (arith, m, in-loop .loop-test .taken)) b) ∙ at-loop .loop .inv .1), at-loop .loop .inv .2)
 
 add-i : tie.Need-add-i Inv-loop μ-loop
 add-i c = search needs
@@ -87,26 +88,28 @@ loop-less c = search needs
 
 loop-again : tie.Need-loop-again Inv-loop μ-loop
 loop-again c =
-    let t = c .before .before .before .before in
-    let l = t .before in
-    let s = l .before .before in
-    let xs = choicesOf (s .args .coefficients .now) (s .args .choices .now) in
-    let m = length-choices (s .args .coefficients .now) (s .args .choices .now) (s .pre) in
-    let b = tested (c .before) false (not-false (c .before .has-form .result) (c .if1 .left)) in
-    let n = getD (s .args .coefficients .now) (l .loop .i) (pos 0) in (
+    let after-has-form = c .before in
+    let after-has-form-arg = after-has-form .before .before in
+    let in-loop = after-has-form-arg .before in
+    let at-loop = in-loop .before in
+    let at-start = at-loop .before .before in
+    let xs = choicesOf (at-start .args .coefficients .now) (at-start .args .choices .now) in
+    let m = length-choices (at-start .args .coefficients .now) (at-start .args .choices .now) (at-start .pre) in
+    let b = tested (after-has-form) false (not-false (after-has-form .has-form .result) (c .if1 .left)) in
+    let n = getD (at-start .args .coefficients .now) (at-loop .loop .i) (pos 0) in (
       search needs,
-      sym (lowest-later noChoice breaks xs (l .loop .i) (omega (arith, m, t .loop-test .taken)) b) ∙ l .loop .inv .1,
-      below-more (λ (k : ℕ). Coefficient (getD (s .args .coefficients .now) k (pos 0))) (l .loop .i) (l .loop .inv .2) (i32-coefficient n (record { sfits = c .before .before .before .has-form-arg .given })),
+      sym (lowest-later noChoice breaks xs (at-loop .loop .i) (omega (arith, m, in-loop .loop-test .taken)) b) ∙ at-loop .loop .inv .1,
+      below-more (λ (k : ℕ). Coefficient (getD (at-start .args .coefficients .now) k (pos 0))) (at-loop .loop .i) (at-loop .loop .inv .2) (i32-coefficient n (record { sfits = after-has-form-arg .has-form-arg .given })),
     )
 
 returns-2 : tie.Need-returns-2 Inv-loop μ-loop
 returns-2 c =
-    let l = c .before in
-    let s = l .before .before in
-    let xs = choicesOf (s .args .coefficients .now) (s .args .choices .now) in
-    let m = length-choices (s .args .coefficients .now) (s .args .choices .now) (s .pre) in
-    let e : l .loop .i ≡ length (s .args .coefficients .now) = omega (arith, l .loop .inv .0, c .loop-test .left) in
-    (e ∙ ap (placeOr (length (s .args .coefficients .now))) (sym (lowest-none noChoice breaks xs (l .loop .i) (omega (arith, m, c .loop-test .left))) ∙ l .loop .inv .1), l .loop .inv .2)
+    let at-loop = c .before in
+    let at-start = at-loop .before .before in
+    let xs = choicesOf (at-start .args .coefficients .now) (at-start .args .choices .now) in
+    let m = length-choices (at-start .args .coefficients .now) (at-start .args .choices .now) (at-start .pre) in
+    let e : at-loop .loop .i ≡ length (at-start .args .coefficients .now) = omega (arith, at-loop .loop .inv .0, c .loop-test .left) in
+    (e ∙ ap (placeOr (length (at-start .args .coefficients .now))) (sym (lowest-none noChoice breaks xs (at-loop .loop .i) (omega (arith, m, c .loop-test .left))) ∙ at-loop .loop .inv .1), at-loop .loop .inv .2)
 
 pub first-without-form-spec : {M : Type 1} → statement M
 first-without-form-spec =

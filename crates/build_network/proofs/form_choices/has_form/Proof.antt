@@ -18,17 +18,25 @@ use Rattle.build_network.proofs.form_choices.has_form.Tie as tie
 
 -- what `reduce` gave
 reduced : (c : tie.After-reduce) → partsIn (c .reduce .result) ≡ partsOf (c .before .before .args .n)
-reduced c = let s = c .before .before in c .reduce .ensures .split ∙ ap partsOf (toZ-ofZ w32 (s .args .n) (s .fits .n))
+reduced c =
+    let at-start = c .before .before in
+    c .reduce .ensures .split ∙ ap partsOf (toZ-ofZ w32 (at-start .args .n) (at-start .fits .n))
 
 -- where there is an odd part
 split : (c : tie.After-reduction) → partsIn (Split (c .reduction .given .0 .0)) ≡ partsOf (c .before .before .before .before .args .n)
-split c = ap partsIn (sym (c .reduction .given .1)) ∙ reduced (c .before .before)
+split c =
+    let after-reduce = c .before .before in
+    ap partsIn (sym (c .reduction .given .1)) ∙ reduced (after-reduce)
 
 small : (c : tie.After-reduction) → c .reduction .given .0 .0 .«odd_part» < 2 ^ 31
-small c = let s = c .before .before .before .before in split-small (s .args .n) (s .fits .n) (c .reduction .given .0 .0) (split c)
+small c =
+    let at-start = c .before .before .before .before in
+    split-small (at-start .args .n) (at-start .fits .n) (c .reduction .given .0 .0) (split c)
 
 returns : tie.Need-returns
-returns c = let s = c .before in sym (ap not (ap (noSuchForm (partsOf (s .args .n))) (c .if1 .taken) ∙ choice-zero (s .args .n) (s .fits .n)))
+returns c =
+    let at-start = c .before in
+    sym (ap not (ap (noSuchForm (partsOf (at-start .args .n))) (c .if1 .taken) ∙ choice-zero (at-start .args .n) (at-start .fits .n)))
 
 reduce-requires : tie.Need-reduce-requires
 reduce-requires c κs = search needs
@@ -40,23 +48,27 @@ enum-known-reduction : tie.Need-enum-known-reduction
 enum-known-reduction c = search needs
 
 cast-form-count : tie.Need-cast-form-count
-cast-form-count c = record { sfits = small (c .before .before) }
+cast-form-count c =
+    let after-reduction = c .before .before in
+    record { sfits = small (after-reduction) }
 
 form-count-requires : tie.Need-form-count-requires
 form-count-requires c κs = search needs
 
 returns-2 : tie.Need-returns-2
 returns-2 c =
-    let s = c .before .before .before .before in
-    sym (ap not (no-odd-part-choice (partsOf (s .args .n)) (s .args .choice) (ap partsIn (sym (c .enum-told .given .1)) ∙ reduced (c .before .before)) (c .before .before .before .if1 .left)))
+    let after-reduce = c .before .before in
+    let in-else-1 = after-reduce .before in
+    let at-start = in-else-1 .before in
+    sym (ap not (no-odd-part-choice (partsOf (at-start .args .n)) (at-start .args .choice) (ap partsIn (sym (c .enum-told .given .1)) ∙ reduced (after-reduce)) (in-else-1 .if1 .left)))
 
 returns-3 : tie.Need-returns-3
 returns-3 c =
-    let w = c .before .before .before in
-    let r = w .reduction .given .0 .0 in
-    let s = w .before .before .before .before in
-    counted-choice (partsOf (s .args .n)) (signIf (r .negative)) (r .«odd_part») (r .shift) (s .args .choice) (c .form-count .result) (split w)
-    (c .form-count .ensures .number ∙ ap (λ (z : ℤ). length (listing 32 z)) (toZ-ofZ w32 (pos (r .«odd_part»)) (record { sfits = small w })))
+    let after-reduction = c .before .before .before in
+    let at-start = after-reduction .before .before .before .before in
+    let r = after-reduction .reduction .given .0 .0 in
+    counted-choice (partsOf (at-start .args .n)) (signIf (r .negative)) (r .«odd_part») (r .shift) (at-start .args .choice) (c .form-count .result) (split after-reduction)
+    (c .form-count .ensures .number ∙ ap (λ (z : ℤ). length (listing 32 z)) (toZ-ofZ w32 (pos (r .«odd_part»)) (record { sfits = small after-reduction })))
 
 pub has-form-spec : {M : Type 1} → statement M
 has-form-spec =

@@ -24,11 +24,13 @@ enum-known-k c = search needs
 
 returns : tie.Need-returns
 returns c =
-    let s = c .before .before .before .before .before .before .before .before in
-    let a = s .args in (
+    let after-k = c .before .before in
+    let after-find = after-k .before .before in
+    let at-start = after-find .before .before .before .before in
+    let args = at-start .args in (
       omega arith,
-      before-found (a .table .now) (a .heads .now) (a .links .now) (a .n) (a .x) (c .before .before .k .given .0 .0) (s .pre .0)
-          (sym (c .before .before .before .before .find .ensures) ∙ ap foundAt (c .before .before .k .given .1)),
+      before-found (args .table .now) (args .heads .now) (args .links .now) (args .n) (args .x) (after-k .k .given .0 .0) (at-start .pre .0)
+          (sym (after-find .find .ensures) ∙ ap foundAt (after-k .k .given .1)),
     )
 
 enum-told : tie.Need-enum-told
@@ -36,19 +38,22 @@ enum-told c = search needs
 
 returns-2 : tie.Need-returns-2
 returns-2 c =
-    let s = c .before .before .before .before .before .before .before .before in
-    let a = s .args in (
+    let after-k = c .before .before in
+    let after-find = after-k .before .before in
+    let at-start = after-find .before .before .before .before in
+    let args = at-start .args in (
       omega arith,
-      λ i l. before-found (a .table .now) (a .heads .now) (a .links .now) (a .n) (a .x) (c .before .before .k .given .0 .0) (s .pre .0)
-          (sym (c .before .before .before .before .find .ensures) ∙ ap foundAt (c .before .before .k .given .1)) i (omega arith),
+      λ i l. before-found (args .table .now) (args .heads .now) (args .links .now) (args .n) (args .x) (after-k .k .given .0 .0) (at-start .pre .0)
+          (sym (after-find .find .ensures) ∙ ap foundAt (after-k .k .given .1)) i (omega arith),
     )
 
 returns-3 : tie.Need-returns-3
 returns-3 c =
-    let s = c .before .before .before .before .before .before in
-    let a = s .args in (
+    let after-find = c .before .before in
+    let at-start = after-find .before .before .before .before in
+    let args = at-start .args in (
       omega arith,
-      λ i l. row-missing (a .table .now) (a .n) (a .x) (sym (c .before .before .find .ensures) ∙ ap foundAt (c .enum-told .given .1)) i (omega (arith, s .pre .1)),
+      λ i l. row-missing (args .table .now) (args .n) (args .x) (sym (after-find .find .ensures) ∙ ap foundAt (c .enum-told .given .1)) i (omega (arith, at-start .pre .1)),
     )
 
 pub lower-spec : {M : Type 1} → statement M

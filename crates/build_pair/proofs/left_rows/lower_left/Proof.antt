@@ -30,16 +30,21 @@ is-empty-requires-2 c κs = search needs
 
 returns : tie.Need-returns
 returns c =
-    let s = c .before .before .before .before .before .before .before .before .before in
-    let a = s .args in
-    let sum = c .before .before .before .before .before .odd-part in
-    let difference = c .before .before .before .odd-part2 in
-    let e = both (c .before .before .is-empty .result) (c .before .is-empty2 .result) (c .if1 .taken) in (
+    let after-is-empty2 = c .before in
+    let after-is-empty = after-is-empty2 .before in
+    let after-odd-part2 = after-is-empty .before in
+    let after-distance = after-odd-part2 .before in
+    let after-odd-part = after-distance .before in
+    let at-start = after-odd-part .before .before .before .before in
+    let args = at-start .args in
+    let sum = after-odd-part .odd-part in
+    let difference = after-odd-part2 .odd-part2 in
+    let e = both (after-is-empty .is-empty .result) (after-is-empty2 .is-empty2 .result) (c .if1 .taken) in (
       omega arith,
-      no-left (a .table .now) (a .n) (a .m) (a .v) (a .r) (sum .result) (difference .result) (s .pre .0 .1) (s .pre .0 .2) (sum .ensures)
-          (λ i l b o q. difference .ensures i l b o (c .before .before .before .before .distance .ensures ∙ q))
-          (λ i l. empty-bucket (a .table .now) (a .heads .now) (a .links .now) (a .n) (sum .result) (s .pre .0 .0) (eqb-true _ _ (sym (c .before .before .is-empty .ensures) ∙ e .0)) i (omega (arith, s .pre .0 .1)))
-          (λ i l. empty-bucket (a .table .now) (a .heads .now) (a .links .now) (a .n) (difference .result) (s .pre .0 .0) (eqb-true _ _ (sym (c .before .is-empty2 .ensures) ∙ e .1)) i (omega (arith, s .pre .0 .1))),
+      no-left (args .table .now) (args .n) (args .m) (args .v) (args .r) (sum .result) (difference .result) (at-start .pre .0 .1) (at-start .pre .0 .2) (sum .ensures)
+          (λ i l b o q. difference .ensures i l b o (after-distance .distance .ensures ∙ q))
+          (λ i l. empty-bucket (args .table .now) (args .heads .now) (args .links .now) (args .n) (sum .result) (at-start .pre .0 .0) (eqb-true _ _ (sym (after-is-empty .is-empty .ensures) ∙ e .0)) i (omega (arith, at-start .pre .0 .1)))
+          (λ i l. empty-bucket (args .table .now) (args .heads .now) (args .links .now) (args .n) (difference .result) (at-start .pre .0 .0) (eqb-true _ _ (sym (after-is-empty2 .is-empty2 .ensures) ∙ e .1)) i (omega (arith, at-start .pre .0 .1))),
     )
 
 lower-requires : tie.Need-lower-requires
@@ -50,15 +55,19 @@ lower-requires-2 c κs = search needs
 
 returns-2 : tie.Need-returns-2
 returns-2 c =
-    let s = c .before .before .before .before .before .before .before .before .before .before .before in
-    let a = s .args in
-    let sum = c .before .before .before .before .before .before .before .odd-part in
-    let difference = c .before .before .before .before .before .odd-part2 in (
-      omega (arith, c .lower2 .ensures .0, c .before .lower .ensures .0),
-      no-left (a .table .now) (a .n) (c .lower2 .result) (a .v) (a .r) (sum .result) (difference .result)
-          (omega (arith, c .lower2 .ensures .0, c .before .lower .ensures .0, s .pre .0 .1)) (s .pre .0 .2) (sum .ensures)
-          (λ i l b o q. difference .ensures i l b o (c .before .before .before .before .before .before .distance .ensures ∙ q))
-          (λ i l. c .before .lower .ensures .1 i (omega (arith, c .lower2 .ensures .0)))
+    let after-lower = c .before in
+    let after-odd-part2 = after-lower .before .before .before .before in
+    let after-distance = after-odd-part2 .before in
+    let after-odd-part = after-distance .before in
+    let at-start = after-odd-part .before .before .before .before in
+    let args = at-start .args in
+    let sum = after-odd-part .odd-part in
+    let difference = after-odd-part2 .odd-part2 in (
+      omega (arith, c .lower2 .ensures .0, after-lower .lower .ensures .0),
+      no-left (args .table .now) (args .n) (c .lower2 .result) (args .v) (args .r) (sum .result) (difference .result)
+          (omega (arith, c .lower2 .ensures .0, after-lower .lower .ensures .0, at-start .pre .0 .1)) (at-start .pre .0 .2) (sum .ensures)
+          (λ i l b o q. difference .ensures i l b o (after-distance .distance .ensures ∙ q))
+          (λ i l. after-lower .lower .ensures .1 i (omega (arith, c .lower2 .ensures .0)))
           (c .lower2 .ensures .1),
     )
 

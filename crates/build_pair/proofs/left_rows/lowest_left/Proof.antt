@@ -19,6 +19,10 @@ Inv-loop table heads links n most v low₀ j₀ low j = (j ≤ n) × (low ≤ n)
 abbrev μ-loop : tie.MeasureT-loop
 μ-loop table heads links n most v low₀ j₀ low j = n - j
 
+-- where the function starts, seen from its loop
+abbrev start : tie.At-loop Inv-loop μ-loop → tie.Start Inv-loop μ-loop
+start c = c .before .before .before .before
+
 loop-holds : tie.Need-loop-holds Inv-loop μ-loop
 loop-holds c = (omega arith, omega arith, λ k l. absurd (omega arith))
 
@@ -27,11 +31,12 @@ read-value-requires c κs = search needs
 
 lower-left-requires : tie.Need-lower-left-requires Inv-loop μ-loop
 lower-left-requires c κs =
-    let s = c .before .before .before .before .before .before in
-    let lp = c .before .before .loop in
-    let h : lp .j < s .args .n = omega arith in
-    let e = c .read-value .ensures in
-    ((s .pre .index, lp .inv .1, s .pre .odd), (s .pre .new-small, omega (arith, e, s .pre .bounded (lp .j) h, s .pre .small), omega (arith, s .pre .new-odd), λ q. row-missing (s .args .table .now) (s .args .n) (s .args .v) (s .pre .new) (lp .j) h (sym e ∙ q)))
+    let at-loop = c .before .before in
+    let at-start = start at-loop in
+    let loop = at-loop .loop in
+    let h : loop .j < at-start .args .n = omega arith in
+    let read-value-ensures = c .read-value .ensures in
+    ((at-start .pre .index, loop .inv .1, at-start .pre .odd), (at-start .pre .new-small, omega (arith, read-value-ensures, at-start .pre .bounded (loop .j) h, at-start .pre .small), omega (arith, at-start .pre .new-odd), λ q. row-missing (at-start .args .table .now) (at-start .args .n) (at-start .args .v) (at-start .pre .new) (loop .j) h (sym read-value-ensures ∙ q)))
 
 sub-if2 : tie.Need-sub-if2 Inv-loop μ-loop
 sub-if2 c = search needs
@@ -47,21 +52,26 @@ loop-less c = omega arith
 
 loop-again : tie.Need-loop-again Inv-loop μ-loop
 loop-again c =
-    let a = c .before .before .before .before .before .before .before .before .args in
-    let lp = c .before .before .before .before .loop in
-    let l = c .before .lower-left .ensures in (
+    let after-lower-left = c .before in
+    let after-read-value = after-lower-left .before in
+    let at-loop = after-read-value .before .before in
+    let at-start = start at-loop in
+    let args = at-start .args in
+    let loop = at-loop .loop in
+    let lower-left-ensures = after-lower-left .lower-left .ensures in (
       omega arith,
-      omega (arith, l .0, lp .inv .1),
-      below-more (λ k. NoLeft (a .table .now) (c .before .lower-left .result) (a .v) (valueAt (a .table .now) k)) (lp .j) (λ k b. fewer-lefts (c .before .lower-left .result) (l .0) (lp .inv .2 k b))
-          (subst (λ r. NoLeft (a .table .now) (c .before .lower-left .result) (a .v) r) (c .before .before .read-value .ensures) (l .1)),
+      omega (arith, lower-left-ensures .0, loop .inv .1),
+      below-more (λ k. NoLeft (args .table .now) (after-lower-left .lower-left .result) (args .v) (valueAt (args .table .now) k)) (loop .j) (λ k b. fewer-lefts (after-lower-left .lower-left .result) (lower-left-ensures .0) (loop .inv .2 k b))
+          (subst (λ r. NoLeft (args .table .now) (after-lower-left .lower-left .result) (args .v) r) (after-read-value .read-value .ensures) (lower-left-ensures .1)),
     )
 
 returns-2 : tie.Need-returns-2 Inv-loop μ-loop
 returns-2 c =
-    let s = c .before .before .before .before .before in
-    let a = s .args in
-    let lp = c .before .loop in
-    (lp .inv .1, left-fits-none (a .table .now) (a .n) (lp .low) (a .v) (lp .inv .1) (λ k l. lp .inv .2 k (omega (arith, c .loop-test .left))))
+    let at-loop = c .before in
+    let at-start = start at-loop in
+    let args = at-start .args in
+    let loop = at-loop .loop in
+    (loop .inv .1, left-fits-none (args .table .now) (args .n) (loop .low) (args .v) (loop .inv .1) (λ k l. loop .inv .2 k (omega (arith, c .loop-test .left))))
 
 pub lowest-left-spec : {M : Type 1} → statement M
 lowest-left-spec =

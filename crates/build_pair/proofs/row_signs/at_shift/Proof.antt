@@ -33,29 +33,42 @@ with-sign-requires-3 c κs = search needs
 returns : tie.Need-returns
 unfolding orElse
 returns c =
-    let a = c .before .before .before .before .before .before .before .args in
-    let rows = rowsOf (a .table .now) (a .n) in
+    let after-row = c .before in
+    let after-with-sign = after-row .before .before in
+    let at-start = after-with-sign .before .before .before .before in
+    let args = at-start .args in
+    let rows = rowsOf (args .table .now) (args .n) in
     sym
-    (three-signs rows (a .v) (a .left) (a .shift) (fit (c .before .row .given .0 .0)) (tried rows (a .v) (a .left) (a .shift) minus) (tried rows (a .v) (a .left) (a .shift) reversed)
-    (sym (c .before .before .before .with-sign .ensures) ∙ ap fitOf (c .before .row .given .1)) refl refl)
+    (three-signs rows (args .v) (args .left) (args .shift) (fit (after-row .row .given .0 .0)) (tried rows (args .v) (args .left) (args .shift) minus) (tried rows (args .v) (args .left) (args .shift) reversed)
+    (sym (after-with-sign .with-sign .ensures) ∙ ap fitOf (after-row .row .given .1)) refl refl)
 
 returns-2 : tie.Need-returns-2
 unfolding orElse
 returns-2 c =
-    let a = c .before .before .before .before .before .before .before .before .before .before .args in
-    let rows = rowsOf (a .table .now) (a .n) in
+    let after-row2 = c .before in
+    let after-with-sign2 = after-row2 .before .before in
+    let after-enum-told = after-with-sign2 .before in
+    let after-with-sign = after-enum-told .before .before in
+    let at-start = after-with-sign .before .before .before .before in
+    let args = at-start .args in
+    let rows = rowsOf (args .table .now) (args .n) in
     sym
-    (three-signs rows (a .v) (a .left) (a .shift) none-fits (fit (c .before .row2 .given .0 .0)) (tried rows (a .v) (a .left) (a .shift) reversed)
-    (sym (c .before .before .before .before .before .before .with-sign .ensures) ∙ ap fitOf (c .before .before .before .before .enum-told .given .1)) (sym (c .before .before .before .with-sign2 .ensures) ∙ ap fitOf (c .before .row2 .given .1)) refl)
+    (three-signs rows (args .v) (args .left) (args .shift) none-fits (fit (after-row2 .row2 .given .0 .0)) (tried rows (args .v) (args .left) (args .shift) reversed)
+    (sym (after-with-sign .with-sign .ensures) ∙ ap fitOf (after-enum-told .enum-told .given .1)) (sym (after-with-sign2 .with-sign2 .ensures) ∙ ap fitOf (after-row2 .row2 .given .1)) refl)
 
 returns-3 : tie.Need-returns-3
 unfolding orElse
 returns-3 c =
-    let a = c .before .before .before .before .before .before .before .before .before .before .args in
-    let rows = rowsOf (a .table .now) (a .n) in
+    let after-enum-told2 = c .before in
+    let after-with-sign2 = after-enum-told2 .before .before in
+    let after-enum-told = after-with-sign2 .before in
+    let after-with-sign = after-enum-told .before .before in
+    let at-start = after-with-sign .before .before .before .before in
+    let args = at-start .args in
+    let rows = rowsOf (args .table .now) (args .n) in
     sym
-    (three-signs rows (a .v) (a .left) (a .shift) none-fits none-fits (fitOf (c .with-sign3 .result))
-    (sym (c .before .before .before .before .before .before .with-sign .ensures) ∙ ap fitOf (c .before .before .before .before .enum-told .given .1)) (sym (c .before .before .before .with-sign2 .ensures) ∙ ap fitOf (c .before .enum-told2 .given .1)) (sym (c .with-sign3 .ensures)))
+    (three-signs rows (args .v) (args .left) (args .shift) none-fits none-fits (fitOf (c .with-sign3 .result))
+    (sym (after-with-sign .with-sign .ensures) ∙ ap fitOf (after-enum-told .enum-told .given .1)) (sym (after-with-sign2 .with-sign2 .ensures) ∙ ap fitOf (after-enum-told2 .enum-told2 .given .1)) (sym (c .with-sign3 .ensures)))
 
 pub at-shift-spec : {M : Type 1} → statement M
 at-shift-spec =

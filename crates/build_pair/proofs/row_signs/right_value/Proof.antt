@@ -15,7 +15,10 @@ less-requires-2 : tie.Need-less-requires-2
 less-requires-2 c κs = search needs
 
 returns-2 : tie.Need-returns-2
-returns-2 c = rw (ne-eqb _ _ (c .before .before .if1 .left), eq-eqb _ _ (c .before .if2 .taken)) (c .less2 .ensures)
+returns-2 c =
+    let in-then-2 = c .before in
+    let in-else-1 = in-then-2 .before in
+    rw (ne-eqb _ _ (in-else-1 .if1 .left), eq-eqb _ _ (in-then-2 .if2 .taken)) (c .less2 .ensures)
 
 add-result : tie.Need-add-result
 add-result c = search needs

@@ -14,17 +14,19 @@ right-value-requires c κs = search needs
 
 returns : tie.Need-returns
 returns c =
-    let s = c .before .before .before .before .before in
-    let a = s .args in
-    let x = c .before .right-value in
-    sign-zero (a .table .now) (a .heads .now) (a .links .now) (a .n) (a .most) (a .v) (s .pre .0) (a .left) (a .shift) (a .a) (s .pre .1) (a .sign) (s .pre .2) (x .result) (x .ensures) (c .if1 .taken)
+    let after-right-value = c .before in
+    let at-start = after-right-value .before .before .before .before in
+    let args = at-start .args in
+    let right-value = after-right-value .right-value in
+    sign-zero (args .table .now) (args .heads .now) (args .links .now) (args .n) (args .most) (args .v) (at-start .pre .0) (args .left) (args .shift) (args .a) (at-start .pre .1) (args .sign) (at-start .pre .2) (right-value .result) (right-value .ensures) (c .if1 .taken)
 
 returns-2 : tie.Need-returns-2
 returns-2 c =
-    let s = c .before .before .before .before .before .before in
-    let a = s .args in
-    let x = c .before .before .right-value in
-    sign-past (a .table .now) (a .heads .now) (a .links .now) (a .n) (a .most) (a .v) (s .pre .0) (a .left) (a .shift) (a .a) (s .pre .1) (a .sign) (s .pre .2) (x .result) (x .ensures) (omega arith)
+    let after-right-value = c .before .before in
+    let at-start = after-right-value .before .before .before .before in
+    let args = at-start .args in
+    let right-value = after-right-value .right-value in
+    sign-past (args .table .now) (args .heads .now) (args .links .now) (args .n) (args .most) (args .v) (at-start .pre .0) (args .left) (args .shift) (args .a) (at-start .pre .1) (args .sign) (at-start .pre .2) (right-value .result) (right-value .ensures) (omega arith)
 
 cast-find : tie.Need-cast-find
 cast-find c = search needs
@@ -37,28 +39,36 @@ enum-known-k c = search needs
 
 narrow-requires : tie.Need-narrow-requires
 narrow-requires c κs =
-    let s = c .before .before .before .before .before .before .before .before .before .before in
-    let a = s .args in
-    let f = row-found (a .table .now) (a .n) (c .before .before .before .before .before .before .right-value .result) (c .before .k .given .0 .0) (sym (c .before .before .before .find .ensures) ∙ ap foundAt (c .before .k .given .1)) in
-    omega (arith, f .0, s .pre .0 .index .few)
+    let after-k = c .before in
+    let after-find = after-k .before .before in
+    let after-right-value = after-find .before .before .before in
+    let at-start = after-right-value .before .before .before .before in
+    let args = at-start .args in
+    let f = row-found (args .table .now) (args .n) (after-right-value .right-value .result) (after-k .k .given .0 .0) (sym (after-find .find .ensures) ∙ ap foundAt (after-k .k .given .1)) in
+    omega (arith, f .0, at-start .pre .0 .index .few)
 
 enum-told : tie.Need-enum-told
 enum-told c = search needs
 
 returns-3 : tie.Need-returns-3
 returns-3 c =
-    let s = c .before .before .before .before .before .before .before .before .before .before .before in
-    let a = s .args in
-    let x = c .before .before .before .before .before .before .before .right-value in
-    sign-found (a .table .now) (a .heads .now) (a .links .now) (a .n) (a .most) (a .v) (s .pre .0) (a .left) (a .shift) (a .a) (s .pre .1) (a .sign) (s .pre .2) (x .result) (x .ensures) (c .before .before .k .given .0 .0) (c .narrow .result)
-    (sym (c .before .before .before .before .find .ensures) ∙ ap foundAt (c .before .before .k .given .1)) (c .narrow .ensures)
+    let after-k = c .before .before in
+    let after-find = after-k .before .before in
+    let after-right-value = after-find .before .before .before in
+    let at-start = after-right-value .before .before .before .before in
+    let args = at-start .args in
+    let right-value = after-right-value .right-value in
+    sign-found (args .table .now) (args .heads .now) (args .links .now) (args .n) (args .most) (args .v) (at-start .pre .0) (args .left) (args .shift) (args .a) (at-start .pre .1) (args .sign) (at-start .pre .2) (right-value .result) (right-value .ensures) (after-k .k .given .0 .0) (c .narrow .result)
+    (sym (after-find .find .ensures) ∙ ap foundAt (after-k .k .given .1)) (c .narrow .ensures)
 
 returns-4 : tie.Need-returns-4
 returns-4 c =
-    let s = c .before .before .before .before .before .before .before .before .before in
-    let a = s .args in
-    let x = c .before .before .before .before .before .right-value in
-    sign-missing (a .table .now) (a .heads .now) (a .links .now) (a .n) (a .most) (a .v) (s .pre .0) (a .left) (a .shift) (a .a) (s .pre .1) (a .sign) (s .pre .2) (x .result) (x .ensures) (sym (c .before .before .find .ensures) ∙ ap foundAt (c .enum-told .given .1))
+    let after-find = c .before .before in
+    let after-right-value = after-find .before .before .before in
+    let at-start = after-right-value .before .before .before .before in
+    let args = at-start .args in
+    let right-value = after-right-value .right-value in
+    sign-missing (args .table .now) (args .heads .now) (args .links .now) (args .n) (args .most) (args .v) (at-start .pre .0) (args .left) (args .shift) (args .a) (at-start .pre .1) (args .sign) (at-start .pre .2) (right-value .result) (right-value .ensures) (sym (after-find .find .ensures) ∙ ap foundAt (c .enum-told .given .1))
 
 pub with-sign-spec : {M : Type 1} → statement M
 with-sign-spec =

@@ -33,11 +33,12 @@ shared-slice-copy-out-if1 c = search needs
 
 returns : tie.Need-returns Inv-loop μ-loop
 returns c =
-    let t = c .before .before in
-    let l = t .before in
-    let h = l .before .args .h .now in
-    let n = nonzero-word (getD h (l .loop .end - 1) (pos 0)) (c .if1 .taken) in
-    record { past-last = sym (end-here h (l .loop .end) (t .loop-test .taken) (l .loop .inv .0) n) ∙ l .loop .inv .1 }
+    let in-loop = c .before .before in
+    let at-loop = in-loop .before in
+    let at-start = at-loop .before in
+    let h = at-start .args .h .now in
+    let n = nonzero-word (getD h (at-loop .loop .end - 1) (pos 0)) (c .if1 .taken) in
+    record { past-last = sym (end-here h (at-loop .loop .end) (in-loop .loop-test .taken) (at-loop .loop .inv .0) n) ∙ at-loop .loop .inv .1 }
 
 sub-end : tie.Need-sub-end Inv-loop μ-loop
 sub-end c = search needs
@@ -47,17 +48,20 @@ loop-less c = search needs
 
 loop-again : tie.Need-loop-again Inv-loop μ-loop
 loop-again c =
-    let t = c .before .before in
-    let l = t .before in
-    let h = l .before .args .h .now in
-    let z = zero-word (getD h (l .loop .end - 1) (pos 0)) (record { sfits = c .before .if12 .given }) (c .if1 .left) in
-    (search needs, end-earlier h (l .loop .end) (t .loop-test .taken) (l .loop .inv .0) z ∙ l .loop .inv .1)
+    let after-if12 = c .before in
+    let in-loop = after-if12 .before in
+    let at-loop = in-loop .before in
+    let at-start = at-loop .before in
+    let h = at-start .args .h .now in
+    let z = zero-word (getD h (at-loop .loop .end - 1) (pos 0)) (record { sfits = after-if12 .if12 .given }) (c .if1 .left) in
+    (search needs, end-earlier h (at-loop .loop .end) (in-loop .loop-test .taken) (at-loop .loop .inv .0) z ∙ at-loop .loop .inv .1)
 
 returns-2 : tie.Need-returns-2 Inv-loop μ-loop
 returns-2 c =
-    let l = c .before in
-    let z : l .loop .end ≡ 0 = omega (arith, c .loop-test .left) in
-    record { past-last = z ∙ sym (end-none (l .before .args .h .now) (l .loop .end) (c .loop-test .left)) ∙ l .loop .inv .1 }
+    let at-loop = c .before in
+    let at-start = at-loop .before in
+    let z : at-loop .loop .end ≡ 0 = omega (arith, c .loop-test .left) in
+    record { past-last = z ∙ sym (end-none (at-start .args .h .now) (at-loop .loop .end) (c .loop-test .left)) ∙ at-loop .loop .inv .1 }
 
 pub end-of-nonzero-spec : {M : Type 1} → statement M
 end-of-nonzero-spec =

@@ -28,10 +28,11 @@ shared-slice-copy-out-if1 c = search needs
 
 returns : tie.Need-returns Inv-loop μ-loop
 returns c =
-    let t = c .before .before in
-    let l = t .before in
-    let h = l .before .args .h .now in
-    record { first = sym (first-here h (l .loop .i) (t .loop-test .taken) (nonzero-word (getD h (l .loop .i) (pos 0)) (c .if1 .taken))) ∙ l .loop .inv .1 }
+    let in-loop = c .before .before in
+    let at-loop = in-loop .before in
+    let at-start = at-loop .before in
+    let h = at-start .args .h .now in
+    record { first = sym (first-here h (at-loop .loop .i) (in-loop .loop-test .taken) (nonzero-word (getD h (at-loop .loop .i) (pos 0)) (c .if1 .taken))) ∙ at-loop .loop .inv .1 }
 
 add-i : tie.Need-add-i Inv-loop μ-loop
 add-i c = search needs
@@ -41,16 +42,19 @@ loop-less c = search needs
 
 loop-again : tie.Need-loop-again Inv-loop μ-loop
 loop-again c =
-    let t = c .before .before in
-    let l = t .before in
-    let h = l .before .args .h .now in
-    let z = zero-word (getD h (l .loop .i) (pos 0)) (record { sfits = c .before .if12 .given }) (c .if1 .left) in
-    (search needs, first-later h (l .loop .i) (t .loop-test .taken) z ∙ l .loop .inv .1)
+    let after-if12 = c .before in
+    let in-loop = after-if12 .before in
+    let at-loop = in-loop .before in
+    let at-start = at-loop .before in
+    let h = at-start .args .h .now in
+    let z = zero-word (getD h (at-loop .loop .i) (pos 0)) (record { sfits = after-if12 .if12 .given }) (c .if1 .left) in
+    (search needs, first-later h (at-loop .loop .i) (in-loop .loop-test .taken) z ∙ at-loop .loop .inv .1)
 
 returns-2 : tie.Need-returns-2 Inv-loop μ-loop
 returns-2 c =
-    let l = c .before in
-    record { first = sym (first-none (l .before .args .h .now) (l .loop .i) (c .loop-test .left)) ∙ l .loop .inv .1 }
+    let at-loop = c .before in
+    let at-start = at-loop .before in
+    record { first = sym (first-none (at-start .args .h .now) (at-loop .loop .i) (c .loop-test .left)) ∙ at-loop .loop .inv .1 }
 
 pub first-nonzero-spec : {M : Type 1} → statement M
 first-nonzero-spec =

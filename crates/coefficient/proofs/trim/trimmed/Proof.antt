@@ -14,23 +14,34 @@ end-of-nonzero-requires : tie.Need-end-of-nonzero-requires
 end-of-nonzero-requires c κs = search needs
 
 mul-result : tie.Need-mul-result
-mul-result c = let t = trimmed-is (c .before .before .args .h .now) in omega (arith, t .in-order, t .within)
+mul-result c =
+    let at-start = c .before .before in
+    let t = trimmed-is (at-start .args .h .now) in omega (arith, t .in-order, t .within)
 
 sub-result : tie.Need-sub-result
-sub-result c = let t = trimmed-is (c .before .before .args .h .now) in omega (arith, t .in-order)
+sub-result c =
+    let at-start = c .before .before in
+    let t = trimmed-is (at-start .args .h .now) in omega (arith, t .in-order)
 
 part-result-start : tie.Need-part-result-start
-part-result-start c = let t = trimmed-is (c .before .before .args .h .now) in omega (arith, t .in-order)
+part-result-start c =
+    let at-start = c .before .before in
+    let t = trimmed-is (at-start .args .h .now) in omega (arith, t .in-order)
 
 part-result-end : tie.Need-part-result-end
-part-result-end c = let t = trimmed-is (c .before .before .args .h .now) in omega (arith, t .within)
+part-result-end c =
+    let at-start = c .before .before in
+    let t = trimmed-is (at-start .args .h .now) in omega (arith, t .within)
 
 returns : tie.Need-returns
 returns c =
-    let s = c .before .before .before .args .h in
+    let after-end-of-nonzero = c .before in
+    let after-first-nonzero = after-end-of-nonzero .before in
+    let at-start = after-first-nonzero .before in
+    let s = at-start .args .h in
     record {
-      contents = ap₂ (stretch (s .now)) (c .before .before .first-nonzero .ensures .first) (c .before .end-of-nonzero .ensures .past-last);
-      place = ap (further (s .ptr)) (c .before .before .first-nonzero .ensures .first);
+      contents = ap₂ (stretch (s .now)) (after-first-nonzero .first-nonzero .ensures .first) (after-end-of-nonzero .end-of-nonzero .ensures .past-last);
+      place = ap (further (s .ptr)) (after-first-nonzero .first-nonzero .ensures .first);
     }
 
 pub trimmed-spec : {M : Type 1} → statement M

@@ -30,32 +30,32 @@ cast-negative c = search needs
 
 returns : tie.Need-returns
 returns c =
-    let r = c .before .before in
-    let s = r .before in
+    let after-reduce = c .before .before in
+    let at-start = after-reduce .before in
     let e = ap partsIn (c .enum-told .given .1) in
     record {
-      answer = partsIn (r .reduce .result);
+      answer = partsIn (after-reduce .reduce .result);
       word = refl;
       negative = sym (ap negativeIn e);
       odd-part = sym (ap oddPartIn e);
       shift = sym (ap shiftIn e);
-      reduced = subst (λ (n : ℤ). ReducedTo n (partsIn (r .reduce .result))) (toZ-ofZ w32 (s .args .n) (s .fits .n)) (r .reduce .ensures);
+      reduced = subst (λ (n : ℤ). ReducedTo n (partsIn (after-reduce .reduce .result))) (toZ-ofZ w32 (at-start .args .n) (at-start .fits .n)) (after-reduce .reduce .ensures);
     }
 
 returns-2 : tie.Need-returns-2
 returns-2 c =
-    let m = c .before .before in
-    let r = m .before .before in
-    let s = r .before in
-    let e = ap partsIn (m .reduction .given .1) in
-    let q = m .reduction .given .0 .0 in
+    let after-reduction = c .before .before in
+    let after-reduce = after-reduction .before .before in
+    let at-start = after-reduce .before in
+    let e = ap partsIn (after-reduction .reduction .given .1) in
+    let q = after-reduction .reduction .given .0 .0 in
     record {
-      answer = partsIn (r .reduce .result);
+      answer = partsIn (after-reduce .reduce .result);
       word = refl;
       negative = byte-of (q .negative) (q .«odd_part») (q .shift) ∙ sym (ap negativeIn e);
       odd-part = sym (ap oddPartIn e);
       shift = sym (ap shiftIn e);
-      reduced = subst (λ (n : ℤ). ReducedTo n (partsIn (r .reduce .result))) (toZ-ofZ w32 (s .args .n) (s .fits .n)) (r .reduce .ensures);
+      reduced = subst (λ (n : ℤ). ReducedTo n (partsIn (after-reduce .reduce .result))) (toZ-ofZ w32 (at-start .args .n) (at-start .fits .n)) (after-reduce .reduce .ensures);
     }
 
 pub fir-reduce-spec : {M : Type 1} → statement M

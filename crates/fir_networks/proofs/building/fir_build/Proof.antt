@@ -35,9 +35,13 @@ same-length-2 c = search needs
 
 returns : tie.Need-returns
 returns c =
-    let k = c .before .before .before .before .before .before .before .before in
-    let e = ap answerOf (c .before .before .answer .given .1) in
-    record { answer = answerOf (k .build .result); word = c .refusal-word .ensures ∙ sym (ap refusalWord e); row-count = sym (ap (counted (k .before .before .before .before .before .before .args .row-count .now)) e); built = k .build .ensures }
+    let after-answer = c .before .before in
+    let after-rows = after-answer .before .before .before .before .before in
+    let after-build = after-rows .before in
+    let after-build-arg = after-build .before .before in
+    let at-start = after-build-arg .before .before .before .before in
+    let e = ap answerOf (after-answer .answer .given .1) in
+    record { answer = answerOf (after-build .build .result); word = c .refusal-word .ensures ∙ sym (ap refusalWord e); row-count = sym (ap (counted (at-start .args .row-count .now)) e); built = after-build .build .ensures }
 
 same-length-3 : tie.Need-same-length-3
 same-length-3 c = search needs
@@ -47,9 +51,13 @@ same-length-4 c = search needs
 
 returns-2 : tie.Need-returns-2
 returns-2 c =
-    let k = c .before .before .before .before .before .before .before in
-    let e = ap answerOf (c .before .answer2 .given .1) in
-    record { answer = answerOf (k .build .result); word = sym (ap refusalWord e); row-count = sym (ap (counted (k .before .before .before .before .before .before .args .row-count .now)) e); built = k .build .ensures }
+    let after-answer2 = c .before in
+    let after-rows = after-answer2 .before .before .before .before .before in
+    let after-build = after-rows .before in
+    let after-build-arg = after-build .before .before in
+    let at-start = after-build-arg .before .before .before .before in
+    let e = ap answerOf (after-answer2 .answer2 .given .1) in
+    record { answer = answerOf (after-build .build .result); word = sym (ap refusalWord e); row-count = sym (ap (counted (at-start .args .row-count .now)) e); built = after-build .build .ensures }
 
 pub fir-build-spec : {M : Type 1} → statement M
 fir-build-spec =

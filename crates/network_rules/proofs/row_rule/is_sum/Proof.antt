@@ -5,7 +5,9 @@ use Rattle.network_rules.proofs.row_rule.is_sum.Statement.{statement}
 use Rattle.network_rules.proofs.row_rule.is_sum.Tie as tie
 
 returns : tie.Need-returns
-returns c = let a = c .before .before .args in sum-shift (a .row) (a .left) (a .right) (c .if1 .taken)
+returns c =
+    let at-start = c .before .before in
+    let args = at-start .args in sum-shift (args .row) (args .left) (args .right) (c .if1 .taken)
 
 lift-requires : tie.Need-lift-requires
 lift-requires c κs = search needs
@@ -21,13 +23,14 @@ is-worked-requires c κs = search needs
 
 returns-2 : tie.Need-returns-2
 returns-2 c =
-    let w = c .before .before .before in
-    let v = w .before in
-    let y = v .before in
-    let l = y .before .before in
-    let i = l .before in
-    let a = i .before .before .args in
-    sum-tests (a .row) (a .left) (a .right) (i .if1 .left) (l .lift .result) (y .wide .result) (v .wide2 .result) (w .is-worked .result) (l .lift .ensures .0) (y .wide .ensures) (v .wide2 .ensures) (w .is-worked .ensures)
+    let after-is-worked = c .before .before .before in
+    let after-wide2 = after-is-worked .before in
+    let after-wide = after-wide2 .before in
+    let after-lift = after-wide .before .before in
+    let in-else-1 = after-lift .before in
+    let at-start = in-else-1 .before .before in
+    let args = at-start .args in
+    sum-tests (args .row) (args .left) (args .right) (in-else-1 .if1 .left) (after-lift .lift .result) (after-wide .wide .result) (after-wide2 .wide2 .result) (after-is-worked .is-worked .result) (after-lift .lift .ensures .0) (after-wide .wide .ensures) (after-wide2 .wide2 .ensures) (after-is-worked .is-worked .ensures)
 
 pub is-sum-spec : {M : Type 1} → statement M
 is-sum-spec =

@@ -16,10 +16,12 @@ is-first-requires c κs = search needs
 
 returns : tie.Need-returns
 returns c =
+    let in-then-1 = c .before in
+    let after-read-row = in-then-1 .before in
+    let at-start = after-read-row .before .before in
     λ n l.
-    let r = c .before .before in
-    let a = r .before .before .args in
-    c .is-first .ensures ∙ row-first (a .rows .now) n (a .i) l (r .read-row .result) (r .read-row .ensures) (c .before .if1 .taken)
+    let args = at-start .args in
+    c .is-first .ensures ∙ row-first (args .rows .now) n (args .i) l (after-read-row .read-row .result) (after-read-row .read-row .ensures) (in-then-1 .if1 .taken)
 
 index-requires : tie.Need-index-requires
 index-requires c κs = search needs
@@ -29,21 +31,23 @@ index-requires-2 c κs = search needs
 
 returns-2 : tie.Need-returns-2
 returns-2 c =
+    let after-index = c .before .before in
+    let in-else-1 = after-index .before in
+    let after-read-row = in-else-1 .before in
+    let at-start = after-read-row .before .before in
     λ n l.
-    let m = c .before .before in
-    let z = m .before in
-    let r = z .before in
-    let a = r .before .before .args in
-    row-left (a .rows .now) n (a .i) l (r .read-row .result) (r .read-row .ensures) (z .if1 .left) (omega (arith, c .if2 .taken, m .index .ensures))
+    let args = at-start .args in
+    row-left (args .rows .now) n (args .i) l (after-read-row .read-row .result) (after-read-row .read-row .ensures) (in-else-1 .if1 .left) (omega (arith, c .if2 .taken, after-index .index .ensures))
 
 returns-3 : tie.Need-returns-3
 returns-3 c =
+    let after-index2 = c .before .before in
+    let in-else-1 = after-index2 .before .before in
+    let after-read-row = in-else-1 .before in
+    let at-start = after-read-row .before .before in
     λ n l.
-    let k = c .before .before in
-    let z = k .before .before in
-    let r = z .before in
-    let a = r .before .before .args in
-    row-right (a .rows .now) n (a .i) l (r .read-row .result) (r .read-row .ensures) (z .if1 .left) (omega (arith, c .if3 .taken, k .index2 .ensures))
+    let args = at-start .args in
+    row-right (args .rows .now) n (args .i) l (after-read-row .read-row .result) (after-read-row .read-row .ensures) (in-else-1 .if1 .left) (omega (arith, c .if3 .taken, after-index2 .index2 .ensures))
 
 read-value-requires : tie.Need-read-value-requires
 read-value-requires c κs = search needs
@@ -56,20 +60,21 @@ is-sum-requires c κs = search needs
 
 returns-4 : tie.Need-returns-4
 returns-4 c =
+    let after-read-value2 = c .before in
+    let after-read-value = after-read-value2 .before in
+    let in-else-3 = after-read-value .before in
+    let in-else-2 = in-else-3 .before in
+    let after-index2 = in-else-2 .before in
+    let after-index = after-index2 .before in
+    let in-else-1 = after-index .before in
+    let after-read-row = in-else-1 .before in
+    let at-start = after-read-row .before .before in
     λ n l.
-    let y = c .before in
-    let x = y .before in
-    let g = x .before in
-    let f = g .before in
-    let k = f .before in
-    let m = k .before in
-    let z = m .before in
-    let r = z .before in
-    let a = r .before .before .args in
-    let t = a .rows .now in
+    let args = at-start .args in
+    let t = args .rows .now in
     c .is-sum .ensures
-    ∙ row-sum t n (a .i) l (r .read-row .result) (r .read-row .ensures) (z .if1 .left) (omega (arith, f .if2 .left, m .index .ensures)) (omega (arith, g .if3 .left, k .index2 .ensures))
-    (x .read-value .result) (y .read-value2 .result) (x .read-value .ensures ∙ ap (λ (j : ℕ). rowAt t j .value) (m .index .ensures)) (y .read-value2 .ensures ∙ ap (λ (j : ℕ). rowAt t j .value) (k .index2 .ensures))
+    ∙ row-sum t n (args .i) l (after-read-row .read-row .result) (after-read-row .read-row .ensures) (in-else-1 .if1 .left) (omega (arith, in-else-2 .if2 .left, after-index .index .ensures)) (omega (arith, in-else-3 .if3 .left, after-index2 .index2 .ensures))
+    (after-read-value .read-value .result) (after-read-value2 .read-value2 .result) (after-read-value .read-value .ensures ∙ ap (λ (j : ℕ). rowAt t j .value) (after-index .index .ensures)) (after-read-value2 .read-value2 .ensures ∙ ap (λ (j : ℕ). rowAt t j .value) (after-index2 .index2 .ensures))
 
 pub keeps-row-rule-spec : {M : Type 1} → statement M
 keeps-row-rule-spec =

@@ -14,30 +14,43 @@ cast-t5 c = search needs
 
 returns : tie.Need-returns
 returns c =
-    let a = c .before .before .args in
-    ap Coefficient (toZ-pos w32 (a .p) (omega arith)) ∙ plus-within (a .sign) (a .p) (c .before .if1 .taken) (omega (arith, c .if2 .taken))
+    let in-then-1 = c .before in
+    let at-start = in-then-1 .before in
+    let args = at-start .args in
+    ap Coefficient (toZ-pos w32 (args .p) (omega arith)) ∙ plus-within (args .sign) (args .p) (in-then-1 .if1 .taken) (omega (arith, c .if2 .taken))
 
 returns-2 : tie.Need-returns-2
-returns-2 c = let a = c .before .before .args in plus-outside (a .sign) (a .p) (c .before .if1 .taken) (c .if2 .left)
+returns-2 c =
+    let in-then-1 = c .before in
+    let at-start = in-then-1 .before in
+    let args = at-start .args in plus-outside (args .sign) (args .p) (in-then-1 .if1 .taken) (c .if2 .left)
 
 negated-requires : tie.Need-negated-requires
 negated-requires c κs = search needs
 
 returns-3 : tie.Need-returns-3
 returns-3 c =
-    let f = c .before .before in
-    let a = f .before .before .args in
+    let in-then-4 = c .before in
+    let in-then-3 = in-then-4 .before in
+    let in-else-1 = in-then-3 .before in
+    let at-start = in-else-1 .before in
+    let args = at-start .args in
     ap Coefficient (toZ-ofZ w32 (c .negated .result) (record { sfits = c .negated .ok }) ∙ c .negated .ensures)
-    ∙ minus-within (a .sign) (a .p) (f .before .if1 .left) (f .if3 .taken) (omega (arith, c .before .if4 .taken))
+    ∙ minus-within (args .sign) (args .p) (in-else-1 .if1 .left) (in-then-3 .if3 .taken) (omega (arith, in-then-4 .if4 .taken))
 
 returns-4 : tie.Need-returns-4
 returns-4 c =
-    let f = c .before in
-    let a = f .before .before .args in
-    minus-outside (a .sign) (a .p) (f .before .if1 .left) (f .if3 .taken) (c .if4 .left)
+    let in-then-3 = c .before in
+    let in-else-1 = in-then-3 .before in
+    let at-start = in-else-1 .before in
+    let args = at-start .args in
+    minus-outside (args .sign) (args .p) (in-else-1 .if1 .left) (in-then-3 .if3 .taken) (c .if4 .left)
 
 returns-5 : tie.Need-returns-5
-returns-5 c = let a = c .before .before .args in no-sign (a .sign) (a .p) (c .before .if1 .left) (c .if3 .left)
+returns-5 c =
+    let in-else-1 = c .before in
+    let at-start = in-else-1 .before in
+    let args = at-start .args in no-sign (args .sign) (args .p) (in-else-1 .if1 .left) (c .if3 .left)
 
 pub signed-product-spec : {M : Type 1} → statement M
 signed-product-spec =

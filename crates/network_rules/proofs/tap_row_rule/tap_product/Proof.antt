@@ -25,39 +25,42 @@ index-requires c κs = search needs
 
 returns : tie.Need-returns
 returns c =
-    let f = c .before .before in
-    let m = f .before .before in
-    let t = m .before in
-    let a = t .before .before .before .args in
-    let rows = rowsOf (a .rows .now) (a .n) in
-    tap-empty rows (t .read-tap-row .result) (f .if1 .taken) (m .index .result) (m .index .ensures) true (c .if2 .taken) ∙ ap (productOf rows) (t .read-tap-row .ensures)
+    let in-then-1 = c .before .before in
+    let after-index = in-then-1 .before .before in
+    let after-read-tap-row = after-index .before in
+    let at-start = after-read-tap-row .before .before .before in
+    let args = at-start .args in
+    let rows = rowsOf (args .rows .now) (args .n) in
+    tap-empty rows (after-read-tap-row .read-tap-row .result) (in-then-1 .if1 .taken) (after-index .index .result) (after-index .index .ensures) true (c .if2 .taken) ∙ ap (productOf rows) (after-read-tap-row .read-tap-row .ensures)
 
 returns-2 : tie.Need-returns-2
 returns-2 c =
-    let f = c .before .before in
-    let m = f .before .before in
-    let t = m .before in
-    let a = t .before .before .before .args in
-    let rows = rowsOf (a .rows .now) (a .n) in
-    tap-empty rows (t .read-tap-row .result) (f .if1 .taken) (m .index .result) (m .index .ensures) false (c .if2 .left) ∙ ap (productOf rows) (t .read-tap-row .ensures)
+    let in-then-1 = c .before .before in
+    let after-index = in-then-1 .before .before in
+    let after-read-tap-row = after-index .before in
+    let at-start = after-read-tap-row .before .before .before in
+    let args = at-start .args in
+    let rows = rowsOf (args .rows .now) (args .n) in
+    tap-empty rows (after-read-tap-row .read-tap-row .result) (in-then-1 .if1 .taken) (after-index .index .result) (after-index .index .ensures) false (c .if2 .left) ∙ ap (productOf rows) (after-read-tap-row .read-tap-row .ensures)
 
 returns-3 : tie.Need-returns-3
 returns-3 c =
-    let f = c .before in
-    let m = f .before .before in
-    let t = m .before in
-    let a = t .before .before .before .args in
-    let rows = rowsOf (a .rows .now) (a .n) in
-    tap-row rows (t .read-tap-row .result) (f .if1 .left) (omega (arith, c .if3 .taken, m .index .ensures, length-upTo (a .n) (rowAt (a .rows .now)))) ∙ ap (productOf rows) (t .read-tap-row .ensures)
+    let in-else-1 = c .before in
+    let after-index = in-else-1 .before .before in
+    let after-read-tap-row = after-index .before in
+    let at-start = after-read-tap-row .before .before .before in
+    let args = at-start .args in
+    let rows = rowsOf (args .rows .now) (args .n) in
+    tap-row rows (after-read-tap-row .read-tap-row .result) (in-else-1 .if1 .left) (omega (arith, c .if3 .taken, after-index .index .ensures, length-upTo (args .n) (rowAt (args .rows .now)))) ∙ ap (productOf rows) (after-read-tap-row .read-tap-row .ensures)
 
 returns-4 : tie.Need-returns-4
 returns-4 c =
-    let f = c .before .before .before in
-    let m = f .before .before in
-    let t = m .before in
-    let a = t .before .before .before .args in
-    let rows = rowsOf (a .rows .now) (a .n) in
-    tap-shift rows (t .read-tap-row .result) (f .if1 .left) (c .if4 .taken) ∙ ap (productOf rows) (t .read-tap-row .ensures)
+    let in-else-1 = c .before .before .before in
+    let after-read-tap-row = in-else-1 .before .before .before in
+    let at-start = after-read-tap-row .before .before .before in
+    let args = at-start .args in
+    let rows = rowsOf (args .rows .now) (args .n) in
+    tap-shift rows (after-read-tap-row .read-tap-row .result) (in-else-1 .if1 .left) (c .if4 .taken) ∙ ap (productOf rows) (after-read-tap-row .read-tap-row .ensures)
 
 read-value-requires : tie.Need-read-value-requires
 read-value-requires c κs = search needs
@@ -71,24 +74,25 @@ signed-product-requires c κs = search needs
 returns-5 : tie.Need-returns-5
 unfolding coefficientOf
 returns-5 c =
-    let l = c .before in
-    let v = l .before in
-    let s = v .before in
-    let g = s .before .before in
-    let f = g .before in
-    let m = f .before .before in
-    let t = m .before in
-    let a = t .before .before .before .args in
-    let table = a .rows .now in
-    let rows = rowsOf table (a .n) in
-    let p = t .read-tap-row .result in
-    let h : p .row < a .n = omega (arith, g .if3 .left, m .index .ensures) in
-    let e : l .lift .result ≡ lifted (p .shift) (rowIn rows (p .row) .value) = l .lift .ensures .0
-    ∙ ap (lifted (p .shift)) (v .read-value .ensures ∙ ap (λ (k : ℕ). rowAt table k .value) (m .index .ensures) ∙ ap (λ (r : Row). r .value) (sym (getD-upTo (a .n) (rowAt table) noRow (p .row) h))) in
+    let after-lift = c .before in
+    let after-read-value = after-lift .before in
+    let in-else-4 = after-read-value .before in
+    let in-else-3 = in-else-4 .before .before in
+    let in-else-1 = in-else-3 .before in
+    let after-index = in-else-1 .before .before in
+    let after-read-tap-row = after-index .before in
+    let at-start = after-read-tap-row .before .before .before in
+    let args = at-start .args in
+    let table = args .rows .now in
+    let rows = rowsOf table (args .n) in
+    let read-tap-row-result = after-read-tap-row .read-tap-row .result in
+    let h : read-tap-row-result .row < args .n = omega (arith, in-else-3 .if3 .left, after-index .index .ensures) in
+    let e : after-lift .lift .result ≡ lifted (read-tap-row-result .shift) (rowIn rows (read-tap-row-result .row) .value) = after-lift .lift .ensures .0
+    ∙ ap (lifted (read-tap-row-result .shift)) (after-read-value .read-value .ensures ∙ ap (λ (k : ℕ). rowAt table k .value) (after-index .index .ensures) ∙ ap (λ (r : Row). r .value) (sym (getD-upTo (args .n) (rowAt table) noRow (read-tap-row-result .row) h))) in
     c .signed-product .ensures
-    ∙ ap (λ (z : ℤ). productIf (isTapSign (p .sign) && withinBounds z) z) (ap (λ (k : ℕ). withSign (p .sign) (pos k)) e)
-    ∙ tap-signed rows p (f .if1 .left) (omega (arith, h, length-upTo (a .n) (rowAt table))) (s .if4 .left)
-    ∙ ap (productOf rows) (t .read-tap-row .ensures)
+    ∙ ap (λ (z : ℤ). productIf (isTapSign (read-tap-row-result .sign) && withinBounds z) z) (ap (λ (k : ℕ). withSign (read-tap-row-result .sign) (pos k)) e)
+    ∙ tap-signed rows read-tap-row-result (in-else-1 .if1 .left) (omega (arith, h, length-upTo (args .n) (rowAt table))) (in-else-4 .if4 .left)
+    ∙ ap (productOf rows) (after-read-tap-row .read-tap-row .ensures)
 
 pub tap-product-spec : {M : Type 1} → statement M
 tap-product-spec =

@@ -32,7 +32,9 @@ shared-slice-read-if1 : tie.Need-shared-slice-read-if1 Inv-loop μ-loop
 shared-slice-read-if1 c = search needs
 
 returns : tie.Need-returns Inv-loop μ-loop
-returns c = c .before .before .before .loop .inv
+returns c =
+    let at-loop = c .before .before .before in
+    at-loop .loop .inv
 
 sub-if2 : tie.Need-sub-if2 Inv-loop μ-loop
 sub-if2 c = search needs
@@ -44,7 +46,9 @@ element-copy-out-if2 : tie.Need-element-copy-out-if2 Inv-loop μ-loop
 element-copy-out-if2 c = search needs
 
 returns-2 : tie.Need-returns-2 Inv-loop μ-loop
-returns-2 c = c .before .before .before .before .before .loop .inv
+returns-2 c =
+    let at-loop = c .before .before .before .before .before in
+    at-loop .loop .inv
 
 sub-w : tie.Need-sub-w Inv-loop μ-loop
 sub-w c = search needs
@@ -54,19 +58,23 @@ loop-less c = search needs
 
 loop-again : tie.Need-loop-again Inv-loop μ-loop
 loop-again c =
-    let at = c .before .before .before .before .before in
-    let w = at .loop .w in
-    let h = at .before .args .h .now in
-    let r = at .before .args .registers .now in
+    let after-if22 = c .before in
+    let in-else-1 = after-if22 .before in
+    let at-loop = in-else-1 .before .before .before in
+    let at-start = at-loop .before in
+    let w = at-loop .loop .w in
+    let h = at-start .args .h .now in
+    let registers = at-start .args .registers .now in
     let e : w ≡ suc (w - 1) = omega arith in
-    let z : getD h (w - 1) (pos 0) ≡ pos 0 = sym (toZ-ofZ w32 (getD h (w - 1) (pos 0)) (record { sfits = c .before .if22 .given })) ∙ ap (toZ w32) (c .if2 .left) in
-    (search needs, zero-from-less h r (w - 1) (omega arith) (c .before .before .if1 .left) z (subst (λ k. ZeroFrom k h r) e (at .loop .inv .1)))
+    let z : getD h (w - 1) (pos 0) ≡ pos 0 = sym (toZ-ofZ w32 (getD h (w - 1) (pos 0)) (record { sfits = after-if22 .if22 .given })) ∙ ap (toZ w32) (c .if2 .left) in
+    (search needs, zero-from-less h registers (w - 1) (omega arith) (in-else-1 .if1 .left) z (subst (λ k. ZeroFrom k h registers) e (at-loop .loop .inv .1)))
 
 returns-3 : tie.Need-returns-3 Inv-loop μ-loop
 returns-3 c =
-    let at = c .before in
-    let e : at .loop .w ≡ 0 = omega arith in
-    (search needs, subst (λ k. ZeroFrom k (at .before .args .h .now) (at .before .args .registers .now)) e (at .loop .inv .1))
+    let at-loop = c .before in
+    let at-start = at-loop .before in
+    let e : at-loop .loop .w ≡ 0 = omega arith in
+    (search needs, subst (λ k. ZeroFrom k (at-start .args .h .now) (at-start .args .registers .now)) e (at-loop .loop .inv .1))
 
 pub used-spec : {M : Type 1} → statement M
 used-spec =

@@ -20,7 +20,8 @@ abbrev μ-loop : tie.MeasureT-loop
 
 returns : tie.Need-returns Inv-loop μ-loop
 returns c =
-    sym (refused-empty (c .before .before .args .text .now) (c .if1 .taken))
+    let at-start = c .before .before in
+    sym (refused-empty (at-start .args .text .now) (c .if1 .taken))
 
 loop-holds : tie.Need-loop-holds Inv-loop μ-loop
 loop-holds c =
@@ -31,15 +32,21 @@ shared-slice-read-b c = search needs
 
 returns-2 : tie.Need-returns-2 Inv-loop μ-loop
 returns-2 c =
-    let l = c .before .before .before .loop in
-    let t = c .before .before .before .before .before .before .args .text .now in
-    sym (refused-digits t (l .inv .1 .1 .0 ∙ digits-stop t (l .i) (c .before .before .loop-test .taken) (digit-low _ (c .if2 .taken))))
+    let in-loop = c .before .before in
+    let at-loop = in-loop .before in
+    let at-start = at-loop .before .before .before in
+    let loop = at-loop .loop in
+    let text = at-start .args .text .now in
+    sym (refused-digits text (loop .inv .1 .1 .0 ∙ digits-stop text (loop .i) (in-loop .loop-test .taken) (digit-low _ (c .if2 .taken))))
 
 returns-3 : tie.Need-returns-3 Inv-loop μ-loop
 returns-3 c =
-    let l = c .before .before .before .before .loop in
-    let t = c .before .before .before .before .before .before .before .args .text .now in
-    sym (refused-digits t (l .inv .1 .1 .0 ∙ digits-stop t (l .i) (c .before .before .before .loop-test .taken) (digit-high _ (c .if3 .taken))))
+    let in-loop = c .before .before .before in
+    let at-loop = in-loop .before in
+    let at-start = at-loop .before .before .before in
+    let loop = at-loop .loop in
+    let text = at-start .args .text .now in
+    sym (refused-digits text (loop .inv .1 .1 .0 ∙ digits-stop text (loop .i) (in-loop .loop-test .taken) (digit-high _ (c .if3 .taken))))
 
 mul-f : tie.Need-mul-f Inv-loop μ-loop
 mul-f c = search needs
@@ -52,12 +59,16 @@ add-f c = search needs
 
 returns-4 : tie.Need-returns-4 Inv-loop μ-loop
 returns-4 c =
-    let l = c .before .before .before .before .before .before .loop in
-    let t = c .before .before .before .before .before .before .before .before .before .args .text .now in
-    let i = l .i in
-    let f = l .f in
-    let n = l .inv .1 .1 .1 ∙ number-next t i f (c .before .before .before .before .before .loop-test .taken) in
-    sym (refused-large t (omega (arith, n, c .before .digit .ensures, c .if4 .taken, number-grows (10 * f + (getD t i 0 - 48)) (drop (i + 1) t))))
+    let after-digit = c .before in
+    let in-loop = after-digit .before .before .before .before in
+    let at-loop = in-loop .before in
+    let at-start = at-loop .before .before .before in
+    let loop = at-loop .loop in
+    let text = at-start .args .text .now in
+    let i = loop .i in
+    let f = loop .f in
+    let n = loop .inv .1 .1 .1 ∙ number-next text i f (in-loop .loop-test .taken) in
+    sym (refused-large text (omega (arith, n, after-digit .digit .ensures, c .if4 .taken, number-grows (10 * f + (getD text i 0 - 48)) (drop (i + 1) text))))
 
 add-i : tie.Need-add-i Inv-loop μ-loop
 add-i c = search needs
@@ -67,29 +78,38 @@ loop-less c = search needs
 
 loop-again : tie.Need-loop-again Inv-loop μ-loop
 loop-again c =
-    let l = c .before .before .before .before .before .before .loop in
-    let t = c .before .before .before .before .before .before .before .before .before .args .text .now in
-    let i = l .i in
-    let f = l .f in
-    let h = c .before .before .before .before .before .loop-test .taken in (
+    let after-digit = c .before in
+    let in-else-3 = after-digit .before in
+    let in-else-2 = in-else-3 .before in
+    let in-loop = in-else-2 .before .before in
+    let at-loop = in-loop .before in
+    let at-start = at-loop .before .before .before in
+    let loop = at-loop .loop in
+    let text = at-start .args .text .now in
+    let i = loop .i in
+    let f = loop .f in
+    let loop-test-taken = in-loop .loop-test .taken in (
       search needs,
       (
         search needs,
         (
-          l .inv .1 .1 .0 ∙ digits-next t i h (digit-in _ (c .before .before .before .if2 .left) (c .before .before .if3 .left)),
-          l .inv .1 .1 .1 ∙ number-next t i f h ∙ ap (λ k. numberFrom (10 * f + k) (drop (i + 1) t)) (sym (c .before .digit .ensures)),
+          loop .inv .1 .1 .0 ∙ digits-next text i loop-test-taken (digit-in _ (in-else-2 .if2 .left) (in-else-3 .if3 .left)),
+          loop .inv .1 .1 .1 ∙ number-next text i f loop-test-taken ∙ ap (λ k. numberFrom (10 * f + k) (drop (i + 1) text)) (sym (after-digit .digit .ensures)),
         ),
       ),
     )
 
 returns-5 : tie.Need-returns-5 Inv-loop μ-loop
 returns-5 c =
-    let l = c .before .loop in
-    let t = c .before .before .before .before .args .text .now in
-    let h = c .loop-test .left in
-    let n = l .inv .1 .1 .1 ∙ number-end t (l .i) (l .f) h in
-    let p : 0 < length t = omega (arith, c .before .before .if1 .left) in
-    sym (given-bits t p (l .inv .1 .1 .0 ∙ digits-end t (l .i) h) (omega (arith, n, l .inv .1 .0)) ∙ ap given n)
+    let at-loop = c .before in
+    let in-else-1 = at-loop .before in
+    let at-start = in-else-1 .before .before in
+    let loop = at-loop .loop in
+    let text = at-start .args .text .now in
+    let loop-test-left = c .loop-test .left in
+    let n = loop .inv .1 .1 .1 ∙ number-end text (loop .i) (loop .f) loop-test-left in
+    let p : 0 < length text = omega (arith, in-else-1 .if1 .left) in
+    sym (given-bits text p (loop .inv .1 .1 .0 ∙ digits-end text (loop .i) loop-test-left) (omega (arith, n, loop .inv .1 .0)) ∙ ap given n)
 
 pub bits-of-spec : {M : Type 1} → statement M
 bits-of-spec =

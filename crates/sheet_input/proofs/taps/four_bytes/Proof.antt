@@ -59,13 +59,16 @@ add-result-3 c = search needs
 
 returns : tie.Need-returns
 returns c =
-    let s = c .before .before .before .before .before .before .before .before .before in
-    let e = low-four (s .args .input .now) (s .args .at) (s .pre) in
-    let a = c .before .before .before .before .before .before .byte .ensures in
-    let b = c .before .before .before .before .byte2 .ensures in
-    let d = c .before .before .byte3 .ensures in
-    let f = c .byte4 .ensures in
-    (omega (arith, e, a .0, b .0, d .0, f .0), omega (arith, a .1, b .1, d .1, f .1))
+    let after-byte3 = c .before .before in
+    let after-byte2 = after-byte3 .before .before in
+    let after-byte = after-byte2 .before .before in
+    let at-start = after-byte .before .before .before in
+    let e = low-four (at-start .args .input .now) (at-start .args .at) (at-start .pre) in
+    let byte-ensures = after-byte .byte .ensures in
+    let byte2-ensures = after-byte2 .byte2 .ensures in
+    let byte3-ensures = after-byte3 .byte3 .ensures in
+    let byte4-ensures = c .byte4 .ensures in
+    (omega (arith, e, byte-ensures .0, byte2-ensures .0, byte3-ensures .0, byte4-ensures .0), omega (arith, byte-ensures .1, byte2-ensures .1, byte3-ensures .1, byte4-ensures .1))
 
 pub four-bytes-spec : {M : Type 1} → statement M
 four-bytes-spec =

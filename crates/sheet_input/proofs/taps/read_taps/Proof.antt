@@ -20,8 +20,9 @@ abbrev μ-loop : tie.MeasureT-loop
 
 loop-holds : tie.Need-loop-holds Inv-loop μ-loop
 loop-holds c =
-    let a = c .before .before .args in
-    (search needs, (sym (front-start (tapAt (a .input .now)) (a .taps .now)), refl))
+    let at-start = c .before .before in
+    let args = at-start .args in
+    (search needs, (sym (front-start (tapAt (args .input .now)) (args .taps .now)), refl))
 
 tap-at-requires : tie.Need-tap-at-requires Inv-loop μ-loop
 tap-at-requires c κs = search needs
@@ -40,15 +41,17 @@ loop-less c = search needs
 
 loop-again : tie.Need-loop-again Inv-loop μ-loop
 loop-again c =
-    let l = c .before .before .loop in
-    let s = c .before .before .before .before .before in
-    let f = tapAt (s .args .input .now) in
-    let old = s .args .taps .now in
-    let i = l .i in (
+    let in-loop = c .before in
+    let at-loop = in-loop .before in
+    let at-start = at-loop .before .before .before in
+    let loop = at-loop .loop in
+    let f = tapAt (at-start .args .input .now) in
+    let old = at-start .args .taps .now in
+    let i = loop .i in (
       search needs,
       (
-        ap (λ v. set (l .taps) i v) (c .tap-at .ensures) ∙ ap (λ t. set t i (f i)) (l .inv .1 .0) ∙ front-next f old i nan (omega (arith, s .pre, c .before .loop-test .taken)),
-        simp length-set (l .inv .1 .1),
+        ap (λ v. set (loop .taps) i v) (c .tap-at .ensures) ∙ ap (λ t. set t i (f i)) (loop .inv .1 .0) ∙ front-next f old i nan (omega (arith, at-start .pre, in-loop .loop-test .taken)),
+        simp length-set (loop .inv .1 .1),
       ),
     )
 
@@ -57,11 +60,12 @@ same-length c = search needs
 
 returns : tie.Need-returns Inv-loop μ-loop
 returns c =
-    let l = c .before .loop in
-    let s = c .before .before .before .before in
-    let a = s .args in
-    let e : l .i ≡ length (a .input .now) / 8 = omega (arith, c .loop-test .left, l .inv .0) in
-    l .inv .1 .0 ∙ ap (front (tapAt (a .input .now)) (a .taps .now)) e
+    let at-loop = c .before in
+    let at-start = at-loop .before .before .before in
+    let loop = at-loop .loop in
+    let args = at-start .args in
+    let e : loop .i ≡ length (args .input .now) / 8 = omega (arith, c .loop-test .left, loop .inv .0) in
+    loop .inv .1 .0 ∙ ap (front (tapAt (args .input .now)) (args .taps .now)) e
 
 pub read-taps-spec : {M : Type 1} → statement M
 read-taps-spec =

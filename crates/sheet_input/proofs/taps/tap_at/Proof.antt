@@ -33,9 +33,11 @@ of-bits-requires c κs = search needs
 returns : tie.Need-returns
 unfolding tapAt
 returns c =
-    let s = c .before .before .before .before in
-    let e = low-eight (s .args .input .now) (8 * s .args .i) (s .pre) in
-    c .of-bits .ensures ∙ ap (ofBits binary64) (omega (arith, e, c .before .before .four-bytes .ensures .0, c .before .four-bytes2 .ensures .0))
+    let after-four-bytes2 = c .before in
+    let after-four-bytes = after-four-bytes2 .before in
+    let at-start = after-four-bytes .before .before in
+    let e = low-eight (at-start .args .input .now) (8 * at-start .args .i) (at-start .pre) in
+    c .of-bits .ensures ∙ ap (ofBits binary64) (omega (arith, e, after-four-bytes .four-bytes .ensures .0, after-four-bytes2 .four-bytes2 .ensures .0))
 
 pub tap-at-spec : {M : Type 1} → statement M
 tap-at-spec =
