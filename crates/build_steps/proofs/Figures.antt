@@ -2,7 +2,7 @@
 use mathlib.Core.Path.{_≡_, refl, sym, ap, ap₂, _∙_, subst}
 use mathlib.Core.Bool.{false, not, cond}
 use mathlib.Core.List.{List, [], _∷_, flatMap}
-use Prim.Native.Nat.{ℕ, zero, suc, _≤_, _<_, _*_}
+use Prim.Native.Nat.{ℕ, zero, suc, _+_, _*_, _-_, _^_, _≤_, _<_}
 use native.Mathlib.Omega.{arith}
 use borrow.Author.Tests.{lt-ltb}
 use lib.Count.{trailingZeros}
@@ -52,8 +52,8 @@ unfolding builtRows steps step lookedUp searched takenFrom insertTap insert come
 plus-before-reversed = refl
 
 -- 2^31 - 5 is 2^30·3 - (2^30 + 5): 2^s·left is above 2^31
-pub above-2^31 : firstFit (firstRow ∷ rowThen 0 1 plus 0 3 (rowThen 0 28 plus 0 268435457 (rowThen 2 2 plus 0 1073741829 []))) 2147483643
-    ≡ fit (record { left = 1; right = 3; shift = 30; sign = minus; value = 2147483643 })
+pub above-2^31 : firstFit (firstRow ∷ rowThen 0 1 plus 0 3 (rowThen 0 28 plus 0 (2 ^ 28 + 1) (rowThen 2 2 plus 0 (2 ^ 30 + 5) []))) (2 ^ 31 - 5)
+    ≡ fit (record { left = 1; right = 3; shift = 30; sign = minus; value = 2 ^ 31 - 5 })
 unfolding lowestFrom firstFit fitAtLeft fitAtShift firstOver orElse tried rowOver upTo
 above-2^31 = refl
 
