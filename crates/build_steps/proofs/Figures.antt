@@ -9,7 +9,6 @@ use lib.Count.{trailingZeros}
 use lib.Dec.{ltb}
 use lib.IntN.{pos}
 use lib.ListN.{length, getD, drop}
-use Rattle.word.specs.Bounds.{Coefficient}
 use Rattle.refusal.specs.Answer.{Answer, given, refused, at-place, filled, lowestFrom}
 use Rattle.sequence.specs.UpTo.{upTo}
 use Rattle.signed_digit.specs.String.{DigitString}
@@ -19,6 +18,7 @@ use Rattle.signed_digit.proofs.Figures.{figures}
 use Rattle.coefficient.specs.Parts.{partsOf, oddPartOf, shiftOf}
 use Rattle.network.specs.Rows.{Network, plus, minus, rowWords, rowTable, tapWords, tapTable, wordsOfRows, wordsOfTapRows, firstRow}
 use Rattle.network.specs.Figures.{sheetRows, sheetTapRows, sheetCoefficients}
+use Rattle.network.proofs.Figures.{sheet-within}
 use Rattle.build_steps.specs.Parts.{leastWeight, comesBefore, insert, insertTap, takenFrom, partsToBuild}
 use Rattle.build_steps.specs.Search.{rowWith, fit, orElse, firstOver, rowOver, tried, fitAtShift, fitAtLeft, firstFit}
 use Rattle.build_steps.specs.Steps.{searched, lookedUp, step, steps, builtRows}
@@ -59,13 +59,6 @@ above-2^31 = refl
 
 -- ---- what the claims take holds of the sheet's taps
 
-within : (i : ℕ) → i < length sheetCoefficients → Coefficient (getD sheetCoefficients i (pos 0))
-within zero h = record { from-least = record { le = tt }; to-greatest = record { le = tt } }
-within (suc zero) h = record { from-least = record { le = tt }; to-greatest = record { le = tt } }
-within (suc (suc zero)) h = record { from-least = record { le = tt }; to-greatest = record { le = tt } }
-within (suc (suc (suc zero))) h = record { from-least = record { le = tt }; to-greatest = record { le = tt } }
-within (suc (suc (suc (suc i)))) h = absurd (omega arith)
-
 listed : (v : ℕ) → 0 < length (listing 32 (pos v)) → not (ltb 0 (length (listing 32 (pos v)))) ≡ false
 listed v h = ap not (lt-ltb 0 (length (listing 32 (pos v))) h)
 
@@ -84,7 +77,7 @@ forms (suc (suc (suc zero))) h = refl
 forms (suc (suc (suc (suc i)))) h = absurd (omega arith)
 
 can-build : CanBuild sheetCoefficients sheetChoices
-can-build = record { few = omega arith; enough = omega arith; bounds = within; forms = forms }
+can-build = record { few = omega arith; enough = omega arith; bounds = sheet-within; forms = forms }
 
 parts-are : partsToBuild sheetCoefficients sheetChoices ≡ part 3 ∷ part 45 ∷ []
 unfolding takenFrom insertTap insert comesBefore leastWeight partsOf oddPartOf shiftOf trailingZeros canonicalNat
