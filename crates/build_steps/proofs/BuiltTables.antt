@@ -21,6 +21,7 @@ use Rattle.network.proofs.Tables.{row-layout, tap-layout}
 use Rattle.build_steps.specs.Steps.{builtRows}
 use Rattle.build_steps.specs.TapRows.{tapRowOf, built}
 use Rattle.build_steps.specs.Answer.{buildAnswer, rowCount}
+use Rattle.build_steps.specs.RowSteps.{mostRows}
 use Rattle.build_steps.specs.CanBuild.{CanBuild, CanBuildInto}
 use Rattle.build_steps.specs.Built.{BuiltInto, HoldsNetwork}
 use Rattle.build_steps.specs.Claims.{Untouched}
@@ -57,7 +58,7 @@ module _ (cs : List ℤ) (ks rows taps : List ℕ) (net : Network) (e : buildAns
   pub can-build : CanBuild cs ks
   can-build = given-can-build cs ks rows taps net told bounds
 
-  rows-few : length (net .rows) ≤ 3841
+  rows-few : length (net .rows) ≤ mostRows
   rows-few = rw (told .network) (built-few cs ks can-build)
 
   taps-are : length (net .taps) ≡ length cs

@@ -2,14 +2,13 @@
 use mathlib.Core.Path.{_≡_, refl, sym, ap, ap₂, _∙_, subst}
 use mathlib.Core.Bool.{false, not, cond}
 use mathlib.Core.List.{List, [], _∷_, flatMap}
-use Prim.Native.Nat.{ℕ, zero, suc, _≤_, _<_, _*_}
+use Prim.Native.Nat.{ℕ, zero, suc, _+_, _*_, _-_, _^_, _≤_, _<_}
 use native.Mathlib.Omega.{arith}
 use borrow.Author.Tests.{lt-ltb}
 use lib.Count.{trailingZeros}
 use lib.Dec.{ltb}
 use lib.IntN.{pos}
 use lib.ListN.{length, getD, drop}
-use Rattle.word.specs.Bounds.{Coefficient}
 use Rattle.refusal.specs.Answer.{Answer, given, refused, at-place, filled, lowestFrom}
 use Rattle.sequence.specs.UpTo.{upTo}
 use Rattle.signed_digit.specs.String.{DigitString}
@@ -19,6 +18,7 @@ use Rattle.signed_digit.proofs.Figures.{figures}
 use Rattle.coefficient.specs.Parts.{partsOf, oddPartOf, shiftOf}
 use Rattle.network.specs.Rows.{Network, plus, minus, rowWords, rowTable, tapWords, tapTable, wordsOfRows, wordsOfTapRows, firstRow}
 use Rattle.network.specs.Figures.{sheetRows, sheetTapRows, sheetCoefficients}
+use Rattle.network.proofs.Figures.{sheet-within}
 use Rattle.build_steps.specs.Parts.{leastWeight, comesBefore, insert, insertTap, takenFrom, partsToBuild}
 use Rattle.build_steps.specs.Search.{rowWith, fit, orElse, firstOver, rowOver, tried, fitAtShift, fitAtLeft, firstFit}
 use Rattle.build_steps.specs.Steps.{searched, lookedUp, step, steps, builtRows}
@@ -52,19 +52,12 @@ unfolding builtRows steps step lookedUp searched takenFrom insertTap insert come
 plus-before-reversed = refl
 
 -- 2^31 - 5 is 2^30·3 - (2^30 + 5): 2^s·left is above 2^31
-pub above-2^31 : firstFit (firstRow ∷ rowThen 0 1 plus 0 3 (rowThen 0 28 plus 0 268435457 (rowThen 2 2 plus 0 1073741829 []))) 2147483643
-    ≡ fit (record { left = 1; right = 3; shift = 30; sign = minus; value = 2147483643 })
+pub above-2^31 : firstFit (firstRow ∷ rowThen 0 1 plus 0 3 (rowThen 0 28 plus 0 (2 ^ 28 + 1) (rowThen 2 2 plus 0 (2 ^ 30 + 5) []))) (2 ^ 31 - 5)
+    ≡ fit (record { left = 1; right = 3; shift = 30; sign = minus; value = 2 ^ 31 - 5 })
 unfolding lowestFrom firstFit fitAtLeft fitAtShift firstOver orElse tried rowOver upTo
 above-2^31 = refl
 
 -- ---- what the claims take holds of the sheet's taps
-
-within : (i : ℕ) → i < length sheetCoefficients → Coefficient (getD sheetCoefficients i (pos 0))
-within zero h = record { from-least = record { le = tt }; to-greatest = record { le = tt } }
-within (suc zero) h = record { from-least = record { le = tt }; to-greatest = record { le = tt } }
-within (suc (suc zero)) h = record { from-least = record { le = tt }; to-greatest = record { le = tt } }
-within (suc (suc (suc zero))) h = record { from-least = record { le = tt }; to-greatest = record { le = tt } }
-within (suc (suc (suc (suc i)))) h = absurd (omega arith)
 
 listed : (v : ℕ) → 0 < length (listing 32 (pos v)) → not (ltb 0 (length (listing 32 (pos v)))) ≡ false
 listed v h = ap not (lt-ltb 0 (length (listing 32 (pos v))) h)
@@ -84,7 +77,7 @@ forms (suc (suc (suc zero))) h = refl
 forms (suc (suc (suc (suc i)))) h = absurd (omega arith)
 
 can-build : CanBuild sheetCoefficients sheetChoices
-can-build = record { few = omega arith; enough = omega arith; bounds = within; forms = forms }
+can-build = record { few = omega arith; enough = omega arith; bounds = sheet-within; forms = forms }
 
 parts-are : partsToBuild sheetCoefficients sheetChoices ≡ part 3 ∷ part 45 ∷ []
 unfolding takenFrom insertTap insert comesBefore leastWeight partsOf oddPartOf shiftOf trailingZeros canonicalNat

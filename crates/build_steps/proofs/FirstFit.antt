@@ -5,9 +5,8 @@ use mathlib.Core.Path.{_≡_, refl, sym, ap, _∙_}
 use mathlib.Core.Bool.{Bool, true, false, true≢false}
 use mathlib.Core.List.{List}
 use mathlib.Core.Logic.{⊎-elim}
-use Prim.Native.Nat.{ℕ, zero, suc, _-_, _%_, _^_, _≤_, _<_}
-use native.Mathlib.Decide.{decLe}
-use native.Mathlib.Nat.{eq-or-lt-of-le, lt-of-not-le}
+use Prim.Native.Nat.{ℕ, zero, suc, _-_, _%_, _^_, _<_}
+use native.Mathlib.Nat.{eq-or-lt-of-le}
 use native.Mathlib.Omega.{arith}
 use borrow.Author.Tests.{eqb-true}
 use lib.Dec.{T, eqb}
@@ -17,7 +16,9 @@ use Rattle.sequence.proofs.UpTo.{length-upTo, getD-upTo}
 use Rattle.network.specs.declared.Row.{Row}
 use Rattle.network.specs.Rows.{plus, minus, reversed, rowIn}
 use Rattle.network.specs.RowRule.{combined, isRowSign, isNatural, lifted, LaterRow}
-use Rattle.network.proofs.Booleans.{is-true, both}
+use Rattle.word.proofs.Booleans.{is-true}
+use Rattle.word.proofs.Order.{not-above}
+use Rattle.network.proofs.Booleans.{both}
 use Rattle.network.proofs.Rules.{natural-is, is-natural}
 use Rattle.build_steps.specs.Search.{Fit, fit, none-fits, tried, signs, shifts, firstFit, fitAtShift, fitAtLeft}
 use Rattle.build_steps.specs.RowSteps.{signPlace, NoLater, lower-left, lower-shift, no-later-sign, FirstFit}
@@ -170,13 +171,6 @@ module _ (rows : List Row) (v : ℕ) where
           (eq-or-lt-of-le (not-above (suc (x .shifts-at .place)) (q .shift) (not-lower-shift a))))
           (λ (a : x .lefts .place < q .left). lower-left (omega (arith, t .left-is)))
           (eq-or-lt-of-le (not-above (x .lefts .place) (q .left) not-lower-left))
-        where
-          not-above : (i j : ℕ) → (j < i → ⊥) → i ≤ j
-          not-above i j f = go (decLe i j)
-            where
-              go : Dec (i ≤ j) → i ≤ j
-              go (yes h) = h
-              go (no h) = absurd (f (lt-of-not-le h))
 
   -- ---- the theorems
   pub fit-is-first : v % 2 ≡ 1 → v < 2 ^ 31 → (r : Row) → firstFit rows v ≡ fit r → FirstFit rows v r

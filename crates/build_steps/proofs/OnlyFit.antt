@@ -11,7 +11,7 @@ use lib.ListN.{length}
 use Rattle.network.specs.declared.Row.{Row}
 use Rattle.network.specs.Rows.{plus, minus, reversed, rowIn}
 use Rattle.network.specs.RowRule.{combined, isRowSign, isWorked, lifted, LaterRow}
-use Rattle.network.proofs.Booleans.{is-true}
+use Rattle.word.proofs.Booleans.{is-true}
 use Rattle.network.proofs.Rules.{is-natural}
 use Rattle.network.proofs.RowTests.{worked-tests}
 use Rattle.build_steps.specs.Search.{Fit, fit, none-fits, firstFit}

@@ -21,7 +21,7 @@ use Rattle.build_steps.specs.Parts.{Part, partsToBuild}
 use Rattle.build_steps.specs.Steps.{steps, builtRows}
 use Rattle.build_steps.specs.TapRows.{tapRowOf, built}
 use Rattle.build_steps.specs.Answer.{noSuchForm}
-use Rattle.build_steps.specs.RowSteps.{Lawful, row-0, HasRow}
+use Rattle.build_steps.specs.RowSteps.{Lawful, row-0, HasRow, mostRows}
 use Rattle.build_steps.specs.PartOrder.{HasOddPart, Earliest}
 use Rattle.build_steps.specs.CanBuild.{Buildable, CanBuild}
 use Rattle.build_steps.specs.Claims.{TapOf}
@@ -37,8 +37,7 @@ pub record RowsBuilt (coefficients : List ℤ) (rows : List Row) : Type 0 where
   pub lawful : Lawful rows
   -- every odd part has a row
   pub has : (i v : ℕ) → i < length coefficients → HasOddPart (getD coefficients i (pos 0)) v → HasRow rows v
-  -- 1 + 256 × 15
-  pub few : length rows ≤ 3841
+  pub few : length rows ≤ mostRows
 
 module _ (cs : List ℤ) (ks : List ℕ) (c : CanBuild cs ks) where
   -- every part to be built is odd, below 2^31, and its choice is below the number of its forms
@@ -91,7 +90,7 @@ module _ (rows : List Row) where
 
 -- ---- the theorems
 module _ (cs : List ℤ) (ks : List ℕ) (c : CanBuild cs ks) where
-  pub built-few : length (built cs ks .rows) ≤ 3841
+  pub built-few : length (built cs ks .rows) ≤ mostRows
   unfolding built
   built-few = rows-built cs ks c .few
 

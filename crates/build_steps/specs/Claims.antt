@@ -26,7 +26,7 @@ use Rattle.build_steps.specs.Chain.{chosenForm, chained}
 use Rattle.build_steps.specs.Steps.{step, builtRows}
 use Rattle.build_steps.specs.TapRows.{tapRowOf, built}
 use Rattle.build_steps.specs.PartOrder.{HasOddPart, PartsInOrder}
-use Rattle.build_steps.specs.RowSteps.{FirstFit, Lawful, HasRow, TheStep, Growth, TheRows}
+use Rattle.build_steps.specs.RowSteps.{FirstFit, Lawful, HasRow, TheStep, Growth, mostRows, TheRows}
 use Rattle.build_steps.specs.CanBuild.{Listed, CanBuild, CanBuildInto, Buildable, Chosen}
 use Rattle.build_steps.specs.Built.{BuiltInto, HoldsNetwork}
 
@@ -88,7 +88,7 @@ pub record BuildingClaims : Type 0 where
   pub tap-row : (rows : List Row) (n : ℤ) → Coefficient n → ((v : ℕ) → HasOddPart n v → HasRow rows v) → TapOf rows n (tapRowOf rows (partsOf n))
   -- ---- the network: it passes the checks, and its coefficients are those given; nothing runs out
   pub built-passes : (coefficients : List ℤ) (choices : List ℕ) → CanBuild coefficients choices → checked (built coefficients choices) ≡ given coefficients
-  pub built-few : (coefficients : List ℤ) (choices : List ℕ) → CanBuild coefficients choices → length (built coefficients choices .rows) ≤ 3841
+  pub built-few : (coefficients : List ℤ) (choices : List ℕ) → CanBuild coefficients choices → length (built coefficients choices .rows) ≤ mostRows
   -- ---- the tables that `build` leaves: it accepts what can be built ("a number is returned in no other circumstances"), returns the number of rows,
   -- and the tables hold the network
   pub built-accepted : (coefficients : List ℤ) (choices rows taps : List ℕ) (a : Answer ℕ) (rows′ taps′ : List ℕ)

@@ -2,7 +2,7 @@
 -- proves them. Definitions only.
 use mathlib.Core.Path.{_≡_}
 use mathlib.Core.List.{List, [], _∷_}
-use Prim.Native.Nat.{ℕ, _≤_, _*_}
+use Prim.Native.Nat.{ℕ, _+_, _*_, _-_, _^_, _≤_}
 use lib.IntN.{pos}
 use lib.ListN.{length, drop}
 use Rattle.refusal.specs.Answer.{given, refused}
@@ -44,8 +44,8 @@ pub record BuildingFigures : Type 0 where
   pub plus-before-reversed : builtRows (pos 15 ∷ pos 11 ∷ pos 7 ∷ []) (0 ∷ 0 ∷ 0 ∷ [])
       ≡ firstRow ∷ rowThen 0 3 minus 0 7 (rowThen 0 3 plus 1 15 (rowThen 0 2 plus 1 11 []))
   -- 2^31 - 5 is 2^30·3 - (2^30 + 5): 2^s·left is above 2^31
-  pub above-2^31 : firstFit (firstRow ∷ rowThen 0 1 plus 0 3 (rowThen 0 28 plus 0 268435457 (rowThen 2 2 plus 0 1073741829 []))) 2147483643
-      ≡ fit (record { left = 1; right = 3; shift = 30; sign = minus; value = 2147483643 })
+  pub above-2^31 : firstFit (firstRow ∷ rowThen 0 1 plus 0 3 (rowThen 0 28 plus 0 (2 ^ 28 + 1) (rowThen 2 2 plus 0 (2 ^ 30 + 5) []))) (2 ^ 31 - 5)
+      ≡ fit (record { left = 1; right = 3; shift = 30; sign = minus; value = 2 ^ 31 - 5 })
   -- ---- what the claims take holds of the sheet's taps
   pub sheet-can-build : CanBuild sheetCoefficients sheetChoices
   pub sheet-parts : PartsInOrder sheetCoefficients sheetChoices (part 3 ∷ part 45 ∷ [])

@@ -88,6 +88,10 @@ pub record RowValue (v : ℕ) : Type 0 where
   pub from : 1 ≤ v
   pub to : v ≤ 2 ^ 31 - 1
 
+-- the most rows of a network that is built: row 0, and at most 15 rows for each of 256 odd parts
+abbrev pub mostRows : ℕ
+mostRows = 1 + 256 * 15
+
 pub record TheRows (coefficients : List ℤ) (rows : List Row) : Type 0 where
   pub rule : (i : ℕ) → i < length rows → RowRule rows i
   pub value : (i : ℕ) → i < length rows → RowValue (rowIn rows i .value)
@@ -97,5 +101,4 @@ pub record TheRows (coefficients : List ℤ) (rows : List Row) : Type 0 where
   pub later : (i : ℕ) → 0 < i → i < length rows → LaterBy (take i rows) (rowIn rows i)
   -- every odd part has a row
   pub has : (i v : ℕ) → i < length coefficients → HasOddPart (getD coefficients i (pos 0)) v → HasRow rows v
-  -- 1 + 256 × 15
-  pub few : length rows ≤ 3841
+  pub few : length rows ≤ mostRows

@@ -11,7 +11,7 @@ use Rattle.network.specs.Rows.{rowsOf, wordsOfTapRows, firstRow}
 use Rattle.build_steps.specs.Parts.{Part, partsToBuild}
 use Rattle.build_steps.specs.Steps.{steps, builtRows}
 use Rattle.build_steps.specs.TapRows.{built}
-use Rattle.build_steps.specs.RowSteps.{row-0}
+use Rattle.build_steps.specs.RowSteps.{row-0, mostRows}
 use Rattle.build_steps.specs.CanBuild.{CanBuildInto, Buildable}
 use Rattle.build_steps.proofs.ChosenForm.{member}
 use Rattle.build_steps.proofs.Passes.{part-buildable, rows-built}
@@ -60,7 +60,7 @@ module _ (cs : List ℤ) (ks rows taps keys : List ℕ) (m : ℕ) (a : CanBuildI
       part-buildable cs ks (a .can-build) (partIn ks (getD keys i 0)) (subst (List·Memᴰ (partIn ks (getD keys i 0))) parts-ordered (subst (λ (x : Part). List·Memᴰ x (map (partIn ks) (take m keys))) e w))
 
   -- ---- room: at most 15 rows an odd part, and row 0
-  pub rows-few : length (builtRows cs ks) ≤ 3841
+  pub rows-few : length (builtRows cs ks) ≤ mostRows
   rows-few = rows-built cs ks (a .can-build) .few
 
   pub fifteen-each : length (builtRows cs ks) ≤ 1 + 15 * m

@@ -11,6 +11,7 @@ use Rattle.signed_digit.specs.String.{DigitString}
 use Rattle.signed_digit.specs.Masks.{mask, plusBit, minusBit, plusMask, minusMask}
 use Rattle.signed_digit.specs.CanonicalForm.{opposite, negated}
 use Rattle.signed_digit.specs.Forms.{top}
+use Rattle.signed_digit.proofs.Masks.{plusBit-small, minusBit-small}
 use Rattle.form_links.specs.Inner.{opposed, alike, second, linksOf, joined, takes, takenLinks}
 
 -- ---- one binary digit at a time
@@ -60,20 +61,10 @@ same-links f g h [] = refl
 same-links f g h (d ∷ s) = ap₂ (λ (x y : ℕ). x + 2 * y) (h d (second s)) (same-links f g h s)
 
 plus-bit : Bit plusBit
-plus-bit = (small, refl)
-  where
-    small : (d : Digit) → plusBit d < 2
-    small one = omega arith
-    small nought = omega arith
-    small minus-one = omega arith
+plus-bit = (plusBit-small, refl)
 
 minus-bit : Bit minusBit
-minus-bit = (small, refl)
-  where
-    small : (d : Digit) → minusBit d < 2
-    small one = omega arith
-    small nought = omega arith
-    small minus-one = omega arith
+minus-bit = (minusBit-small, refl)
 
 pairs : (f g : Digit → ℕ) → Bit f → Bit g → Kind (λ (d e : Digit). min (f d) (g e))
 pairs f g b c d e = omega (arith, b .0 d)

@@ -7,11 +7,11 @@ use lib.Count.{trailingZeros}
 use lib.IntN.{ℤ, pos}
 use lib.ListN.{length, drop, replicate, getD, length-drop, length-replicate}
 use Rattle.refusal.specs.Answer.{Answer, given, filled}
-use Rattle.word.specs.Bounds.{Coefficient}
 use Rattle.signed_digit.proofs.Figures.{figures}
 use Rattle.coefficient.specs.Parts.{partsOf, oddPartOf, shiftOf}
 use Rattle.tap.proofs.Figures.{tap-figures}
 use Rattle.network.specs.Rows.{Network, rowWords, rowTable, tapWords, tapTable, wordsOfRows, wordsOfTapRows}
+use Rattle.network.proofs.Figures.{sheet-within}
 use Rattle.build_steps.specs.TapRows.{built}
 use Rattle.build_steps.specs.Answer.{buildAnswer, rowCount}
 use Rattle.build_steps.specs.CanBuild.{Listed}
@@ -32,13 +32,6 @@ use Rattle.guarantee.specs.Figures.{SheetFilter, SheetBuilt, SheetCalls,
 use Rattle.guarantee.proofs.Demand3.{can-build, demand-3}
 
 -- the sheet's taps and choices are such as demand 3 speaks of
-within : (tap : ℕ) → tap < length sheetCoefficients → Coefficient (getD sheetCoefficients tap (pos 0))
-within zero h = record { from-least = record { le = tt }; to-greatest = record { le = tt } }
-within (suc zero) h = record { from-least = record { le = tt }; to-greatest = record { le = tt } }
-within (suc (suc zero)) h = record { from-least = record { le = tt }; to-greatest = record { le = tt } }
-within (suc (suc (suc zero))) h = record { from-least = record { le = tt }; to-greatest = record { le = tt } }
-within (suc (suc (suc (suc tap)))) h = absurd (omega arith)
-
 choices : (tap : ℕ) → tap < length sheetCoefficients → Listed (partsOf (getD sheetCoefficients tap (pos 0))) (getD sheetChoices tap 0)
 unfolding partsOf oddPartOf shiftOf trailingZeros
 choices zero h = omega (arith, ap length (figures .of-3))
@@ -48,7 +41,7 @@ choices (suc (suc (suc zero))) h = refl
 choices (suc (suc (suc (suc tap)))) h = absurd (omega arith)
 
 taken : Taken sheetCoefficients sheetChoices
-taken = record { from-1 = omega arith; to-256 = omega arith; within-bounds = within; one-per-tap = omega arith; listed = choices }
+taken = record { from-1 = omega arith; to-256 = omega arith; within-bounds = sheet-within; one-per-tap = omega arith; listed = choices }
 
 abbrev rowsLeft : List ℕ → List ℕ → List ℕ
 rowsLeft rows taps = filled (buildAnswer sheetCoefficients sheetChoices rows taps) (wordsOfRows (built sheetCoefficients sheetChoices .rows)) rows

@@ -1,7 +1,7 @@
 -- `network-claims`: the claims of specs/Claims.antt. Assumes nothing.
 use Prim.Native.Nat.{ℕ}
 use mathlib.Core.Path.{_≡_, refl, ap, _∙_}
-use mathlib.Core.Bool.{Bool, false}
+use mathlib.Core.Bool.{false}
 use mathlib.Core.List.{List, _++_}
 use native.Mathlib.Omega.{arith}
 use lib.Dec.{ltb}
@@ -17,17 +17,8 @@ use Rattle.network.specs.Claims.{NetworkRefusals, NetworkClaims}
 use Rattle.network.proofs.Rules.{row-rule, row-kept, tap-rule, tap-kept}
 use Rattle.network.proofs.Refusals.{network-refusals, outcome-refusals}
 use Rattle.network.proofs.Passed.{given-accepted, accepted-given}
-use Rattle.network.proofs.Given.{length-coefficients, coefficient-is, given-is, given-within, same-coefficients}
+use Rattle.network.proofs.Given.{length-coefficients, coefficient-is, given-within, outcome-given, same-coefficients}
 use Rattle.network.proofs.Evaluation.{rows-multiply, taps-multiply}
-
--- ---- an answer by its outcome
-record IsGiven (a : Answer (List ℤ)) : Type 0 where
-  h : List ℤ
-  is : a ≡ given h
-
-given-outcome : (a : Answer (List ℤ)) → given tt ≡ outcome a → IsGiven a
-given-outcome (given h) e = record { h = h; is = refl }
-given-outcome (refused number place) e = absurd (let z : _≡_ {A = ℕ} 0 1 = cc in omega arith)
 
 untouched : (a : Answer (List ℤ)) (number place : ℕ) (results old : List ℤ) → refused number place ≡ outcome a → filled a results old ≡ old
 untouched (given h) number place results old e = absurd (let z : _≡_ {A = ℕ} 0 1 = cc in omega arith)
@@ -44,21 +35,15 @@ module _ (rows : List ℕ) (n : ℕ) (taps : List ℕ) (m : ℕ) where
   abbrev its : List ℤ
   its = coefficients (networkOf rows n taps m)
 
-  -- an entry whose answer is given is given the network's coefficients
-  accepted : (short : Bool) → given tt ≡ outcome (networkAnswer short rows n taps m) → networkAnswer short rows n taps m ≡ given its
-  accepted short e =
-      let g = given-outcome (networkAnswer short rows n taps m) e in
-      g .is ∙ ap given (given-is short rows n taps m (g .h) (g .is))
-
   check-passes : NetworkChecked rows n taps m (given tt) → Accepted false rows n taps m its
-  check-passes c = given-accepted false rows n taps m its (accepted false (c .answer))
+  check-passes c = given-accepted false rows n taps m its (outcome-given false rows n taps m (c .answer))
 
   check-accepts : (h : List ℤ) → Accepted false rows n taps m h → (a : Answer (Unit {0})) → NetworkChecked rows n taps m a → a ≡ given tt
   check-accepts h w a c = c .answer ∙ ap outcome (accepted-given false rows n taps m h w)
 
   module _ (table : List ℤ) where
     read-passes : (table′ : List ℤ) → CoefficientsRead rows n taps m table (given tt) table′ → Accepted (ltb (length table) m) rows n taps m its
-    read-passes table′ c = given-accepted (ltb (length table) m) rows n taps m its (accepted (ltb (length table) m) (c .answer))
+    read-passes table′ c = given-accepted (ltb (length table) m) rows n taps m its (outcome-given (ltb (length table) m) rows n taps m (c .answer))
 
     read-accepts : (h : List ℤ) → Accepted (ltb (length table) m) rows n taps m h → (a : Answer (Unit {0})) (table′ : List ℤ)
         → CoefficientsRead rows n taps m table a table′ → a ≡ given tt
@@ -67,7 +52,7 @@ module _ (rows : List ℕ) (n : ℕ) (taps : List ℕ) (m : ℕ) where
     read-table : (table′ : List ℤ) → CoefficientsRead rows n taps m table (given tt) table′ → table′ ≡ its ++ drop m table
     read-table table′ c =
         c .written
-        ∙ ap (λ (a : Answer (List ℤ)). filled a its table) (accepted (ltb (length table) m) (c .answer))
+        ∙ ap (λ (a : Answer (List ℤ)). filled a its table) (outcome-given (ltb (length table) m) rows n taps m (c .answer))
         ∙ ap (λ (k : ℕ). its ++ drop k table) (length-coefficients rows n taps m)
 
     read-refused : (table′ : List ℤ) (number place : ℕ) → CoefficientsRead rows n taps m table (refused number place) table′ → table′ ≡ table

@@ -2,12 +2,13 @@
 use mathlib.Core.Path.{_≡_, refl, sym, ap, _∙_}
 use mathlib.Core.Bool.{Bool, false, _||_}
 use mathlib.Core.List.{List, [], _∷_, _++_}
-use Prim.Native.Nat.{ℕ, _≤_}
+use Prim.Native.Nat.{ℕ, _≤_, _<_}
 use native.Mathlib.Omega.{arith}
 use borrow.Author.Tests.{le-ltb}
 use lib.Dec.{ltb}
 use lib.IntN.{ℤ, pos, negℤ}
-use lib.ListN.{length}
+use lib.ListN.{length, getD}
+use Rattle.word.specs.Bounds.{Coefficient}
 use Rattle.refusal.specs.Answer.{Answer, given, filled, lowestFrom}
 use Rattle.refusal.proofs.Checks.{check-passes}
 use Rattle.sequence.specs.UpTo.{upTo}
@@ -22,6 +23,7 @@ use Rattle.network.specs.Evaluation.{rowResults, tapResults}
 use Rattle.network.specs.Figures.{sheetRows, sheetTapRows, sheetCoefficients, NetworkFigures}
 use Rattle.network.proofs.NearFigures.{own-row, two-broken-rows, rows-before-taps, two-broken-taps, no-row, no-such-row, least, too-large, above-2^31}
 use Rattle.network.proofs.Passed.{checked-passed, given-accepted}
+use Rattle.network.proofs.Given.{coefficient-within}
 
 -- it passes, whatever stands past it in the tables
 passes : (r t : List ℕ) → checked (networkOf (sheetRows r) 3 (sheetTapRows t) 4) ≡ given sheetCoefficients
@@ -64,6 +66,11 @@ module _ (r t : List ℕ) where
               ap (λ (h : List ℤ). h ++ more) (sheet-rules .result)
               ∙ sym (ap (λ (x : Answer (List ℤ)). filled x (coefficients (networkOf (sheetRows r) 3 (sheetTapRows t) 4)) table) e);
         }
+
+-- its coefficients are within bounds
+pub sheet-within : (i : ℕ) → i < length sheetCoefficients → Coefficient (getD sheetCoefficients i (pos 0))
+unfolding upTo
+sheet-within i l = coefficient-within (networkOf (sheetRows []) 3 (sheetTapRows []) 4) sheetCoefficients (sheet-rules [] []) i l
 
 pub network-figures : NetworkFigures
 network-figures = record {

@@ -11,14 +11,15 @@ use mir.Syntax.{w32}
 use mir.Val.{SFits}
 use Rattle.word.specs.Bounds.{Coefficient}
 use Rattle.word.proofs.Bounds.{coefficient-i32}
-use Rattle.refusal.specs.Answer.{given}
+use Rattle.refusal.specs.Answer.{Answer, given, refused}
+use Rattle.refusal.proofs.Checks.{given-refused}
 use Rattle.sequence.proofs.UpTo.{length-upTo}
 use Rattle.network.specs.declared.Row.{Row}
 use Rattle.network.specs.declared.TapRow.{TapRow}
 use Rattle.network.specs.Rows.{Network, none, tapRowAt, rowsOf, tapRowsOf, networkOf, tapRowIn, noTap}
 use Rattle.network.specs.Coefficients.{coefficientOf, coefficients}
 use Rattle.network.specs.TapRowRule.{TapRowRule, is-empty, is-product}
-use Rattle.network.specs.Check.{networkAnswer}
+use Rattle.network.specs.Check.{networkAnswer, outcome}
 use Rattle.network.specs.Accepted.{KeepsRules}
 use Rattle.network.proofs.Passed.{given-accepted}
 
@@ -63,6 +64,16 @@ module _ (short : Bool) (rows : List ℕ) (n : ℕ) (taps : List ℕ) (m : ℕ) 
 
   pub given-fits : (j : ℕ) → j < m → SFits w32 (getD h j (pos 0))
   given-fits j l = coefficient-i32 (getD h j (pos 0)) (given-within j l)
+
+-- an answer whose outcome is that nothing is turned down gives the network's coefficients
+pub outcome-given : (short : Bool) (rows : List ℕ) (n : ℕ) (taps : List ℕ) (m : ℕ) → given tt ≡ outcome (networkAnswer short rows n taps m)
+    → networkAnswer short rows n taps m ≡ given (coefficients (networkOf rows n taps m))
+outcome-given short rows n taps m = go (networkAnswer short rows n taps m) (given-is short rows n taps m)
+  where
+    go : (a : Answer (List ℤ)) → ((h : List ℤ) → a ≡ given h → h ≡ coefficients (networkOf rows n taps m)) → given tt ≡ outcome a
+        → a ≡ given (coefficients (networkOf rows n taps m))
+    go (given h) only e = ap given (only h refl)
+    go (refused number place) only e = given-refused tt number place e
 
 -- equal networks have equal coefficients, whatever the tables hold past them
 pub same-coefficients : (short short′ : Bool) (rows rows′ : List ℕ) (n n′ : ℕ) (taps taps′ : List ℕ) (m m′ : ℕ) (h h′ : List ℤ)

@@ -9,7 +9,7 @@ use native.Mathlib.Omega.{arith}
 use lib.ListN.{length, getD, take, drop, length-append, length-drop, take-append-drop, List·getD-append}
 use lib.Seq.{sets, sets-eq, length-sets, length-take-le, getD-take, getD-drop, drop-at, drop-append-add, drop-drop, take-add, ext-getD}
 use Rattle.sequence.specs.UpTo.{upTo}
-use Rattle.sequence.proofs.UpTo.{length-upTo, getD-upTo, upTo-take}
+use Rattle.sequence.proofs.UpTo.{length-upTo, getD-upTo, upTo-same, upTo-take}
 
 -- what makes a layout of a width, of the words of an item and of the item that is read at a place
 pub record Layout {A : Type 0} (width : ℕ) (wordsOf : A → List ℕ) (itemAt : List ℕ → ℕ → A) : Type 0 where
@@ -66,10 +66,6 @@ module _ {A : Type 0} {width : ℕ} {wordsOf : A → List ℕ} {itemAt : List �
     items-written =
         ap (λ (k : ℕ). upTo k (itemAt written)) (add-one n)
         ∙ ap₂ (λ (x : List A) (y : A). x ++ (y ∷ [])) (upTo-same (itemAt written) (itemAt t) n old-item) new-item
-      where
-        upTo-same : {B : Type 0} (f g : ℕ → B) (m : ℕ) → ((i : ℕ) → i < m → f i ≡ g i) → upTo m f ≡ upTo m g
-        upTo-same f g zero h = refl
-        upTo-same f g (suc m) h = rw (upTo-same f g m (λ i l. h i (omega (arith, l))), h m (omega arith)) refl
 
     pub rest-kept : drop (width * (n + 1)) written ≡ drop (width * (n + 1)) t
     rest-kept =

@@ -1,6 +1,7 @@
 -- Networks near the sheet's, of specs/Figures.antt: each breaks a rule or stands at a bound. By computation. Assumes nothing.
 use mathlib.Core.Path.{_≡_, refl}
 use mathlib.Core.List.{[], _∷_}
+use Prim.Native.Nat.{_+_, _-_, _^_}
 use lib.IntN.{pos, negℤ}
 use Rattle.refusal.specs.Answer.{given, refused, lowestFrom}
 use Rattle.sequence.specs.UpTo.{upTo}
@@ -41,12 +42,12 @@ unfolding checked upTo lowestFrom keepsRowRule keepsTapRowRule coefficientOf
 no-such-row = refl
 
 -- 2^31 - 5 = 2^30·3 - (2^30 + 5): 2^s·left is above 2^31 and the row is a good one
-pub above-2^31 : checked (networkOf (row 0 0 0 plus 1 (row 0 0 1 plus 3 (row 0 0 2 plus 5 (row 0 2 30 plus 1073741829 (row 1 3 30 minus 2147483643 []))))) 5 (tap plus 4 0 []) 1) ≡ given (pos 2147483643 ∷ [])
+pub above-2^31 : checked (networkOf (row 0 0 0 plus 1 (row 0 0 1 plus 3 (row 0 0 2 plus 5 (row 0 2 30 plus (2 ^ 30 + 5) (row 1 3 30 minus (2 ^ 31 - 5) []))))) 5 (tap plus 4 0 []) 1) ≡ given (pos (2 ^ 31 - 5) ∷ [])
 unfolding checked upTo lowestFrom keepsRowRule keepsTapRowRule coefficientOf
 above-2^31 = refl
 
 -- 2^31 is a coefficient with the sign `-` alone
-pub least : checked (networkOf (sheetRows []) 3 (tap minus 0 31 []) 1) ≡ given (negℤ (pos 2147483648) ∷ [])
+pub least : checked (networkOf (sheetRows []) 3 (tap minus 0 31 []) 1) ≡ given (negℤ (pos (2 ^ 31)) ∷ [])
 unfolding checked upTo lowestFrom keepsRowRule keepsTapRowRule coefficientOf
 least = refl
 

@@ -25,7 +25,7 @@ use Rattle.network.proofs.Rules.{row-rule, row-kept, tap-rule, tap-kept
 length-numbers : (n : ℕ) → length (numbers n) ≡ n
 length-numbers n = length-upTo n _
 
-number-at : (n i : ℕ) → i < n → getD (numbers n) i 0 ≡ i
+pub number-at : (n i : ℕ) → i < n → getD (numbers n) i 0 ≡ i
 number-at n i l = getD-upTo n _ 0 i l
 
 checked-is : (net : Network) → checked net ≡ refuseIf (eqb (length (net .rows)) 0 || ltb 4096 (length (net .rows))) 10
@@ -70,14 +70,14 @@ passed-checked net h p =
     row-at : (i : ℕ) → i < length (net .rows) → breaksRowRule (net .rows) (getD (numbers (length (net .rows))) i 0) ≡ false
     row-at i l = ap (breaksRowRule (net .rows)) (number-at (length (net .rows)) i l) ∙ ap not (row-kept (net .rows) i (p .rows i l))
 
-module _ (short : Bool) (rows : List ℕ) (rowCount : ℕ) (taps : List ℕ) (tapCount : ℕ) (h : List ℤ) where
-  answer-is : networkAnswer short rows rowCount taps tapCount
+module _ (short : Bool) (rows : List ℕ) (rowCount : ℕ) (taps : List ℕ) (tapCount : ℕ) where
+  pub answer-is : networkAnswer short rows rowCount taps tapCount
       ≡ refuseIf (eqb tapCount 0) 1 (refuseIf (ltb 256 tapCount) 2 (refuseIf (shortTables rows taps || short) 3 (checked (networkOf rows rowCount taps tapCount))))
   unfolding networkAnswer
   answer-is = refl
 
-  pub given-accepted : networkAnswer short rows rowCount taps tapCount ≡ given h → Accepted short rows rowCount taps tapCount h
-  given-accepted e =
+  pub given-accepted : (h : List ℤ) → networkAnswer short rows rowCount taps tapCount ≡ given h → Accepted short rows rowCount taps tapCount h
+  given-accepted h e =
       let a = given-if (eqb tapCount 0) 1 _ h (sym answer-is ∙ e) in
       let b = given-if (ltb 256 tapCount) 2 _ h (a .1) in
       let c = given-if (shortTables rows taps || short) 3 _ h (b .1) in
@@ -92,8 +92,8 @@ module _ (short : Bool) (rows : List ℕ) (rowCount : ℕ) (taps : List ℕ) (ta
         passed = checked-passed (networkOf rows rowCount taps tapCount) h (c .1);
       }
 
-  pub accepted-given : Accepted short rows rowCount taps tapCount h → networkAnswer short rows rowCount taps tapCount ≡ given h
-  accepted-given w =
+  pub accepted-given : (h : List ℤ) → Accepted short rows rowCount taps tapCount h → networkAnswer short rows rowCount taps tapCount ≡ given h
+  accepted-given h w =
       answer-is
       ∙ check-passes (eqb tapCount 0) 1 _ (ne-eqb tapCount 0 (above tapCount (w .taps-from)))
       ∙ check-passes (ltb 256 tapCount) 2 _ (le-ltb 256 tapCount (w .taps-to))

@@ -1,5 +1,5 @@
 -- What a refusal of an entry that is handed a network means: `network-refusals`. Assumes nothing.
-use mathlib.Core.Path.{_≡_, refl, sym, ap, _∙_}
+use mathlib.Core.Path.{_≡_, sym, ap, _∙_}
 use mathlib.Core.Bool.{Bool, true, false, _||_, true≢false}
 use mathlib.Core.List.{List}
 use Prim.Native.Nat.{ℕ, _≤_, _<_}
@@ -12,12 +12,13 @@ use lib.ListN.{length, getD}
 use Rattle.refusal.specs.Answer.{Answer, given, refused, nowhere, at-place, lowest}
 use Rattle.refusal.proofs.Checks.{given-refused, neither, either, refused-if, refused-at, lowest-none-at}
 use Rattle.refusal.proofs.Lowest.{lowest-is}
-use Rattle.sequence.proofs.UpTo.{length-upTo, getD-upTo}
+use Rattle.sequence.proofs.UpTo.{length-upTo}
 use Rattle.network.specs.Rows.{Network, networkOf, rowAt, tapRowIn, noTap, rowTable, tapTable}
 use Rattle.network.specs.RowRule.{RowRule}
 use Rattle.network.specs.Check.{breaksRowRule, breaksTapRowRule, numbers, checked, shortTables, networkAnswer, outcome}
 use Rattle.network.specs.Claims.{UnderLength, rows-short, taps-short, another-short, TablesFit, LowestRow, LowestTapRow, NetworkRefusals, no-taps, too-many-taps, short-table, no-rows, too-many-rows, row-broken, tap-row-broken}
 use Rattle.network.proofs.Rules.{row-rule, row-kept, tap-rule, tap-kept}
+use Rattle.network.proofs.Passed.{number-at}
 
 pub not-both : (b : Bool) → b ≡ true → b ≡ false → ⊥
 not-both b p q = true≢false (sym p ∙ q)
@@ -35,12 +36,8 @@ tables-fit short rows taps m from to e =
     record { taps-from = from; taps-to = to; rows-long = ltb-false _ _ (t .0); taps-long = ltb-false _ _ (t .1); others-long = s .1 }
 
 module _ (net : Network) (from : 1 ≤ length (net .rows)) (to : length (net .rows) ≤ 4096) where
-  -- the rows by their numbers
-  number-at : (i : ℕ) → i < length (net .rows) → getD (numbers (length (net .rows))) i 0 ≡ i
-  number-at i l = getD-upTo (length (net .rows)) _ 0 i l
-
   keeps : (i : ℕ) → i < length (net .rows) → breaksRowRule (net .rows) (getD (numbers (length (net .rows))) i 0) ≡ false → RowRule (net .rows) i
-  keeps i l e = row-rule (net .rows) i (not-false _ (ap (breaksRowRule (net .rows)) (sym (number-at i l)) ∙ e))
+  keeps i l e = row-rule (net .rows) i (not-false _ (ap (breaksRowRule (net .rows)) (sym (number-at (length (net .rows)) i l)) ∙ e))
 
   lowest-row : (k : ℕ) → lowest (breaksRowRule (net .rows)) (numbers (length (net .rows))) ≡ at-place k → LowestRow net k
   lowest-row k e =
@@ -50,7 +47,7 @@ module _ (net : Network) (from : 1 ≤ length (net .rows)) (to : length (net .ro
         rows-from = from;
         rows-to = to;
         within = l;
-        broken = λ r. not-both _ (row-kept (net .rows) k r) (not-true _ (ap (breaksRowRule (net .rows)) (sym (number-at k l)) ∙ w .holds));
+        broken = λ r. not-both _ (row-kept (net .rows) k r) (not-true _ (ap (breaksRowRule (net .rows)) (sym (number-at (length (net .rows)) k l)) ∙ w .holds));
         kept = λ i h. keeps i (omega arith) (w .not-before i h);
       }
 

@@ -15,7 +15,8 @@ use Rattle.network.specs.Rows.{none, plus, rowIn}
 use Rattle.network.specs.RowRule.{combined, isRowSign, lifted, FirstRow, LaterRow, RowRule, isFirst, shiftWithin, isNatural, isWorked, valueWithin, isSum, isLater, keepsRowRule}
 use Rattle.network.specs.Coefficients.{coefficientOf}
 use Rattle.network.specs.TapRowRule.{isTapSign, EmptyTap, ProductTap, TapRowRule, is-empty, is-product, isEmpty, isProduct, keepsTapRowRule}
-use Rattle.network.proofs.Booleans.{holds, is-true, both, three, four, five}
+use Rattle.word.proofs.Booleans.{holds, is-true}
+use Rattle.network.proofs.Booleans.{both, three, four, five}
 
 -- ---- rows
 

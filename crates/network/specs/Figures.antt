@@ -1,6 +1,6 @@
 -- Document 01, "The sheet": the network of the taps 3, -6, 45, 0, and some that break a rule or stand at a bound. proofs/Figures.antt proves them.
 -- Definitions only.
-use Prim.Native.Nat.{ℕ, _≤_}
+use Prim.Native.Nat.{ℕ, _+_, _-_, _^_, _≤_}
 use mathlib.Core.Path.{_≡_}
 use mathlib.Core.Bool.{false}
 use mathlib.Core.List.{List, [], _∷_, _++_}
@@ -58,9 +58,9 @@ pub record NetworkFigures : Type 0 where
   -- the third tap names row 2 of two rows
   pub no-such-row : checked (networkOf (sheetRows []) 2 (sheetTapRows []) 4) ≡ refused 11 2
   -- 2^31 is a coefficient with the sign `-` alone
-  pub least : checked (networkOf (sheetRows []) 3 (tap minus 0 31 []) 1) ≡ given (negℤ (pos 2147483648) ∷ [])
+  pub least : checked (networkOf (sheetRows []) 3 (tap minus 0 31 []) 1) ≡ given (negℤ (pos (2 ^ 31)) ∷ [])
   pub too-large : checked (networkOf (sheetRows []) 3 (tap plus 0 31 []) 1) ≡ refused 11 0
   -- 2^31 - 5 = 2^30·3 - (2^30 + 5): 2^s·left is above 2^31 and the row is a good one
   pub above-2^31 : checked
-      (networkOf (row 0 0 0 plus 1 (row 0 0 1 plus 3 (row 0 0 2 plus 5 (row 0 2 30 plus 1073741829 (row 1 3 30 minus 2147483643 []))))) 5 (tap plus 4 0 []) 1)
-      ≡ given (pos 2147483643 ∷ [])
+      (networkOf (row 0 0 0 plus 1 (row 0 0 1 plus 3 (row 0 0 2 plus 5 (row 0 2 30 plus (2 ^ 30 + 5) (row 1 3 30 minus (2 ^ 31 - 5) []))))) 5 (tap plus 4 0 []) 1)
+      ≡ given (pos (2 ^ 31 - 5) ∷ [])

@@ -13,6 +13,7 @@ use Rattle.sequence.proofs.UpTo.{length-upTo}
 use Rattle.network.specs.Rows.{rowAt, rowsOf, tapRowsOf, networkOf, rowTable, tapTable}
 use Rattle.network.specs.Coefficients.{coefficients}
 use Rattle.network.specs.Check.{breaksRowRule, breaksTapRowRule, numbers, checked, shortTables, networkAnswer, outcome}
+use Rattle.network.proofs.Passed.{answer-is}
 use Rattle.network_check.proofs.Padded.{take-padded}
 use Rattle.network_check.specs.Inner.{isGiven, padded, Holds}
 
@@ -66,17 +67,12 @@ module _ (rows : List ℕ) (n : ℕ) (taps : List ℕ) (m : ℕ) where
 -- ---- the checks 1, 2 and 3 before them
 
 module _ (short : Bool) (rows : List ℕ) (n : ℕ) (taps : List ℕ) (m : ℕ) where
-  answer-open : networkAnswer short rows n taps m
-      ≡ refuseIf (eqb m 0) 1 (refuseIf (ltb 256 m) 2 (refuseIf (shortTables rows taps || short) 3 (checked (networkOf rows n taps m))))
-  unfolding networkAnswer
-  answer-open = refl
-
   pub no-taps : m ≡ 0 → refused 1 0 ≡ networkAnswer short rows n taps m
-  no-taps e = sym (answer-open ∙ check-applies (eqb m 0) 1 _ (eq-eqb m 0 e))
+  no-taps e = sym (answer-is short rows n taps m ∙ check-applies (eqb m 0) 1 _ (eq-eqb m 0 e))
 
   module _ (some : m ≡ 0 → ⊥) where
     some-taps : networkAnswer short rows n taps m ≡ refuseIf (ltb 256 m) 2 (refuseIf (shortTables rows taps || short) 3 (checked (networkOf rows n taps m)))
-    some-taps = answer-open ∙ check-passes (eqb m 0) 1 _ (ne-eqb m 0 some)
+    some-taps = answer-is short rows n taps m ∙ check-passes (eqb m 0) 1 _ (ne-eqb m 0 some)
 
     pub many-taps : 256 < m → refused 2 0 ≡ networkAnswer short rows n taps m
     many-taps l = sym (some-taps ∙ check-applies (ltb 256 m) 2 _ (lt-ltb 256 m l))

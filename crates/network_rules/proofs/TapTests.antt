@@ -22,26 +22,26 @@ use Rattle.network_rules.specs.Inner.{productIf, productOf}
 
 -- ---- a number p with a sign
 
-pub negative-word : (p : ℕ) → (p ≡ 0 → ⊥) → p ≤ 2 ^ 31 → toZ w32 (4294967295 - (p - 1)) ≡ negℤ (pos p)
+pub negative-word : (p : ℕ) → (p ≡ 0 → ⊥) → p ≤ 2 ^ 31 → toZ w32 (2 ^ 32 - 1 - (p - 1)) ≡ negℤ (pos p)
 negative-word zero n l = absurd (n refl)
 negative-word (suc k) n l =
-    let e : 4294967295 - (suc k - 1) ≡ 4294967296 - suc k = omega arith in
+    let e : 2 ^ 32 - 1 - (suc k - 1) ≡ 2 ^ 32 - suc k = omega arith in
     ap (toZ w32) e ∙ toZ-neg w32 k (omega arith)
 
 negative-within : (p : ℕ) → p ≤ 2 ^ 31 → withinBounds (negℤ (pos p)) ≡ true
 negative-within zero l = refl
-negative-within (suc k) l = rw (le-leb k 2147483647 (omega arith))
+negative-within (suc k) l = rw (le-leb k (2 ^ 31 - 1) (omega arith))
 
 negative-outside : (p : ℕ) → 2 ^ 31 < p → withinBounds (negℤ (pos p)) ≡ false
 negative-outside zero l = absurd (omega arith)
-negative-outside (suc k) l = rw (lt-leb k 2147483647 (omega arith))
+negative-outside (suc k) l = rw (lt-leb k (2 ^ 31 - 1) (omega arith))
 
 module _ (s p : ℕ) where
-  pub plus-within : s ≡ plus → p ≤ 2147483647 → Coefficient (pos p) ≡ productIf (isTapSign s && withinBounds (withSign s (pos p))) (withSign s (pos p))
-  plus-within e l = rw (eq-eqb s plus e, le-leb p 2147483647 l)
+  pub plus-within : s ≡ plus → p ≤ 2 ^ 31 - 1 → Coefficient (pos p) ≡ productIf (isTapSign s && withinBounds (withSign s (pos p))) (withSign s (pos p))
+  plus-within e l = rw (eq-eqb s plus e, le-leb p (2 ^ 31 - 1) l)
 
-  pub plus-outside : s ≡ plus → 2147483647 < p → Broken ≡ productIf (isTapSign s && withinBounds (withSign s (pos p))) (withSign s (pos p))
-  plus-outside e l = rw (eq-eqb s plus e, lt-leb p 2147483647 l)
+  pub plus-outside : s ≡ plus → 2 ^ 31 - 1 < p → Broken ≡ productIf (isTapSign s && withinBounds (withSign s (pos p))) (withSign s (pos p))
+  plus-outside e l = rw (eq-eqb s plus e, lt-leb p (2 ^ 31 - 1) l)
 
   module _ (n : s ≡ plus → ⊥) where
     pub minus-within : s ≡ minus → p ≤ 2 ^ 31 → Coefficient (negℤ (pos p)) ≡ productIf (isTapSign s && withinBounds (withSign s (pos p))) (withSign s (pos p))

@@ -10,15 +10,12 @@ use lib.ListN.{length, drop, getD, drop-of-length-le}
 use lib.Seq.{drop-cons}
 use Rattle.refusal.specs.Answer.{Answer, given, refused, refuseIf, refuseAt, Place, nowhere, at-place, lowestFrom, lowest, placeOr}
 
-no-one : _≡_ {A = ℕ} 0 1 → ⊥
-no-one z = omega arith
-
 -- an answer that is given has one result, and is no refusal
 pub given-same : {A : Type 0} (a b : A) → given a ≡ given b → a ≡ b
 given-same a b e = cc
 
 pub given-refused : {A C : Type 0} (a : A) (number place : ℕ) → given a ≡ refused number place → C
-given-refused a number place e = let z : _≡_ {A = ℕ} 0 1 = cc in absurd (no-one z)
+given-refused a number place e = let z : _≡_ {A = ℕ} 0 1 = cc in absurd (omega arith)
 
 -- two tests of one check: neither applies
 pub neither : (a b : Bool) → (a || b) ≡ false → (a ≡ false) × (b ≡ false)
@@ -41,12 +38,12 @@ check-passes false number rest h = refl
 
 -- an answer that is given has passed the check
 pub given-if : {A : Type 0} (b : Bool) (number : ℕ) (rest : Answer A) (a : A) → refuseIf b number rest ≡ given a → (b ≡ false) × (rest ≡ given a)
-given-if true number rest a h = let z : _≡_ {A = ℕ} 0 1 = cc in absurd (no-one z)
+given-if true number rest a h = let z : _≡_ {A = ℕ} 0 1 = cc in absurd (omega arith)
 given-if false number rest a h = (refl, h)
 
 pub given-at : {A : Type 0} (p : Place) (number : ℕ) (rest : Answer A) (a : A) → refuseAt p number rest ≡ given a → (p ≡ nowhere) × (rest ≡ given a)
 given-at nowhere number rest a h = (refl, h)
-given-at (at-place k) number rest a h = let z : _≡_ {A = ℕ} 0 1 = cc in absurd (no-one z)
+given-at (at-place k) number rest a h = let z : _≡_ {A = ℕ} 0 1 = cc in absurd (omega arith)
 
 -- a refusal: the check applied, or it passed and what comes after it refuses
 pub refused-if : {A C : Type 0} (b : Bool) (n : ℕ) (rest : Answer A) (number place : ℕ) → refuseIf b n rest ≡ refused number place
@@ -81,7 +78,7 @@ module _ {A : Type 0} (a : A) (breaks : A → Bool) (xs : List A) (i : ℕ) wher
 -- a place that breaks the rule lies within the list
 pub lowest-within : {A : Type 0} (breaks : A → Bool) (k j : ℕ) (xs : List A) → lowestFrom k breaks xs ≡ at-place j → (k ≤ j) × (j < k + length xs)
 unfolding lowestFrom
-lowest-within breaks k j [] h = let z : _≡_ {A = ℕ} 0 1 = cc in absurd (no-one z)
+lowest-within breaks k j [] h = let z : _≡_ {A = ℕ} 0 1 = cc in absurd (omega arith)
 lowest-within breaks k j (x ∷ xs) h = go (breaks x) h (lowest-within breaks (suc k) j xs)
   where
     here : (k j n : ℕ) → k ≡ j → (k ≤ j) × (j < k + suc n)
@@ -101,7 +98,7 @@ unfolding lowestFrom
 lowest-all breaks k x xs h = go (breaks x) refl h
   where
     go : (b : Bool) → breaks x ≡ b → cond b (at-place k) (lowestFrom (suc k) breaks xs) ≡ nowhere → (breaks x ≡ false) × (lowestFrom (suc k) breaks xs ≡ nowhere)
-    go true e h = let z : _≡_ {A = ℕ} 0 1 = cc in absurd (no-one z)
+    go true e h = let z : _≡_ {A = ℕ} 0 1 = cc in absurd (omega arith)
     go false e h = (e, h)
 
 -- two rules that agree on every element are broken at the same place

@@ -1,5 +1,5 @@
 -- The claims about running calls, proved. Assumes nothing.
-use mathlib.Core.Path.{_≡_, refl, ap, _∙_}
+use mathlib.Core.Path.{_≡_, ap, _∙_}
 use mathlib.Core.Bool.{false, _||_}
 use mathlib.Core.List.{List}
 use Prim.Native.Nat.{ℕ, _≤_}
@@ -7,7 +7,7 @@ use native.Mathlib.Omega.{arith}
 use lib.Dec.{ltb}
 use lib.IntN.{ℤ, pos}
 use lib.ListN.{length, getD, drop, List·getD-append}
-use Rattle.refusal.specs.Answer.{Answer, given, refused}
+use Rattle.refusal.specs.Answer.{Answer, given}
 use Rattle.run_convolution.specs.Running.{outputsOf}
 use Rattle.run_convolution.specs.Bounds.{Words}
 use Rattle.run_convolution.proofs.Words.{wrapped-lt, turns, wrapped-congruent}
@@ -15,23 +15,14 @@ use Rattle.run_convolution.proofs.Steps.{length-outputs}
 use Rattle.run_convolution.proofs.Theorems.{registers-any, outputs-any}
 use Rattle.network.specs.Rows.{networkOf}
 use Rattle.network.specs.Coefficients.{coefficients}
-use Rattle.network.specs.Check.{networkAnswer, outcome}
+use Rattle.network.specs.Check.{networkAnswer}
 use Rattle.network.specs.Checked.{NetworkChecked}
 use Rattle.network.proofs.Passed.{given-accepted}
 use Rattle.network.proofs.Refusals.{outcome-refusals}
-use Rattle.network.proofs.Given.{given-is, given-length}
+use Rattle.network.proofs.Given.{given-length, outcome-given}
 use Rattle.run_calls.specs.Run.{Ran, runAnswer, runRegisters, runOutputs}
 use Rattle.run_calls.specs.Claims.{AnyContent, RunningClaims}
 use Rattle.run_calls.proofs.Theorem.{running-sums}
-
--- an answer whose outcome is that nothing is turned down
-pub record IsGiven (a : Answer (List ℤ)) : Type 0 where
-  pub h : List ℤ
-  pub is : a ≡ given h
-
-is-given : (a : Answer (List ℤ)) → given tt ≡ outcome a → IsGiven a
-is-given (given h) e = record { h = h; is = refl }
-is-given (refused number place) e = let z : _≡_ {A = ℕ} 0 1 = cc in absurd (omega arith)
 
 module _ (rows : List ℕ) (n : ℕ) (taps : List ℕ) (m : ℕ) (xs : List ℤ) (r : List ℕ) (o : List ℤ) (r′ : List ℕ) (o′ : List ℤ) (w : Words r)
     (ran : Ran rows n taps m xs r o (given tt) r′ o′) where
@@ -42,9 +33,7 @@ module _ (rows : List ℕ) (n : ℕ) (taps : List ℕ) (m : ℕ) (xs : List ℤ)
   h = coefficients (networkOf rows n taps m)
 
   accepted : answer ≡ given h
-  accepted =
-      let g = is-given answer (ran .answer) in
-      g .is ∙ ap given (given-is (ltb (length r) 256 || ltb (length o) (length xs)) rows n taps m (g .h) (g .is))
+  accepted = outcome-given (ltb (length r) 256 || ltb (length o) (length xs)) rows n taps m (ran .answer)
 
   few : length h ≤ 256
   few =
@@ -61,9 +50,7 @@ module _ (rows : List ℕ) (n : ℕ) (taps : List ℕ) (m : ℕ) (xs : List ℤ)
 
 -- what `check` passes, running accepts with the network's coefficients
 passed : (rows : List ℕ) (n : ℕ) (taps : List ℕ) (m : ℕ) → NetworkChecked rows n taps m (given tt) → networkAnswer false rows n taps m ≡ given (coefficients (networkOf rows n taps m))
-passed rows n taps m c =
-    let g = is-given (networkAnswer false rows n taps m) (c .answer) in
-    g .is ∙ ap given (given-is false rows n taps m (g .h) (g .is))
+passed rows n taps m c = outcome-given false rows n taps m (c .answer)
 
 pub running-claims : RunningClaims
 running-claims = record {

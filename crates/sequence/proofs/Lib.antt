@@ -1,2 +1,3 @@
 pub mod UpTo
 pub mod Front
+pub mod Ordered

@@ -1,6 +1,6 @@
 -- The parts that lines have in common, for the contracts of their writers, and the most bytes of a line. Definitions only.
 use mathlib.Core.List.{List, [], _∷_, _++_}
-use Prim.Native.Nat.{ℕ, _+_, _*_, _^_}
+use Prim.Native.Nat.{ℕ, _+_, _*_, _-_, _/_, _^_}
 use lib.ListN.{length}
 use Rattle.text.specs.Numbers.{decimal}
 use Rattle.text.specs.Inner.{numberBytes, integerBytes}
@@ -48,10 +48,10 @@ abbrev pub refusedLineBytes : ℕ
 refusedLineBytes = lineBytes 7 numberBytes 0 0 0 0 numberBytes
 
 -- ---- a sheet
--- the most rows of a network that is built: row 0, and 15 for each of 256 taps
-abbrev pub mostRows : ℕ
-mostRows = 1 + 256 * 15
-
--- an area that has room for the header, a line for each row and each of 256 taps, and the total line
+-- an area for one
 abbrev pub areaBytes : ℕ
 areaBytes = 2 ^ 18
+
+-- the node lines that it has room for beside the header, a line for each of 256 taps and the total line
+abbrev pub mostNodeLines : ℕ
+mostNodeLines = (areaBytes - (headerBytes + 256 * tapLineBytes + totalLineBytes)) / nodeLineBytes

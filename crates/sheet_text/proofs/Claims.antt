@@ -16,7 +16,7 @@ use Rattle.network.specs.Rows.{rowTable, tapTable}
 use Rattle.build_steps.specs.TapRows.{built}
 use Rattle.build_steps.specs.Answer.{rowCount}
 use Rattle.build_steps.specs.Built.{BuiltInto}
-use Rattle.text.proofs.Decimals.{lt-or-le}
+use Rattle.word.proofs.Order.{lt-or-le}
 use Rattle.sheet_kinds.specs.Text.{refusedText}
 use Rattle.sheet_input.specs.Argument.{Argument, missing}
 use Rattle.sheet_input.proofs.Answers.{too-many}

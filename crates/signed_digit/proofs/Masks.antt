@@ -21,10 +21,10 @@ half-of x i h = omega arith
 pub rest-of : (x i : ℕ) → i < 2 → (i + 2 * x) % 2 ≡ i
 rest-of x i h = omega arith
 
-plusBit-small : (d : Digit) → plusBit d < 2
+pub plusBit-small : (d : Digit) → plusBit d < 2
 plusBit-small d = omega (arith, bit d)
 
-minusBit-small : (d : Digit) → minusBit d < 2
+pub minusBit-small : (d : Digit) → minusBit d < 2
 minusBit-small d = omega (arith, bit d)
 
 -- ---- the masks of a string

@@ -1,11 +1,13 @@
 -- Lists in which a relation holds between each member and every one after it, `Pairwise`. In order, a list is fixed by its members. Assumes nothing.
-use mathlib.Core.Path.{_≡_, refl, ap₂, sym, _∙_, subst}
-use mathlib.Core.List.{List, [], _∷_, _++_, map, List·Memᴰ, List·Memᴰ·head, List·Memᴰ·tail, List·Memᴰ·not-nil}
-use mathlib.Core.List.{List·Memᴰ·append-cases, List·Memᴰ·cases-cons, Memᴰ·cast, Memᴰ·of-map, List·Mem, List·Mem-prop, not-mem-nil, List-discrete}
+use mathlib.Core.Path.{_≡_, refl, subst}
+use mathlib.Core.List.{List, [], _∷_, _++_, map, List·Memᴰ, List·Memᴰ·head, List·Memᴰ·tail}
+use mathlib.Core.List.{List·Memᴰ·append-cases, List·Memᴰ·cases-cons, Memᴰ·of-map, List·Mem, List·Mem-prop, not-mem-nil, List-discrete}
 use mathlib.Core.List.{Pairwise, Pairwise·nil, Pairwise·cons, Pairwise·of-cons, rel-of-pairwise-cons}
-use mathlib.Core.Logic.{_⊎_, inl, inr, ⊎-elim, ∥∥₁-elim}
+use mathlib.Core.Logic.{⊎-elim, ∥∥₁-elim}
 use Rattle.signed_digit.specs.Digit.{Digit-discrete}
+use Rattle.sequence.proofs.Ordered.{in-order-only}
 use Rattle.signed_digit.specs.String.{DigitString}
+use Rattle.signed_digit.specs.Order.{Earlier}
 use Rattle.signed_digit.specs.Listing.{Ordered, Once}
 use Rattle.signed_digit.proofs.Order.{earlier-different, earlier-asymmetric}
 
@@ -52,25 +54,4 @@ ordered-once (s ∷ l) o = before-all (λ t m. earlier-different s t (to-later o
 -- an ordered list is fixed by its members
 pub ordered-unique : (l m : List DigitString) → Ordered l → Ordered m
     → ((s : DigitString) → List·Memᴰ s l → List·Memᴰ s m) → ((s : DigitString) → List·Memᴰ s m → List·Memᴰ s l) → l ≡ m
-ordered-unique [] [] o u f g = refl
-ordered-unique [] (y ∷ m) o u f g = absurd (List·Memᴰ·not-nil (g y (List·Memᴰ·head refl)))
-ordered-unique (x ∷ l) [] o u f g = absurd (List·Memᴰ·not-nil (f x (List·Memᴰ·head refl)))
-ordered-unique (x ∷ l) (y ∷ m) o u f g = ap₂ (λ (z : DigitString) (r : List DigitString). z ∷ r) heads (ordered-unique l m (Pairwise·of-cons o) (Pairwise·of-cons u) f′ g′)
-  where
-    pick : (x ≡ y) ⊎ List·Memᴰ x m → (y ≡ x) ⊎ List·Memᴰ y l → x ≡ y
-    pick (inl e) b = e
-    pick (inr n) (inl e) = sym e
-    pick (inr n) (inr k) = absurd (earlier-asymmetric x y (to-later o y k) (to-later u x n))
-
-    heads : x ≡ y
-    heads = pick (List·Memᴰ·cases-cons (f x (List·Memᴰ·head refl))) (List·Memᴰ·cases-cons (g y (List·Memᴰ·head refl)))
-
-    past : (x y s : DigitString) (l m : List DigitString) → x ≡ y → Ordered (x ∷ l) → List·Memᴰ s l → (s ≡ y) ⊎ List·Memᴰ s m → List·Memᴰ s m
-    past x y s l m e o n (inr k) = k
-    past x y s l m e o n (inl q) = absurd (earlier-different x x (to-later o x (Memᴰ·cast (e ∙ sym q) n)) refl)
-
-    f′ : (s : DigitString) → List·Memᴰ s l → List·Memᴰ s m
-    f′ s n = past x y s l m heads o n (List·Memᴰ·cases-cons (f s (List·Memᴰ·tail n)))
-
-    g′ : (s : DigitString) → List·Memᴰ s m → List·Memᴰ s l
-    g′ s n = past y x s m l (sym heads) u n (List·Memᴰ·cases-cons (g s (List·Memᴰ·tail n)))
+ordered-unique = in-order-only Earlier earlier-asymmetric Ordered (λ x l o. Pairwise·of-cons o) (λ x l o. to-later o)

@@ -41,19 +41,13 @@ exact-is s a d n N h = go (eqb (n * d) a) refl (sym (split-is s a d n) ∙ h)
   where
     go : (b : Bool) → eqb (n * d) a ≡ b → cond b (exact (signed s n)) (rounded (signed s n) (leftover s a d n)) ≡ exact N → n * d ≡ a
     go true e h = eqb-true (n * d) a e
-    go false e h = let z : _≡_ {A = ℕ} 0 1 = cc in absurd (no z)
-      where
-        no : _≡_ {A = ℕ} 0 1 → ⊥
-        no z = omega arith
+    go false e h = let z : _≡_ {A = ℕ} 0 1 = cc in absurd (omega arith)
 
 rest-is : (s : Bool) (a d n : ℕ) (N : ℤ) (l : Float) → split s a d n ≡ rounded N l → (n * d ≡ a → ⊥) × (leftover s a d n ≡ l)
 rest-is s a d n N l h = go (eqb (n * d) a) refl (sym (split-is s a d n) ∙ h)
   where
     go : (b : Bool) → eqb (n * d) a ≡ b → cond b (exact (signed s n)) (rounded (signed s n) (leftover s a d n)) ≡ rounded N l → (n * d ≡ a → ⊥) × (leftover s a d n ≡ l)
-    go true e h = let z : _≡_ {A = ℕ} 0 1 = cc in absurd (no z)
-      where
-        no : _≡_ {A = ℕ} 0 1 → ⊥
-        no z = omega arith
+    go true e h = let z : _≡_ {A = ℕ} 0 1 = cc in absurd (omega arith)
     go false e h = (eqb-false (n * d) a e, cc)
 
 whole-of : (F : ℕ) (s : Bool) (m : ℕ) (e : ℤ) (c : TapResult) → resultOf F (fin s m e) ≡ c → signed s (nearestWhole (m * up e * 2 ^ F) (down e)) ≡ wholeOf c

@@ -33,9 +33,6 @@ pub length-used : (normalised : Bool) (taps : List Float) → length (used norma
 length-used false taps = refl
 length-used true taps = length-map taps _
 
-no-one : _≡_ {A = ℕ} 0 1 → ⊥
-no-one z = omega arith
-
 is-false : (b : Bool) → (b ≡ true → ⊥) → b ≡ false
 is-false true h = absurd (h refl)
 is-false false h = refl
@@ -86,7 +83,7 @@ if-row a true n rest w e = (λ q. refl, λ h. e)
 if-row a false n rest w e = (λ q. absurd (w 0 (sym e ∙ q)), λ h. absurd (false≢true h))
 
 at-row : {A : Type 0} (a : Answer A) (p : Place) (n : ℕ) (rest : Answer A) → Never n rest → a ≡ refuseAt p n rest → (place : ℕ) → a ≡ refused n place ↔ p ≡ at-place place
-at-row a nowhere n rest w e place = (λ q. absurd (w place (sym e ∙ q)), λ h. let z : _≡_ {A = ℕ} 0 1 = cc in absurd (no-one z))
+at-row a nowhere n rest w e place = (λ q. absurd (w place (sym e ∙ q)), λ h. let z : _≡_ {A = ℕ} 0 1 = cc in absurd (omega arith))
 at-row a (at-place j) n rest w e place = (λ q. let z : refused n j ≡ refused n place = sym e ∙ q in cc, λ h. cc)
 
 -- ---- N of a finite number, and the check on it

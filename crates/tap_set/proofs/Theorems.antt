@@ -134,11 +134,8 @@ module _ (F : ℕ) (normalised : Bool) (taps : List Float) (room : ℕ) (r : Rep
   pub report-finite : Finite r
   report-finite = record { divisor = ap finite divisor-is ∙ w .divisor; leftover = best-leftover .number }
 
-  pub number-at : (i : ℕ) → i < length (used normalised taps) → finite (getD (used normalised taps) i nan) ≡ true
-  number-at i h = all-finite xs (w .numbers) i h
-
   pub rounds-at : (i : ℕ) → i < length (used normalised taps) → roundedTap F (getD (used normalised taps) i nan) ≡ given (resultOf F (getD (used normalised taps) i nan))
-  rounds-at i h = rounds F (getD xs i nan) (w .few-bits) (number-at i h) (lowest-none-at nan (outside F) 0 xs i (w .inside) h)
+  rounds-at i h = rounds F (getD xs i nan) (w .few-bits) (all-finite xs (w .numbers) i h) (lowest-none-at nan (outside F) 0 xs i (w .inside) h)
 
 -- ---- a leftover of no magnitude is that of an exact tap
 pub fits-at : (xs : List Float) (i : ℕ) → Binary64 xs → T (fits binary64 (getD xs i nan))

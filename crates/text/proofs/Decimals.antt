@@ -1,14 +1,13 @@
 -- The digits that `io::decimal` makes are the fewest that hold the number. Assumes nothing.
-use borrow.Author.Tests.{lt-ltb, le-ltb, ltb-true, ltb-false}
-use mathlib.Core.Path.{_≡_, refl, ap, _∙_}
+use borrow.Author.Tests.{lt-ltb, le-ltb}
+use mathlib.Core.Path.{_≡_, ap, _∙_}
 use mathlib.Core.List.{[], _∷_, _++_}
-use mathlib.Core.Bool.{Bool, true, false}
-use mathlib.Core.Logic.{_⊎_, inl, inr, ⊎-elim}
+use mathlib.Core.Logic.{⊎-elim}
 use Prim.Native.Nat.{ℕ, zero, suc, _+_, _-_, _*_, _/_, _%_, _^_, _≤_, _<_}
 use native.Mathlib.Omega.{arith}
 use native.Mathlib.Numerals.{unary-clauses}
-use lib.Dec.{ltb}
 use lib.ListN.{length, length-append}
+use Rattle.word.proofs.Order.{lt-or-le}
 use Rattle.io.specs.Digits.{digits, Fewest, glyph}
 use Rattle.text.specs.Numbers.{decimalBy, decimal}
 
@@ -46,13 +45,6 @@ digits-decimalBy (suc f) (suc (suc k)) n hf h1 hk hl =
 pub digits-decimal : (k n : ℕ) → Fewest 10 1 n k → digits 10 k n ≡ decimal n
 unfolding decimal
 digits-decimal k n h = digits-decimalBy n k n (omega arith) (h .0) (h .1) (h .2)
-
-lt-or-le-by : (m n : ℕ) (b : Bool) → ltb m n ≡ b → (m < n) ⊎ (n ≤ m)
-lt-or-le-by m n true h = inl (ltb-true m n h)
-lt-or-le-by m n false h = inr (ltb-false m n h)
-
-pub lt-or-le : (m n : ℕ) → (m < n) ⊎ (n ≤ m)
-lt-or-le m n = lt-or-le-by m n (ltb m n) refl
 
 -- a number below 10^k has at most k digits
 decimalBy-le : (f k n : ℕ) → n ≤ f → 1 ≤ k → n < 10 ^ k → length (decimalBy f n) ≤ k

@@ -7,9 +7,10 @@ use mathlib.Core.Logic.{⊎-elim}
 use Prim.Native.Nat.{ℕ, zero, suc, _+_, _-_, _*_, _/_, _%_, _^_, _≤_, _<_}
 use native.Mathlib.Omega.{arith}
 use lib.ListN.{length, length-append}
+use Rattle.word.proofs.Order.{lt-or-le}
 use Rattle.text.specs.Numbers.{decimalBy, decimal, isDigit, areDigits, numberFrom}
 use Rattle.text.specs.Claims.{NumberClaims}
-use Rattle.text.proofs.Decimals.{lt-or-le, pow-suc, ten-pos, decimal-le}
+use Rattle.text.proofs.Decimals.{pow-suc, ten-pos, decimal-le}
 
 number-snoc : (xs : List ℕ) (a d : ℕ) → numberFrom a (xs ++ (d ∷ [])) ≡ 10 * numberFrom a xs + (d - 48)
 unfolding numberFrom

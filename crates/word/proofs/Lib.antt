@@ -1,4 +1,5 @@
 pub mod Order
+pub mod Booleans
 pub mod LowZeros
 pub mod Multiples
 pub mod Signed

@@ -75,7 +75,7 @@ returns c =
     let e : at-loop .loop .k ≡ args .w = omega (arith, at-loop .loop .inv .0, c .loop-test .left) in (
       at-loop .loop .inv .1 .1,
       record {
-        at-loop =
+        at =
             λ k l. ap (λ q. getD q k 0) (at-loop .loop .inv .1 .0) ∙ front-done _ (args .words .now) (at-loop .loop .k) k 0 (omega (arith, e, l))
             ∙ ap (raisedBy (getD (args .offsets .now) (k + 5) 0) 0) (sym (held-low (args .registers .now) k (omega (arith, l, at-start .pre .0))));
       },
