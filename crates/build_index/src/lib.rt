@@ -17,12 +17,6 @@ pub enum Found {
     Missing,
 }
 
-fn number(x: u16) -> usize
-    ensures { λ r. ⌜ r ≡ x ⌝ }
-{
-    x as usize
-}
-
 // The bucket of a value, of m buckets. Every bucket is in use where m is a power of 2.
 fn bucket(x: u32, m: usize) -> usize
     requires { ⌜ 0 < m ⌝ }
@@ -46,13 +40,13 @@ pub fn find(table: &[u32], heads: &[u16], links: &[u16], n: usize, x: u32) -> Fo
     ensures { λ r. ⌜ foundAt r ≡ rowWith (rowsOf (now (table .entry)) n) x ⌝ }
 {
     let h = bucket(x, heads.len());
-    let mut p = number(heads[h]);
+    let mut p = word::index_16(heads[h]);
     while p != 0 {
         let k = p - 1;
         if network::read_value(table, k) == x {
             return Found::At(k);
         }
-        p = number(links[k]);
+        p = word::index_16(links[k]);
     }
     Found::Missing
 }

@@ -30,20 +30,14 @@ pub enum FormWeight {
     Refused(Refusal),
 }
 
-fn wide(x: u8) -> u32
-    ensures { λ r. ⌜ r ≡ x ⌝ }
-{
-    x as u32
-}
-
 // The number of ones in x, byte by byte. Every weight is counted here.
 pub fn ones(x: u32) -> u32
     ensures { λ r. ⌜ r ≡ Count.ones x ⌝ }
 {
-    let a = wide(bytes::byte_ones((x % 0x100) as u8));
-    let b = wide(bytes::byte_ones((x / 0x100 % 0x100) as u8));
-    let c = wide(bytes::byte_ones((x / 0x1_0000 % 0x100) as u8));
-    let d = wide(bytes::byte_ones((x / 0x100_0000) as u8));
+    let a = word::byte_32(bytes::byte_ones((x % 0x100) as u8));
+    let b = word::byte_32(bytes::byte_ones((x / 0x100 % 0x100) as u8));
+    let c = word::byte_32(bytes::byte_ones((x / 0x1_0000 % 0x100) as u8));
+    let d = word::byte_32(bytes::byte_ones((x / 0x100_0000) as u8));
     a + b + c + d
 }
 

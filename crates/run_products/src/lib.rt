@@ -97,19 +97,14 @@ pub fn offset_below(offset: u64, c: u64) -> u64
     std::num::wrapping_add_u64(offset, by)
 }
 
-fn wide(y: u16) -> u64
-    ensures { λ r. ⌜ r ≡ y ⌝ }
-{
-    y as u64
-}
-
 // The bias four samples on.
 pub fn bias_after(bias: u64, y0: u16, y1: u16, y2: u16, y3: u16) -> u64
     ensures { λ r. ⌜ r ≡ biasAfter bias y0 y1 y2 y3 ⌝ }
 {
     std::num::wrapping_add_u64(
         bias,
-        0x8000_0000 * (wide(y0) + wide(y1) + wide(y2) + wide(y3)),
+        0x8000_0000
+            * (word::wide_16(y0) + word::wide_16(y1) + word::wide_16(y2) + word::wide_16(y3)),
     )
 }
 

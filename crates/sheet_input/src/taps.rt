@@ -5,19 +5,15 @@ ghost use lib.ListN.{length, take, drop};
 ghost use Rattle.sequence.specs.Inner.{front};
 ghost use Rattle.sheet_input.specs.Taps.{lowFirst, tapAt, wholeTaps};
 
-fn byte(b: u8) -> u64
-    ensures { λ r. ⌜ (r ≡ b) × (r < 256) ⌝ }
-{
-    b as u64
-}
-
 // The number of four bytes, low byte first.
 fn four_bytes(input: &[u8], at: usize) -> u64
     requires { ⌜ at + 4 ≤ length (now input) ⌝ }
     ensures { λ r. ⌜ (r ≡ lowFirst (take 4 (drop at (now (input .entry))))) × (r < 2 ^ 32) ⌝ }
 {
-    byte(input[at])
-        + 256 * (byte(input[at + 1]) + 256 * (byte(input[at + 2]) + 256 * byte(input[at + 3])))
+    word::byte_64(input[at])
+        + 256
+            * (word::byte_64(input[at + 1])
+                + 256 * (word::byte_64(input[at + 2]) + 256 * word::byte_64(input[at + 3])))
 }
 
 fn tap_at(input: &[u8], i: usize) -> f64

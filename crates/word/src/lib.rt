@@ -2,9 +2,13 @@
 mod casts;
 mod choice;
 
+pub use casts::byte_32;
+pub use casts::byte_64;
 pub use casts::index;
+pub use casts::index_16;
 pub use casts::narrow;
 pub use casts::wide;
+pub use casts::wide_16;
 pub use choice::choose;
 pub use choice::choose_index;
 ghost use mathlib.Core.Path.{_≡_};

@@ -47,13 +47,13 @@ add-choose : tie.Need-add-choose
 add-choose c =
     let after-lifted = c .before in
     let after-struct-known2 = after-lifted .before in
-    record { fits = omega (arith, after-lifted .lifted .ensures, fits (after-struct-known2) .1) }
+    record { fits = omega (arith, after-lifted .lifted .ensures, fits after-struct-known2 .1) }
 
 sub-choose : tie.Need-sub-choose
 sub-choose c =
     let after-lifted = c .before in
     let after-struct-known2 = after-lifted .before in
-    omega (arith, after-lifted .lifted .ensures, fits (after-struct-known2) .0)
+    omega (arith, after-lifted .lifted .ensures, fits after-struct-known2 .0)
 
 choose-requires-2 : tie.Need-choose-requires-2
 choose-requires-2 c κs = search needs
@@ -74,7 +74,7 @@ returns c =
     let after-highest = after-struct-known2 .before .before in
     let at-start = after-highest .before in
     rw (after-choose .choose .ensures, after-choose2 .choose2 .ensures, after-lifted .lifted .ensures, after-lifted2 .lifted2 .ensures, mul-one (2 ^ after-highest .highest .result))
-    (is-next (at-start .args .form) (at-start .args .chain) (at-start .pre .0) (small (after-struct-known2)) (after-highest .highest .result) (after-highest .highest .ensures .0) (after-highest .highest .ensures .1))
+    (is-next (at-start .args .form) (at-start .args .chain) (at-start .pre .0) (small after-struct-known2) (after-highest .highest .result) (after-highest .highest .ensures .0) (after-highest .highest .ensures .1))
 
 pub next-digit-spec : {M : Type 1} → statement M
 next-digit-spec =

@@ -22,12 +22,12 @@ looked-up c = c .find .ensures
 at-row : (c : tie.After-i) → rowWith (rowsOf (start (c .before .before) .args .table .now) (start (c .before .before) .args .n)) (start (c .before .before) .args .row .value) ≡ at-place (c .i .given .0 .0)
 at-row c =
     let after-find = c .before .before in
-    sym (looked-up (after-find)) ∙ ap foundAt (c .i .given .1)
+    sym (looked-up after-find) ∙ ap foundAt (c .i .given .1)
 
 no-row : (c : tie.After-enum-told) → rowWith (rowsOf (start (c .before .before) .args .table .now) (start (c .before .before) .args .n)) (start (c .before .before) .args .row .value) ≡ nowhere
 no-row c =
     let after-find = c .before .before in
-    sym (looked-up (after-find)) ∙ ap foundAt (c .enum-told .given .1)
+    sym (looked-up after-find) ∙ ap foundAt (c .enum-told .given .1)
 
 find-requires : tie.Need-find-requires
 find-requires c κs = search needs
@@ -39,8 +39,8 @@ cast-t15 : tie.Need-cast-t15
 cast-t15 c =
     let after-i = c .before in
     let after-find = after-i .before .before in
-    let s = start (after-find) in
-    record { fits = omega (arith, row-found (s .args .table .now) (s .args .n) (s .args .row .value) (after-i .i .given .0 .0) (at-row after-i) .0, s .pre .0 .few) }
+    let at-start = start after-find in
+    record { fits = omega (arith, row-found (at-start .args .table .now) (at-start .args .n) (at-start .args .row .value) (after-i .i .given .0 .0) (at-row after-i) .0, at-start .pre .0 .few) }
 
 enum-told : tie.Need-enum-told
 enum-told c = search needs
@@ -49,10 +49,10 @@ put-requires : tie.Need-put-requires
 put-requires c κs =
     let after-enum-told = c .before .before .before in
     let after-find = after-enum-told .before .before in
-    let s = start (after-find) in
-    let r = s .pre .1 in
-    let e = added-length (s .args .table .now) (s .args .n) (s .args .row) (no-row after-enum-told) in
-    (s .pre .0, ((omega (arith, e, r .few), omega (arith, e, r .words), omega (arith, e, r .linked)), no-row after-enum-told))
+    let at-start = start after-find in
+    let r = at-start .pre .1 in
+    let e = added-length (at-start .args .table .now) (at-start .args .n) (at-start .args .row) (no-row after-enum-told) in
+    (at-start .pre .0, ((omega (arith, e, r .few), omega (arith, e, r .words), omega (arith, e, r .linked)), no-row after-enum-told))
 
 add-t23 : tie.Need-add-t23
 add-t23 c = search needs
@@ -73,8 +73,8 @@ returns : tie.Need-returns
 returns c =
     let after-i = c .before in
     let after-find = after-i .before .before in
-    let s = start (after-find) in
-    found (s .args .table .now) (s .args .n) (s .args .row) (s .args .heads .now) (s .args .links .now) (after-i .i .given .0 .0) (s .pre .0) (at-row after-i)
+    let at-start = start after-find in
+    found (at-start .args .table .now) (at-start .args .n) (at-start .args .row) (at-start .args .heads .now) (at-start .args .links .now) (after-i .i .given .0 .0) (at-start .pre .0) (at-row after-i)
 
 same-length-4 : tie.Need-same-length-4
 same-length-4 c = search needs
@@ -91,8 +91,8 @@ returns-2 c =
     let after-put = after-table .before in
     let after-enum-told = after-put .before .before .before .before in
     let after-find = after-enum-told .before .before in
-    let s = start (after-find) in
-    written (s .args .table .now) (s .args .n) (s .args .row) (no-row after-enum-told) (after-put .put .last .0) (after-put .put .last .1 .0) (after-put .put .last .1 .1 .0) (after-put .put .ensures)
+    let at-start = start after-find in
+    written (at-start .args .table .now) (at-start .args .n) (at-start .args .row) (no-row after-enum-told) (after-put .put .last .0) (after-put .put .last .1 .0) (after-put .put .last .1 .1 .0) (after-put .put .ensures)
 
 pub reach-spec : {M : Type 1} → statement M
 reach-spec =

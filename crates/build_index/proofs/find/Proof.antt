@@ -26,14 +26,14 @@ start c = c .before .before .before .before .before .before .before
 bucket-requires : tie.Need-bucket-requires Inv-loop μ-loop
 bucket-requires c κs = search needs
 
-mul-number : tie.Need-mul-number Inv-loop μ-loop
-mul-number c = search needs
+mul-index-16 : tie.Need-mul-index-16 Inv-loop μ-loop
+mul-index-16 c = search needs
 
-shared-slice-read-number : tie.Need-shared-slice-read-number Inv-loop μ-loop
-shared-slice-read-number c = search needs
+shared-slice-read-index-16 : tie.Need-shared-slice-read-index-16 Inv-loop μ-loop
+shared-slice-read-index-16 c = search needs
 
-number-requires : tie.Need-number-requires Inv-loop μ-loop
-number-requires c κs = search needs
+index-16-requires : tie.Need-index-16-requires Inv-loop μ-loop
+index-16-requires c κs = search needs
 
 loop-holds : tie.Need-loop-holds Inv-loop μ-loop
 loop-holds c =
@@ -45,7 +45,7 @@ loop-holds c =
     = at-start .pre .heads-in (bucketOf (length (args .heads .now)) (args .x)) (omega (arith, bucket .ensures .0, bucket .ensures .1)) in
     passed-start
     (subst (λ p. Last (args .table .now) (length (args .heads .now)) (bucketOf (length (args .heads .now)) (args .x)) p (args .n))
-    (ap (λ k. getD (args .heads .now) k 0) (sym (bucket .ensures .0)) ∙ sym (c .number .ensures)) l)
+    (ap (λ k. getD (args .heads .now) k 0) (sym (bucket .ensures .0)) ∙ sym (c .index-16 .ensures)) l)
 
 sub-k : tie.Need-sub-k Inv-loop μ-loop
 sub-k c = search needs
@@ -66,20 +66,20 @@ returns c =
     let h : loop .p - 1 < at-start .args .n = omega (arith, loop .inv .low) in
     sym (found-row (at-start .args .table .now) (at-start .args .n) (at-start .args .x) (loop .p - 1) h e (λ i l q. at-start .pre .distinct i (loop .p - 1) l h (q ∙ sym e)))
 
-mul-number-2 : tie.Need-mul-number-2 Inv-loop μ-loop
-mul-number-2 c =
+mul-index-16-2 : tie.Need-mul-index-16-2 Inv-loop μ-loop
+mul-index-16-2 c =
     let at-loop = c .before .before .before in
     let at-start = start at-loop in
     omega (arith, at-start .pre .few, at-loop .loop .inv .low)
 
-shared-slice-read-number-2 : tie.Need-shared-slice-read-number-2 Inv-loop μ-loop
-shared-slice-read-number-2 c =
+shared-slice-read-index-16-2 : tie.Need-shared-slice-read-index-16-2 Inv-loop μ-loop
+shared-slice-read-index-16-2 c =
     let at-loop = c .before .before .before .before in
     let at-start = start at-loop in
     omega (arith, at-start .pre .linked, at-loop .loop .inv .low)
 
-number-requires-2 : tie.Need-number-requires-2 Inv-loop μ-loop
-number-requires-2 c κs = search needs
+index-16-requires-2 : tie.Need-index-16-requires-2 Inv-loop μ-loop
+index-16-requires-2 c κs = search needs
 
 loop-less : tie.Need-loop-less Inv-loop μ-loop
 loop-less c =
@@ -87,7 +87,7 @@ loop-less c =
     let at-start = start at-loop in
     let loop = at-loop .loop in
     let l = at-start .pre .links-in (loop .p - 1) (omega (arith, loop .inv .low)) in
-    omega (arith, l .low, c .number2 .ensures)
+    omega (arith, l .low, c .index-162 .ensures)
 
 loop-again : tie.Need-loop-again Inv-loop μ-loop
 loop-again c =
@@ -99,7 +99,7 @@ loop-again c =
     let loop = at-loop .loop in
     let l = at-start .pre .links-in (loop .p - 1) (omega (arith, loop .inv .low)) in
     passed-next (loop .inv) (let pos : 0 < loop .p = omega arith in pos) (λ e. in-else-1 .if1 .left (after-read-value .read-value .ensures ∙ e))
-    (subst (λ q. Last (args .table .now) (length (args .heads .now)) (bucketOf (length (args .heads .now)) (valueAt (args .table .now) (loop .p - 1))) q (loop .p - 1)) (sym (c .number2 .ensures)) l)
+    (subst (λ q. Last (args .table .now) (length (args .heads .now)) (bucketOf (length (args .heads .now)) (valueAt (args .table .now) (loop .p - 1))) q (loop .p - 1)) (sym (c .index-162 .ensures)) l)
 
 returns-2 : tie.Need-returns-2 Inv-loop μ-loop
 returns-2 c =
@@ -114,16 +114,16 @@ find-spec =
     Inv-loop
     μ-loop
     bucket-requires
-    mul-number
-    shared-slice-read-number
-    number-requires
+    mul-index-16
+    shared-slice-read-index-16
+    index-16-requires
     loop-holds
     sub-k
     read-value-requires
     returns
-    mul-number-2
-    shared-slice-read-number-2
-    number-requires-2
+    mul-index-16-2
+    shared-slice-read-index-16-2
+    index-16-requires-2
     loop-less
     loop-again
     returns-2)

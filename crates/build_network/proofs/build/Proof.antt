@@ -22,9 +22,7 @@ abbrev start : tie.Else2 → tie.Start
 start c = c .before .before .before .before .before
 
 abbrev within : tie.After-first-without-form → tie.Else2
-within c =
-    let in-else-2 = c .before .before .before .before in
-    in-else-2
+within c = c .before .before .before .before
 
 some : (c : tie.Else2) → 1 ≤ length (start c .args .coefficients .now)
 some c = omega (arith, c .before .if1 .left)
@@ -47,35 +45,35 @@ lengths c =
 
 long : (c : tie.After-first-without-form) → short (start (within c) .args .coefficients .now) (start (within c) .args .choices .now) (start (within c) .args .rows .now) (start (within c) .args .taps .now) ≡ false
 long c =
-    let a = start (within c) .args in
+    let args = start (within c) .args in
     let l = lengths c in
-    none-short (a .coefficients .now) (a .choices .now) (a .rows .now) (a .taps .now) (l .choices) (l .rows) (l .taps)
+    none-short (args .coefficients .now) (args .choices .now) (args .rows .now) (args .taps .now) (l .choices) (l .rows) (l .taps)
 
 -- check 9
 abbrev breaks : Choice → Bool
 breaks c = noSuchForm (c .tap) (c .number)
 
 taps-are : (c : tie.After-first-without-form) → length (choicesOf (start (within c) .args .coefficients .now) (start (within c) .args .choices .now)) ≡ length (start (within c) .args .coefficients .now)
-taps-are c = let a = start (within c) .args in length-choices (a .coefficients .now) (a .choices .now) (lengths c .choices)
+taps-are c = let args = start (within c) .args in length-choices (args .coefficients .now) (args .choices .now) (lengths c .choices)
 
 place-is : (c : tie.After-first-without-form)
     → c .first-without-form .result
     ≡ placeOr (length (choicesOf (start (within c) .args .coefficients .now) (start (within c) .args .choices .now))) (missingForm (start (within c) .args .coefficients .now) (start (within c) .args .choices .now))
 place-is c =
-    let a = start (within c) .args in
-    c .first-without-form .ensures .0 ∙ ap (λ (n : ℕ). placeOr n (missingForm (a .coefficients .now) (a .choices .now))) (sym (taps-are c))
+    let args = start (within c) .args in
+    c .first-without-form .ensures .0 ∙ ap (λ (n : ℕ). placeOr n (missingForm (args .coefficients .now) (args .choices .now))) (sym (taps-are c))
 
 all-forms : (c : tie.Else6) → missingForm (start (within (c .before)) .args .coefficients .now) (start (within (c .before)) .args .choices .now) ≡ nowhere
 all-forms c =
     let after-first-without-form = c .before in
-    let a = start (within after-first-without-form) .args in
-    found-none breaks (choicesOf (a .coefficients .now) (a .choices .now)) (after-first-without-form .first-without-form .result) (length (a .coefficients .now)) (place-is after-first-without-form) (taps-are after-first-without-form) (omega (arith, c .if6 .left))
+    let args = start (within after-first-without-form) .args in
+    found-none breaks (choicesOf (args .coefficients .now) (args .choices .now)) (after-first-without-form .first-without-form .result) (length (args .coefficients .now)) (place-is after-first-without-form) (taps-are after-first-without-form) (omega (arith, c .if6 .left))
 
 accepted : (c : tie.Else6)
     → CanBuildInto (start (within (c .before)) .args .coefficients .now) (start (within (c .before)) .args .choices .now) (start (within (c .before)) .args .rows .now) (start (within (c .before)) .args .taps .now)
 accepted c =
     let after-first-without-form = c .before in
-    let a = start (within after-first-without-form) .args in
+    let args = start (within after-first-without-form) .args in
     let l = lengths after-first-without-form in
     record {
       some = some (within after-first-without-form);
@@ -83,7 +81,7 @@ accepted c =
         few = few (within after-first-without-form);
         enough = l .choices;
         bounds = λ i h. after-first-without-form .first-without-form .ensures .1 i (omega (arith, c .if6 .left));
-        forms = forms-exist (a .coefficients .now) (a .choices .now) (l .choices) (all-forms c);
+        forms = forms-exist (args .coefficients .now) (args .choices .now) (l .choices) (all-forms c);
       };
       rows-long = l .rows;
       taps-long = l .taps;
@@ -107,9 +105,9 @@ returns-2 c =
 returns-3 : tie.Need-returns-3
 returns-3 c =
     let in-else-2 = c .before in
-    let s = start (in-else-2) in
-    let a = s .args in
-    refusal s 3 0 (too-short (a .coefficients .now) (a .choices .now) (a .rows .now) (a .taps .now) (some (in-else-2)) (few (in-else-2)) (short-choices (a .coefficients .now) (a .choices .now) (a .rows .now) (a .taps .now) (omega (arith, c .if3 .taken))))
+    let at-start = start in-else-2 in
+    let args = at-start .args in
+    refusal at-start 3 0 (too-short (args .coefficients .now) (args .choices .now) (args .rows .now) (args .taps .now) (some in-else-2) (few in-else-2) (short-choices (args .coefficients .now) (args .choices .now) (args .rows .now) (args .taps .now) (omega (arith, c .if3 .taken))))
 
 returns-4 : tie.Need-returns-4
 returns-4 c =
@@ -135,15 +133,15 @@ returns-6 : tie.Need-returns-6
 returns-6 c =
     let after-first-without-form = c .before in
     let w = within after-first-without-form in
-    let s = start w in
-    let a = s .args in
-    let h = found breaks (choicesOf (a .coefficients .now) (a .choices .now)) (after-first-without-form .first-without-form .result) (length (a .coefficients .now)) (place-is after-first-without-form) (taps-are after-first-without-form) (omega (arith, c .if6 .taken)) in
-    refusal s 9 (after-first-without-form .first-without-form .result) (no-form (a .coefficients .now) (a .choices .now) (a .rows .now) (a .taps .now) (some w) (few w) (after-first-without-form .first-without-form .result) (long after-first-without-form) h)
+    let at-start = start w in
+    let args = at-start .args in
+    let h = found breaks (choicesOf (args .coefficients .now) (args .choices .now)) (after-first-without-form .first-without-form .result) (length (args .coefficients .now)) (place-is after-first-without-form) (taps-are after-first-without-form) (omega (arith, c .if6 .taken)) in
+    refusal at-start 9 (after-first-without-form .first-without-form .result) (no-form (args .coefficients .now) (args .choices .now) (args .rows .now) (args .taps .now) (some w) (few w) (after-first-without-form .first-without-form .result) (long after-first-without-form) h)
 
 build-accepted-requires : tie.Need-build-accepted-requires
 build-accepted-requires c κs =
     let in-else-6 = c .before .before in
-    accepted (in-else-6)
+    accepted in-else-6
 
 cast-t21 : tie.Need-cast-t21
 cast-t21 c =
@@ -162,10 +160,10 @@ returns-7 c =
     let in-else-6 = after-build-accepted .before .before .before in
     let after-first-without-form = in-else-6 .before in
     let w = within after-first-without-form in
-    let s = start w in
-    let a = s .args in
-    let e = network-given (a .coefficients .now) (a .choices .now) (a .rows .now) (a .taps .now) (some w) (few w) (long after-first-without-form) (all-forms in-else-6) in
-    network-left (a .coefficients .now) (a .choices .now) (a .rows .now) (a .taps .now) (after-build-accepted .build-accepted .last .1 .1 .0) (after-build-accepted .build-accepted .last .1 .1 .1 .0) (after-build-accepted .build-accepted .result) e (after-build-accepted .build-accepted .ensures)
+    let at-start = start w in
+    let args = at-start .args in
+    let e = network-given (args .coefficients .now) (args .choices .now) (args .rows .now) (args .taps .now) (some w) (few w) (long after-first-without-form) (all-forms in-else-6) in
+    network-left (args .coefficients .now) (args .choices .now) (args .rows .now) (args .taps .now) (after-build-accepted .build-accepted .last .1 .1 .0) (after-build-accepted .build-accepted .last .1 .1 .1 .0) (after-build-accepted .build-accepted .result) e (after-build-accepted .build-accepted .ensures)
 
 pub build-spec : {M : Type 1} → statement M
 build-spec =

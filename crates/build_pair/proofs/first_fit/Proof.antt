@@ -34,9 +34,7 @@ abbrev start : tie.At-search Inv-loop μ-loop Inv-search μ-search → tie.Start
 start c = c .before .before .before .before .before
 
 abbrev at-search : tie.At-loop Inv-loop μ-loop Inv-search μ-search → tie.At-search Inv-loop μ-loop Inv-search μ-search
-at-search c =
-    let at-search = c .before .before .before .before in
-    at-search
+at-search c = c .before .before .before .before
 
 -- in the loops: the left row is one of the rows, and 2^s·left is below 2^32
 left-within : (c : tie.At-loop Inv-loop μ-loop Inv-search μ-search) → c .before .before .narrow .result < start (at-search c) .args .n
@@ -102,7 +100,7 @@ enum-told c = search needs
 mul-a-2 : tie.Need-mul-a-2 Inv-loop μ-loop Inv-search μ-search
 mul-a-2 c =
     let in-loop = c .before .before .before in
-    omega (arith, below-word (in-loop))
+    omega (arith, below-word in-loop)
 
 add-s : tie.Need-add-s Inv-loop μ-loop Inv-search μ-search
 add-s c =
@@ -114,9 +112,9 @@ loop-less c =
     let in-loop = c .before .before .before in
     let at-loop = in-loop .before in
     let after-narrow = at-loop .before .before in
-    let s = start (at-search at-loop) in
-    let a = s .args in
-    omega (arith, few-shifts (a .table .now) (a .heads .now) (a .links .now) (a .n) (a .most) (a .v) (s .pre) (after-narrow .narrow .result) (left-within at-loop) (at-loop .loop .s) (at-loop .loop .a) (at-loop .loop .inv) (below-word in-loop))
+    let at-start = start (at-search at-loop) in
+    let args = at-start .args in
+    omega (arith, few-shifts (args .table .now) (args .heads .now) (args .links .now) (args .n) (args .most) (args .v) (at-start .pre) (after-narrow .narrow .result) (left-within at-loop) (at-loop .loop .s) (at-loop .loop .a) (at-loop .loop .inv) (below-word in-loop))
 
 loop-again : tie.Need-loop-again Inv-loop μ-loop Inv-search μ-search
 loop-again c =
@@ -124,9 +122,9 @@ loop-again c =
     let in-loop = after-at-shift .before in
     let at-loop = in-loop .before in
     let after-narrow = at-loop .before .before in
-    let s = start (at-search at-loop) in
-    let a = s .args in
-    try-next (a .table .now) (a .heads .now) (a .links .now) (a .n) (a .most) (a .v) (s .pre) (after-narrow .narrow .result) (left-within at-loop) (at-loop .loop .s) (at-loop .loop .a) (at-loop .loop .inv) (below-word in-loop)
+    let at-start = start (at-search at-loop) in
+    let args = at-start .args in
+    try-next (args .table .now) (args .heads .now) (args .links .now) (args .n) (args .most) (args .v) (at-start .pre) (after-narrow .narrow .result) (left-within at-loop) (at-loop .loop .s) (at-loop .loop .a) (at-loop .loop .inv) (below-word in-loop)
     (sym (after-at-shift .at-shift .ensures) ∙ ap fitOf (c .enum-told .given .1))
 
 add-i : tie.Need-add-i Inv-loop μ-loop Inv-search μ-search
@@ -140,13 +138,13 @@ search-again c =
     let at-loop = c .before in
     let after-narrow = at-loop .before .before in
     let r = at-search at-loop in
-    let s = start r in
-    let a = s .args in
+    let at-start = start r in
+    let args = at-start .args in
     let left = after-narrow .narrow in (
       omega arith,
-      below-more (λ k. fitAtLeft (rowsOf (a .table .now) (a .n)) (a .v) k ≡ none-fits) (r .search .i) (r .search .inv .1)
-          (ap (fitAtLeft (rowsOf (a .table .now) (a .n)) (a .v)) (sym (left .ensures))
-          ∙ left-none (a .table .now) (a .heads .now) (a .links .now) (a .n) (a .most) (a .v) (s .pre) (left .result) (left-within at-loop) (at-loop .loop .s) (at-loop .loop .a) (at-loop .loop .inv) (omega (arith, c .loop-test .left))),
+      below-more (λ k. fitAtLeft (rowsOf (args .table .now) (args .n)) (args .v) k ≡ none-fits) (r .search .i) (r .search .inv .1)
+          (ap (fitAtLeft (rowsOf (args .table .now) (args .n)) (args .v)) (sym (left .ensures))
+          ∙ left-none (args .table .now) (args .heads .now) (args .links .now) (args .n) (args .most) (args .v) (at-start .pre) (left .result) (left-within at-loop) (at-loop .loop .s) (at-loop .loop .a) (at-loop .loop .inv) (omega (arith, c .loop-test .left))),
     )
 
 returns : tie.Need-returns Inv-loop μ-loop Inv-search μ-search
@@ -164,14 +162,14 @@ returns-2 c =
     let at-loop = in-loop .before in
     let after-narrow = at-loop .before .before in
     let r = at-search at-loop in
-    let s = start r in
-    let a = s .args in
+    let at-start = start r in
+    let args = at-start .args in
     let left = after-narrow .narrow in
     let row = after-row .row .given .0 .0 in
     sym
-    (fit-first (a .table .now) (a .n) (a .v) (r .search .i) (r .search .inv .1) row (omega arith)
-    (ap (fitAtLeft (rowsOf (a .table .now) (a .n)) (a .v)) (sym (left .ensures))
-    ∙ left-first (a .table .now) (a .heads .now) (a .links .now) (a .n) (a .most) (a .v) (s .pre) (left .result) (left-within at-loop) (at-loop .loop .s) (at-loop .loop .a) (at-loop .loop .inv) (below-word in-loop) row
+    (fit-first (args .table .now) (args .n) (args .v) (r .search .i) (r .search .inv .1) row (omega arith)
+    (ap (fitAtLeft (rowsOf (args .table .now) (args .n)) (args .v)) (sym (left .ensures))
+    ∙ left-first (args .table .now) (args .heads .now) (args .links .now) (args .n) (args .most) (args .v) (at-start .pre) (left .result) (left-within at-loop) (at-loop .loop .s) (at-loop .loop .a) (at-loop .loop .inv) (below-word in-loop) row
     (sym (after-at-shift .at-shift .ensures) ∙ ap fitOf (after-row .row .given .1))))
 
 pub first-fit-spec : {M : Type 1} → statement M

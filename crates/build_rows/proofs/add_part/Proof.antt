@@ -29,14 +29,12 @@ abbrev start : tie.After-find → tie.Start
 start c = c .before .before .before .before .before .before .before
 
 abbrev unfound : tie.After-first-fit → tie.After-enum-told2
-unfound c =
-    let after-enum-told2 = c .before .before .before .before in
-    after-enum-told2
+unfound c = c .before .before .before .before
 
 abbrev entry : tie.After-enum-told2 → tie.Start
 entry c =
     let after-find = c .before .before in
-    start (after-find)
+    start after-find
 
 abbrev rows : tie.Start → List Row
 rows s = rowsOf (s .args .table .now) (s .args .n)
@@ -82,7 +80,7 @@ put-requires : tie.Need-put-requires
 put-requires c κs =
     let after-row = c .before .before .before .before in
     let after-first-fit = after-row .before .before in
-    let u = unfound (after-first-fit) in
+    let u = unfound after-first-fit in
     let s = entry u in
     let a = s .args in
     let row = after-row .row .given .0 .0 in
@@ -99,7 +97,7 @@ enum-told-3 c = search needs
 chosen-form-requires : tie.Need-chosen-form-requires
 chosen-form-requires c κs =
     let after-first-fit = c .before .before in
-    let p = entry (unfound (after-first-fit)) .pre .part in (p .below, p .choice)
+    let p = entry (unfound after-first-fit) .pre .part in (p .below, p .choice)
 
 -- the rows of the chosen form's chain
 chain : (c : tie.After-chosen-form)
@@ -108,7 +106,7 @@ chain : (c : tie.After-chosen-form)
 chain c =
     let after-enum-told3 = c .before in
     let after-first-fit = after-enum-told3 .before .before in
-    let u = unfound (after-first-fit) in
+    let u = unfound after-first-fit in
     let s = entry u in
     let a = s .args in
     ap (λ (x : Form). chained (rows s) (stringOf x)) (c .chosen-form .ensures) ∙ chain-added (a .table .now) (a .heads .now) (a .links .now) (a .n) (a .most) (part s) (s .pre) (missing u) (none after-enum-told3)
@@ -117,7 +115,7 @@ add-chain-requires : tie.Need-add-chain-requires
 add-chain-requires c κs =
     let after-chosen-form = c .before .before .before in
     let after-first-fit = after-chosen-form .before .before .before in
-    let s = entry (unfound (after-first-fit)) in
+    let s = entry (unfound after-first-fit) in
     let a = s .args in (
       (s .pre .index, subst (λ (x : Form). Readable x (rows s)) (sym (after-chosen-form .chosen-form .ensures)) (readable (a .table .now) (a .heads .now) (a .links .now) (a .n) (a .most) (part s) (s .pre))),
       subst (λ (x : List Row). HasRoom (a .table .now) (a .links .now) (length x)) (sym (chain after-chosen-form)) (s .pre .room),
@@ -135,10 +133,10 @@ same-length-3 c = search needs
 returns : tie.Need-returns
 returns c =
     let after-find = c .before .before in
-    let s = start (after-find) in
-    let a = s .args in
+    let at-start = start after-find in
+    let args = at-start .args in
     let e = sym (after-find .find .ensures) ∙ ap foundAt (c .enum-told .given .1) in
-    subst (Grown (a .table .now) (a .table .now) (a .heads .now) (a .links .now) (a .n)) (row-used (a .table .now) (a .heads .now) (a .links .now) (a .n) (a .most) (part s) (s .pre) (c .enum-told .given .0 .0) e) (grown-none (a .table .now) (a .heads .now) (a .links .now) (a .n) (s .pre .index))
+    subst (Grown (args .table .now) (args .table .now) (args .heads .now) (args .links .now) (args .n)) (row-used (args .table .now) (args .heads .now) (args .links .now) (args .n) (args .most) (part at-start) (at-start .pre) (c .enum-told .given .0 .0) e) (grown-none (args .table .now) (args .heads .now) (args .links .now) (args .n) (at-start .pre .index))
 
 same-length-4 : tie.Need-same-length-4
 same-length-4 c = search needs
@@ -155,7 +153,7 @@ returns-2 c =
     let after-put = after-table .before in
     let after-row = after-put .before .before .before .before .before in
     let after-first-fit = after-row .before .before in
-    let u = unfound (after-first-fit) in
+    let u = unfound after-first-fit in
     let s = entry u in
     let a = s .args in
     subst (Grown (a .table .now) (after-put .put .last .0) (after-put .put .last .1 .0) (after-put .put .last .1 .1 .0) (a .n + 1)) (fit-added (a .table .now) (a .heads .now) (a .links .now) (a .n) (a .most) (part s) (s .pre) (missing u) (after-row .row .given .0 .0) (fits after-row)) (after-put .put .ensures)
@@ -175,7 +173,7 @@ returns-3 c =
     let after-add-chain = after-table2 .before in
     let after-chosen-form = after-add-chain .before .before .before .before in
     let after-first-fit = after-chosen-form .before .before .before in
-    let a = entry (unfound (after-first-fit)) .args in
+    let a = entry (unfound after-first-fit) .args in
     subst (Grown (a .table .now) (after-add-chain .add-chain .last .0) (after-add-chain .add-chain .last .1 .0) (after-add-chain .add-chain .last .1 .1 .0) (after-add-chain .add-chain .result)) (chain after-chosen-form) (after-add-chain .add-chain .ensures)
 
 pub add-part-spec : {M : Type 1} → statement M

@@ -39,10 +39,7 @@ abbrev start : tie.After-put Inv-loop μ-loop → tie.Start Inv-loop μ-loop
 start c = c .before .before .before .before .before .before .before .before .before
 
 abbrev first : tie.At-loop Inv-loop μ-loop → tie.After-put Inv-loop μ-loop
-first c =
-    let after-heads = c .before .before .before .before in
-    let after-put = after-heads .before .before .before in
-    after-put
+first c = c .before .before .before .before .before .before .before
 
 put-requires : tie.Need-put-requires Inv-loop μ-loop
 unfolding rowWith lowestFrom upTo
@@ -73,7 +70,7 @@ mul-key c = let s = start (first (c .before)) in omega (arith, s .pre .keyed, s 
 shared-slice-read-key : tie.Need-shared-slice-read-key Inv-loop μ-loop
 shared-slice-read-key c =
     let at-loop = c .before .before in
-    let s = start (first (at-loop)) in omega (arith, s .pre .keyed)
+    let at-start = start (first at-loop) in omega (arith, at-start .pre .keyed)
 
 value-of-requires : tie.Need-value-of-requires Inv-loop μ-loop
 value-of-requires c κs = search needs
@@ -91,7 +88,7 @@ tap-within c =
 mul-choice : tie.Need-mul-choice Inv-loop μ-loop
 mul-choice c =
     let at-loop = c .before .before .before .before in
-    omega (arith, tap-within c, start (first (at-loop)) .good)
+    omega (arith, tap-within c, start (first at-loop) .good)
 
 shared-slice-read-choice : tie.Need-shared-slice-read-choice Inv-loop μ-loop
 shared-slice-read-choice c = tap-within (c .before)
@@ -103,8 +100,8 @@ part-is : (c : tie.After-tap-of Inv-loop μ-loop)
 part-is c =
     let after-value-of = c .before in
     let at-loop = after-value-of .before .before .before in
-    let a = start (first (at-loop)) .args in
-    sym (ap₂ (λ (v k : ℕ). partOf v (getD (a .choices .now) k 0)) (after-value-of .value-of .ensures) (c .tap-of .ensures))
+    let args = start (first at-loop) .args in
+    sym (ap₂ (λ (v k : ℕ). partOf v (getD (args .choices .now) k 0)) (after-value-of .value-of .ensures) (c .tap-of .ensures))
 
 add-part-requires : tie.Need-add-part-requires Inv-loop μ-loop
 add-part-requires c κs =
@@ -113,12 +110,12 @@ add-part-requires c κs =
     let at-loop = in-loop .before in
     let loop = at-loop .loop in
     let f = first at-loop in
-    let s = start f in
-    let a = s .args in
+    let at-start = start f in
+    let args = at-start .args in
     let k = f .put .kept in
-    let r = same-room (a .table .now) (a .links .now) (loop .table) (loop .links) _ (loop .inv .1 ∙ k .0) (loop .inv .3 ∙ k .1 .1 .0) (s .pre .room) in
+    let r = same-room (args .table .now) (args .links .now) (loop .table) (loop .links) _ (loop .inv .1 ∙ k .0) (loop .inv .3 ∙ k .1 .1 .0) (at-start .pre .room) in
     subst (Ready (loop .table) (loop .heads) (loop .links) (loop .n) (loop .most)) (part-is after-tap-of)
-    (ready (a .keys .now) (a .m) (a .choices .now) (f .put .last .0) (loop .table) (loop .heads) (loop .links) (loop .n) (loop .most) (loop .i) (in-loop .loop-test .taken) (s .pre .keyed) (loop .inv .4) (s .pre .parts (loop .i) (in-loop .loop-test .taken)) r)
+    (ready (args .keys .now) (args .m) (args .choices .now) (f .put .last .0) (loop .table) (loop .heads) (loop .links) (loop .n) (loop .most) (loop .i) (in-loop .loop-test .taken) (at-start .pre .keyed) (loop .inv .4) (at-start .pre .parts (loop .i) (in-loop .loop-test .taken)) r)
 
 larger-requires : tie.Need-larger-requires Inv-loop μ-loop
 larger-requires c κs = search needs
@@ -130,7 +127,7 @@ add-i c =
     let after-value-of = after-add-part-arg2 .before .before .before .before in
     let in-loop = after-value-of .before .before in
     let at-loop = in-loop .before in
-    omega (arith, at-loop .loop .inv .0, in-loop .loop-test .taken, start (first (at-loop)) .fits .m)
+    omega (arith, at-loop .loop .inv .0, in-loop .loop-test .taken, start (first at-loop) .fits .m)
 
 loop-less : tie.Need-loop-less Inv-loop μ-loop
 loop-less c =
@@ -150,8 +147,8 @@ loop-again c =
     let at-loop = in-loop .before in
     let loop = at-loop .loop in
     let f = first at-loop in
-    let s = start f in
-    let a = s .args in
+    let at-start = start f in
+    let args = at-start .args in
     let k = after-add-part .add-part .kept in
     let loop-test-taken = in-loop .loop-test .taken in
     let e = c .larger .ensures ∙ ap (λ (x : ℕ). max (loop .most) x) (after-value-of .value-of .ensures) in
@@ -160,7 +157,7 @@ loop-again c =
       k .0 ∙ loop .inv .1,
       k .1 .0 ∙ loop .inv .2,
       k .1 .1 .0 ∙ loop .inv .3,
-      round-next (a .keys .now) (a .m) (a .choices .now) (f .put .last .0) (loop .table) (loop .heads) (loop .links) (loop .n) (loop .most) (loop .i) loop-test-taken (s .pre .keyed) (loop .inv .4) (s .pre .parts (loop .i) loop-test-taken)
+      round-next (args .keys .now) (args .m) (args .choices .now) (f .put .last .0) (loop .table) (loop .heads) (loop .links) (loop .n) (loop .most) (loop .i) loop-test-taken (at-start .pre .keyed) (loop .inv .4) (at-start .pre .parts (loop .i) loop-test-taken)
           (after-add-part .add-part .last .0) (after-add-part .add-part .last .1 .0) (after-add-part .add-part .last .1 .1 .0) (after-add-part .add-part .result) (c .larger .result) e w,
     )
 
@@ -184,9 +181,9 @@ returns c =
     let at-loop = c .before in
     let loop = at-loop .loop in
     let f = first at-loop in
-    let s = start f in
-    let a = s .args in
-    round-end (a .keys .now) (a .m) (a .choices .now) (a .table .now) (f .put .last .0) (f .put .last .1 .0) (f .put .last .1 .1 .0) (loop .table) (loop .heads) (loop .links) (loop .n) (loop .most) (loop .i) (c .loop-test .left) (s .pre .keyed) (row-0-put f) (loop .inv .4)
+    let at-start = start f in
+    let args = at-start .args in
+    round-end (args .keys .now) (args .m) (args .choices .now) (args .table .now) (f .put .last .0) (f .put .last .1 .0) (f .put .last .1 .1 .0) (loop .table) (loop .heads) (loop .links) (loop .n) (loop .most) (loop .i) (c .loop-test .left) (at-start .pre .keyed) (row-0-put f) (loop .inv .4)
 
 pub add-rows-spec : {M : Type 1} → statement M
 add-rows-spec =

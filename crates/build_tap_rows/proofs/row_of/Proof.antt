@@ -29,8 +29,8 @@ cast-result : tie.Need-cast-result
 cast-result c =
     let after-i = c .before in
     let after-find = after-i .before .before in
-    let s = start (after-find) in
-    record { fits = omega (arith, row-found (s .args .table .now) (s .args .n) (s .args .x) (after-i .i .given .0 .0) (at-row after-i) .0, s .pre .few) }
+    let at-start = start after-find in
+    record { fits = omega (arith, row-found (at-start .args .table .now) (at-start .args .n) (at-start .args .x) (after-i .i .given .0 .0) (at-row after-i) .0, at-start .pre .few) }
 
 enum-told : tie.Need-enum-told
 enum-told c = search needs

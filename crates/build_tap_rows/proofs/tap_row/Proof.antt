@@ -40,7 +40,7 @@ returns c =
     let after-reduce = c .before .before in
     let at-start = after-reduce .before .before .before .before in
     let args = at-start .args in
-    ap (tapRowOf (rowsOf (args .table .now) (args .n))) (ap partsIn (sym (c .enum-told .given .1)) ∙ reduced (after-reduce))
+    ap (tapRowOf (rowsOf (args .table .now) (args .n))) (ap partsIn (sym (c .enum-told .given .1)) ∙ reduced after-reduce)
 
 returns-2 : tie.Need-returns-2
 unfolding tapRowOf
@@ -51,7 +51,7 @@ returns-2 c =
     let at-start = after-reduce .before .before .before .before in
     let args = at-start .args in
     ap₂ (λ (x y : ℕ). record { sign = x; row = y; shift = after-reduction .reduction .given .0 .0 .shift }) (after-sign-code .sign-code .ensures) (c .row-of .ensures)
-    ∙ ap (tapRowOf (rowsOf (args .table .now) (args .n))) (ap partsIn (sym (after-reduction .reduction .given .1)) ∙ reduced (after-reduce))
+    ∙ ap (tapRowOf (rowsOf (args .table .now) (args .n))) (ap partsIn (sym (after-reduction .reduction .given .1)) ∙ reduced after-reduce)
 
 pub tap-row-spec : {M : Type 1} → statement M
 tap-row-spec =

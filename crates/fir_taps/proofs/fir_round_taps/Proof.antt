@@ -48,12 +48,12 @@ enum-known-answer-2 c = search needs
 float-to-bits-divisor : tie.Need-float-to-bits-divisor
 float-to-bits-divisor c =
     let after-answer2 = c .before .before in
-    let w = numbers (after-answer2) in search needs
+    let w = numbers after-answer2 in search needs
 
 float-to-bits-leftover : tie.Need-float-to-bits-leftover
 float-to-bits-leftover c =
     let after-answer2 = c .before .before .before in
-    let w = numbers (after-answer2) in search needs
+    let w = numbers after-answer2 in search needs
 
 same-length : tie.Need-same-length
 same-length c = search needs

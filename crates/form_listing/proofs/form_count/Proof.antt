@@ -54,7 +54,7 @@ skip-requires : tie.Need-skip-requires Inv-loop μ-loop
 skip-requires c κs =
     let at-loop = c .before .before in
     let at-start = at-loop .before .before .before in
-    let m = natAbs (given (at-start)) in
+    let m = natAbs (given at-start) in
     let loop = at-loop .loop in
     skip-fits m (OnWay m) (itself m) (over-nought m) (over-digit m) (loop .w) (loop .inv) (c .if1 .taken)
 
@@ -63,7 +63,7 @@ next-requires c κs =
     let in-then-1 = c .before in
     let at-loop = in-then-1 .before .before in
     let at-start = at-loop .before .before .before in
-    let m = natAbs (given (at-start)) in
+    let m = natAbs (given at-start) in
     let loop = at-loop .loop in
     let skip = c .skip in
     next-fits m (OnWay m) (itself m) (over-nought m) (over-digit m) (skip .result)
@@ -84,7 +84,7 @@ loop-again c =
     let in-then-1 = after-skip .before in
     let at-loop = in-then-1 .before .before in
     let at-start = at-loop .before .before .before in
-    let m = natAbs (given (at-start)) in
+    let m = natAbs (given at-start) in
     let loop = at-loop .loop in
     let skip = after-skip .skip in
     counting-next m (skip .result) (c .next .result)

@@ -95,7 +95,7 @@ loop-holds : tie.Need-loop-holds Inv-loop μ-loop
 loop-holds c R =
     let after-canonical = c .before in
     let at-start = after-canonical .before .before .before in
-    list-start (given (at-start)) (plus-start after-canonical) (minus-start after-canonical) R (after-canonical .canonical .result) (after-canonical .canonical .ensures .masks) (c .start .result) (c .start .ensures)
+    list-start (given at-start) (plus-start after-canonical) (minus-start after-canonical) R (after-canonical .canonical .result) (after-canonical .canonical .ensures .masks) (c .start .result) (c .start .ensures)
 
 skip-requires : tie.Need-skip-requires Inv-loop μ-loop
 skip-requires c κs =
@@ -103,7 +103,7 @@ skip-requires c κs =
     let after-canonical = at-loop .before .before in
     let at-start = after-canonical .before .before .before in
     let loop = at-loop .loop in
-    list-skip (given (at-start)) (plus-start after-canonical) (minus-start after-canonical) (are-ready after-canonical) (loop .plus) (loop .minus) (loop .walk) (loop .inv (are-ready after-canonical)) (c .if1 .taken)
+    list-skip (given at-start) (plus-start after-canonical) (minus-start after-canonical) (are-ready after-canonical) (loop .plus) (loop .minus) (loop .walk) (loop .inv (are-ready after-canonical)) (c .if1 .taken)
 
 widen-requires : tie.Need-widen-requires Inv-loop μ-loop
 widen-requires c κs =
@@ -114,8 +114,8 @@ widen-requires c κs =
     let at-start = after-canonical .before .before .before in
     let loop = at-loop .loop in
     let skip = after-skip .skip in
-    widen-fits (given (at-start)) (plus-start after-canonical) (minus-start after-canonical) (are-ready after-canonical) (loop .plus) (loop .minus) (skip .result)
-    (list-link (given (at-start)) (plus-start after-canonical) (minus-start after-canonical) (are-ready after-canonical) (loop .plus) (loop .minus) (loop .walk) (loop .inv (are-ready after-canonical)) (in-then-1 .if1 .taken) (skip .result) (skip .ensures))
+    widen-fits (given at-start) (plus-start after-canonical) (minus-start after-canonical) (are-ready after-canonical) (loop .plus) (loop .minus) (skip .result)
+    (list-link (given at-start) (plus-start after-canonical) (minus-start after-canonical) (are-ready after-canonical) (loop .plus) (loop .minus) (loop .walk) (loop .inv (are-ready after-canonical)) (in-then-1 .if1 .taken) (skip .result) (skip .ensures))
 
 next-requires : tie.Need-next-requires Inv-loop μ-loop
 next-requires c κs =
@@ -127,8 +127,8 @@ next-requires c κs =
     let at-start = after-canonical .before .before .before in
     let loop = at-loop .loop in
     let skip = after-skip .skip in
-    link-fits (given (at-start)) (plus-start after-canonical) (minus-start after-canonical) (are-ready after-canonical) (loop .plus) (loop .minus) (skip .result)
-    (list-link (given (at-start)) (plus-start after-canonical) (minus-start after-canonical) (are-ready after-canonical) (loop .plus) (loop .minus) (loop .walk) (loop .inv (are-ready after-canonical)) (in-then-1 .if1 .taken) (skip .result) (skip .ensures))
+    link-fits (given at-start) (plus-start after-canonical) (minus-start after-canonical) (are-ready after-canonical) (loop .plus) (loop .minus) (skip .result)
+    (list-link (given at-start) (plus-start after-canonical) (minus-start after-canonical) (are-ready after-canonical) (loop .plus) (loop .minus) (loop .walk) (loop .inv (are-ready after-canonical)) (in-then-1 .if1 .taken) (skip .result) (skip .ensures))
 
 loop-less : tie.Need-loop-less Inv-loop μ-loop
 loop-less c =
@@ -151,8 +151,8 @@ loop-again c R =
     let loop = at-loop .loop in
     let skip = after-skip .skip in
     let widen = after-widen .widen in
-    list-next (given (at-start)) (plus-start after-canonical) (minus-start after-canonical) R (loop .plus) (loop .minus) (skip .result)
-    (list-link (given (at-start)) (plus-start after-canonical) (minus-start after-canonical) R (loop .plus) (loop .minus) (loop .walk) (loop .inv R) (in-then-1 .if1 .taken) (skip .result) (skip .ensures))
+    list-next (given at-start) (plus-start after-canonical) (minus-start after-canonical) R (loop .plus) (loop .minus) (skip .result)
+    (list-link (given at-start) (plus-start after-canonical) (minus-start after-canonical) R (loop .plus) (loop .minus) (loop .walk) (loop .inv R) (in-then-1 .if1 .taken) (skip .result) (skip .ensures))
     (c .next .result) (widen .last .0) (widen .last .1 .0) (c .next .ensures) (widen .ensures .0) (widen .ensures .1)
 
 same-length : tie.Need-same-length Inv-loop μ-loop
@@ -161,7 +161,7 @@ same-length c =
     let after-canonical = at-loop .before .before in
     let at-start = after-canonical .before .before .before in
     let loop = at-loop .loop in
-    same-lengths (given (at-start)) (plus-start after-canonical) (minus-start after-canonical) (are-ready after-canonical) (loop .plus) (loop .minus) (loop .walk) (loop .inv (are-ready after-canonical)) .0
+    same-lengths (given at-start) (plus-start after-canonical) (minus-start after-canonical) (are-ready after-canonical) (loop .plus) (loop .minus) (loop .walk) (loop .inv (are-ready after-canonical)) .0
     ∙ length-set (at-start .args .plus .now) 0 (after-canonical .canonical .result .plus)
 
 same-length-2 : tie.Need-same-length-2 Inv-loop μ-loop
@@ -170,7 +170,7 @@ same-length-2 c =
     let after-canonical = at-loop .before .before in
     let at-start = after-canonical .before .before .before in
     let loop = at-loop .loop in
-    same-lengths (given (at-start)) (plus-start after-canonical) (minus-start after-canonical) (are-ready after-canonical) (loop .plus) (loop .minus) (loop .walk) (loop .inv (are-ready after-canonical)) .1
+    same-lengths (given at-start) (plus-start after-canonical) (minus-start after-canonical) (are-ready after-canonical) (loop .plus) (loop .minus) (loop .walk) (loop .inv (are-ready after-canonical)) .1
     ∙ length-set (at-start .args .minus .now) 0 (after-canonical .canonical .result .minus)
 
 pub list-spec : {M : Type 1} → statement M

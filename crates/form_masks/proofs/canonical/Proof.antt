@@ -44,13 +44,13 @@ returns : tie.Need-returns
 returns c =
     let after-canonical-of = c .before in
     let at-start = after-canonical-of .before .before in
-    record { masks = ap exchanged (form (after-canonical-of)) ∙ canonical-negative (at-start .args .n) (tested at-start _ (c .if1 .taken)) }
+    record { masks = ap exchanged (form after-canonical-of) ∙ canonical-negative (at-start .args .n) (tested at-start _ (c .if1 .taken)) }
 
 returns-2 : tie.Need-returns-2
 returns-2 c =
     let after-canonical-of = c .before in
     let at-start = after-canonical-of .before .before in
-    record { masks = form (after-canonical-of) ∙ canonical-not-negative (at-start .args .n) (tested at-start _ (c .if1 .left)) }
+    record { masks = form after-canonical-of ∙ canonical-not-negative (at-start .args .n) (tested at-start _ (c .if1 .left)) }
 
 pub canonical-spec : {M : Type 1} → statement M
 canonical-spec =

@@ -20,8 +20,8 @@ cast-byte-ones c = search needs
 byte-ones-requires : tie.Need-byte-ones-requires
 byte-ones-requires c κs = search needs
 
-wide-requires : tie.Need-wide-requires
-wide-requires c κs = search needs
+byte-32-requires : tie.Need-byte-32-requires
+byte-32-requires c κs = search needs
 
 cast-byte-ones-2 : tie.Need-cast-byte-ones-2
 cast-byte-ones-2 c = search needs
@@ -29,8 +29,8 @@ cast-byte-ones-2 c = search needs
 byte-ones-requires-2 : tie.Need-byte-ones-requires-2
 byte-ones-requires-2 c κs = search needs
 
-wide-requires-2 : tie.Need-wide-requires-2
-wide-requires-2 c κs = search needs
+byte-32-requires-2 : tie.Need-byte-32-requires-2
+byte-32-requires-2 c κs = search needs
 
 cast-byte-ones-3 : tie.Need-cast-byte-ones-3
 cast-byte-ones-3 c = search needs
@@ -38,8 +38,8 @@ cast-byte-ones-3 c = search needs
 byte-ones-requires-3 : tie.Need-byte-ones-requires-3
 byte-ones-requires-3 c κs = search needs
 
-wide-requires-3 : tie.Need-wide-requires-3
-wide-requires-3 c κs = search needs
+byte-32-requires-3 : tie.Need-byte-32-requires-3
+byte-32-requires-3 c κs = search needs
 
 cast-byte-ones-4 : tie.Need-cast-byte-ones-4
 cast-byte-ones-4 c = search needs
@@ -47,8 +47,8 @@ cast-byte-ones-4 c = search needs
 byte-ones-requires-4 : tie.Need-byte-ones-requires-4
 byte-ones-requires-4 c κs = search needs
 
-wide-requires-4 : tie.Need-wide-requires-4
-wide-requires-4 c κs = search needs
+byte-32-requires-4 : tie.Need-byte-32-requires-4
+byte-32-requires-4 c κs = search needs
 
 add-result : tie.Need-add-result
 add-result c = search needs
@@ -74,16 +74,16 @@ ones-spec =
     (tie.spec
     cast-byte-ones
     byte-ones-requires
-    wide-requires
+    byte-32-requires
     cast-byte-ones-2
     byte-ones-requires-2
-    wide-requires-2
+    byte-32-requires-2
     cast-byte-ones-3
     byte-ones-requires-3
-    wide-requires-3
+    byte-32-requires-3
     cast-byte-ones-4
     byte-ones-requires-4
-    wide-requires-4
+    byte-32-requires-4
     add-result
     add-result-2
     add-result-3

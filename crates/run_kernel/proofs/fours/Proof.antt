@@ -22,8 +22,8 @@ abbrev μ-loop : tie.MeasureT-loop
 
 loop-holds : tie.Need-loop-holds Inv-loop μ-loop
 loop-holds c =
-    let a = c .args in
-    ((search needs, refl), ((c .pre .0 .1, refl), λ r l q f. passed-none (coefficientsIn (a .stored .now)) (omega (arith, length-in (a .stored .now))) (a .w) (a .offsets .now) r (a .samples .now) (a .outputs .now) (a .words .now) q f))
+    let args = c .args in
+    ((search needs, refl), ((c .pre .0 .1, refl), λ r l q f. passed-none (coefficientsIn (args .stored .now)) (omega (arith, length-in (args .stored .now))) (args .w) (args .offsets .now) r (args .samples .now) (args .outputs .now) (args .words .now) q f))
 
 sub-loop : tie.Need-sub-loop Inv-loop μ-loop
 sub-loop c = search needs

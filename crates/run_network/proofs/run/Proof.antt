@@ -45,16 +45,16 @@ accepted : (c : tie.Then1)
 accepted c =
     let after-h = c .before .before .before in
     let at-start = after-h .before .before .before .before in
-    let a = at-start .args in
-    given-accepted (ltb (length (a .registers .now)) 256 || ltb (length (a .outputs .now)) (length (a .samples .now))) (a .rows .now) (a .row-count) (a .taps .now) (a .tap-count) (held c .h) (held c .given-h)
+    let args = at-start .args in
+    given-accepted (ltb (length (args .registers .now)) 256 || ltb (length (args .outputs .now)) (length (args .samples .now))) (args .rows .now) (args .row-count) (args .taps .now) (args .tap-count) (held c .h) (held c .given-h)
 
 length-buffer : (c : tie.Then1) → length (buffer (c .before .before)) ≡ 256
 length-buffer c =
     let after-h = c .before .before .before in
     let at-start = after-h .before .before .before .before in
-    let a = at-start .args in
+    let args = at-start .args in
     ap length (held c .held)
-    ∙ length-padded (held c .h) (le-trans (le-of-eq (ap length (accepted c .passed .result) ∙ length-coefficients (a .rows .now) (a .row-count) (a .taps .now) (a .tap-count))) (accepted c .taps-to))
+    ∙ length-padded (held c .h) (le-trans (le-of-eq (ap length (accepted c .passed .result) ∙ length-coefficients (args .rows .now) (args .row-count) (args .taps .now) (args .tap-count))) (accepted c .taps-to))
 
 examine-requires : tie.Need-examine-requires
 examine-requires c κs = search needs
@@ -67,9 +67,9 @@ feed-requires c κs =
     let in-then-1 = c .before .before .before in
     let after-h = in-then-1 .before .before .before in
     let at-start = after-h .before .before .before .before in
-    let a = at-start .args in
-    let long = neither (ltb (length (a .registers .now)) 256) (ltb (length (a .outputs .now)) (length (a .samples .now))) (accepted in-then-1 .others-long) in
-    (length-buffer in-then-1, (ltb-false (length (a .registers .now)) 256 (long .0), ltb-false (length (a .outputs .now)) (length (a .samples .now)) (long .1)))
+    let args = at-start .args in
+    let long = neither (ltb (length (args .registers .now)) 256) (ltb (length (args .outputs .now)) (length (args .samples .now))) (accepted in-then-1 .others-long) in
+    (length-buffer in-then-1, (ltb-false (length (args .registers .now)) 256 (long .0), ltb-false (length (args .outputs .now)) (length (args .samples .now)) (long .1)))
 
 same-length : tie.Need-same-length
 same-length c = search needs
@@ -84,11 +84,11 @@ returns c =
     let after-examine = in-then-1 .before .before in
     let at-start = after-examine .before .before .before .before .before in
     let feed = after-feed .feed in
-    let a = at-start .args in
+    let args = at-start .args in
     record {
       answer = after-examine .examine .ensures .0;
-      registers = feed .ensures .0 ∙ moved (answer (start after-examine)) (held in-then-1 .h) (buffer after-examine) (held in-then-1 .given-h) (held in-then-1 .held) (a .registers .now) (a .samples .now);
-      outputs = feed .ensures .1 ∙ written (answer (start after-examine)) (held in-then-1 .h) (buffer after-examine) (held in-then-1 .given-h) (held in-then-1 .held) (a .registers .now) (a .samples .now) (a .outputs .now);
+      registers = feed .ensures .0 ∙ moved (answer (start after-examine)) (held in-then-1 .h) (buffer after-examine) (held in-then-1 .given-h) (held in-then-1 .held) (args .registers .now) (args .samples .now);
+      outputs = feed .ensures .1 ∙ written (answer (start after-examine)) (held in-then-1 .h) (buffer after-examine) (held in-then-1 .given-h) (held in-then-1 .held) (args .registers .now) (args .samples .now) (args .outputs .now);
     }
 
 returns-2 : tie.Need-returns-2
@@ -96,12 +96,12 @@ returns-2 c =
     let after-passes = c .before in
     let after-examine = after-passes .before in
     let at-start = after-examine .before .before .before .before .before in
-    let a = at-start .args in
+    let args = at-start .args in
     let e = ap isGiven (sym (after-examine .examine .ensures .0)) ∙ sym (after-passes .passes .ensures) ∙ c .if1 .left in
     record {
       answer = after-examine .examine .ensures .0;
-      registers = kept-registers (answer (start after-examine)) (a .registers .now) (a .samples .now) e;
-      outputs = kept-outputs (answer (start after-examine)) (a .registers .now) (a .samples .now) (a .outputs .now) e;
+      registers = kept-registers (answer (start after-examine)) (args .registers .now) (args .samples .now) e;
+      outputs = kept-outputs (answer (start after-examine)) (args .registers .now) (args .samples .now) (args .outputs .now) e;
     }
 
 pub run-spec : {M : Type 1} → statement M

@@ -26,7 +26,7 @@ abbrev μ-loop : tie.MeasureT-loop
 μ-loop from n to₀ i₀ to i = n - i
 
 loop-holds : tie.Need-loop-holds Inv-loop μ-loop
-loop-holds c = let a = c .args in (search needs, sym (front-start (at (a .from .now)) (a .to .now)), refl)
+loop-holds c = let args = c .args in (search needs, sym (front-start (at (args .from .now)) (args .to .now)), refl)
 
 mul-to : tie.Need-mul-to Inv-loop μ-loop
 mul-to c = search needs

@@ -52,7 +52,7 @@ network-sheet-requires c κs =
     let after-answer = c .before .before .before .before in
     let after-taps = after-answer .before .before .before .before .before in
     let at-start = after-taps .before .before .before .before in
-    (printed (after-answer) .ready, at-start .pre .1)
+    (printed after-answer .ready, at-start .pre .1)
 
 enum-known-answer-2 : tie.Need-enum-known-answer-2
 enum-known-answer-2 c = search needs
@@ -71,7 +71,7 @@ returns c =
     let at-start = after-taps .before .before .before .before in
     let args = at-start .args in
     let network-sheet = after-network-sheet .network-sheet in
-    subst (λ (q : Network). Put (args .out .now) 0 (networkText q) areaBytes (network-sheet .last .0) (network-sheet .result)) (printed (after-answer) .network) (network-sheet .ensures)
+    subst (λ (q : Network). Put (args .out .now) 0 (networkText q) areaBytes (network-sheet .last .0) (network-sheet .result)) (printed after-answer .network) (network-sheet .ensures)
 
 same-length-2 : tie.Need-same-length-2
 same-length-2 c = search needs

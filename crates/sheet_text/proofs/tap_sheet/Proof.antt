@@ -44,7 +44,7 @@ rounded c =
 accepted : (c : tie.After-enum-told) → let s = start (c .before .before .before) in roundedTaps (s .args .fraction-bits) false (tapsOf (s .args .input .now)) 256 ≡ given (c .enum-told .given .0 .0)
 accepted c =
     let after-round-taps = c .before .before .before in
-    sym (rounded (after-round-taps)) ∙ ap answerOf (c .enum-told .given .1)
+    sym (rounded after-round-taps) ∙ ap answerOf (c .enum-told .given .1)
 
 coefficients : (c : tie.After-enum-told) → let s = start (c .before .before .before) in take (length (s .args .input .now) / 8) (c .before .before .before .round-taps .last .1 .1 .1 .0) ≡ coefficientsOf (s .args .fraction-bits) (tapsOf (s .args .input .now))
 coefficients c =
@@ -88,7 +88,7 @@ slice-aggregate-coefficient-sheet c =
     let after-taps = after-taps3 .before .before .before in
     let at-start = after-taps .before .before .before in
     let input = at-start .args .input .now in
-    sym (ap length (coefficients (after-enum-told)) ∙ length-map (tapsOf input) (λ (x : Float). wholeOf (resultOf (at-start .args .fraction-bits) x)) ∙ length-upTo (length input / 8) (tapAt input))
+    sym (ap length (coefficients after-enum-told) ∙ length-map (tapsOf input) (λ (x : Float). wholeOf (resultOf (at-start .args .fraction-bits) x)) ∙ length-upTo (length input / 8) (tapAt input))
 
 coefficient-sheet-requires : tie.Need-coefficient-sheet-requires
 coefficient-sheet-requires c κs =
@@ -96,7 +96,7 @@ coefficient-sheet-requires c κs =
     let after-taps3 = after-enum-told .before .before .before .before .before in
     let after-taps = after-taps3 .before .before .before in
     let at-start = after-taps .before .before .before in
-    (subst Coefficients (sym (coefficients (after-enum-told))) (accepted-coefficients (at-start .args .fraction-bits) (tapsOf (at-start .args .input .now)) 256 _ (accepted (after-enum-told))), at-start .pre .1)
+    (subst Coefficients (sym (coefficients after-enum-told)) (accepted-coefficients (at-start .args .fraction-bits) (tapsOf (at-start .args .input .now)) 256 _ (accepted after-enum-told)), at-start .pre .1)
 
 enum-known-answer : tie.Need-enum-known-answer
 enum-known-answer c = search needs
@@ -117,7 +117,7 @@ returns c =
     let args = at-start .args in
     let coefficient-sheet = after-coefficient-sheet .coefficient-sheet in
     subst (λ (t : List ℕ). Put (args .out .now) 0 t areaBytes (coefficient-sheet .last .0) (coefficient-sheet .result))
-    (ap (λ (h : List ℤ). networkText (built h choices)) (coefficients (after-enum-told)) ∙ sym (taps-given (args .fraction-bits) (tapsOf (args .input .now)) _ (accepted (after-enum-told))))
+    (ap (λ (h : List ℤ). networkText (built h choices)) (coefficients after-enum-told) ∙ sym (taps-given (args .fraction-bits) (tapsOf (args .input .now)) _ (accepted after-enum-told)))
     (coefficient-sheet .ensures)
 
 same-length-2 : tie.Need-same-length-2
@@ -132,7 +132,7 @@ returns-2 c =
     let at-start = after-taps .before .before .before in
     let args = at-start .args in
     let refused-sheet = after-refused-sheet .refused-sheet in
-    let e = sym (rounded (after-round-taps)) ∙ ap answerOf (after-answer .answer .given .1) in
+    let e = sym (rounded after-round-taps) ∙ ap answerOf (after-answer .answer .given .1) in
     subst (λ (t : List ℕ). Put (args .out .now) 0 t areaBytes (refused-sheet .last .0) (refused-sheet .result)) (sym (taps-refused (args .fraction-bits) (tapsOf (args .input .now)) _ _ e)) (refused-sheet .ensures)
 
 pub tap-sheet-spec : {M : Type 1} → statement M

@@ -25,7 +25,7 @@ returns c =
     let at-start = c .before .before in
     let x = at-start .args .x in
     let n = at-start .args .n in
-    let b = back (at-start) in
+    let b = back at-start in
     ap (λ (z : ℤ). given (exact z)) b ∙ ap given (parted-yes x n (subst (λ (y : ℤ). eq x (ofInt binary64 y) ≡ true) b (c .if1 .taken)))
 
 returns-2 : tie.Need-returns-2
@@ -33,7 +33,7 @@ returns-2 c =
     let at-start = c .before .before in
     let x = at-start .args .x in
     let n = at-start .args .n in
-    let b = back (at-start) in
+    let b = back at-start in
     subst (λ (y : ℤ). given (rounded y (sub binary64 x (ofInt binary64 y))) ≡ given (parted x n)) (sym b)
     (ap given (parted-no x n (subst (λ (y : ℤ). eq x (ofInt binary64 y) ≡ false) b (c .if1 .left))))
 

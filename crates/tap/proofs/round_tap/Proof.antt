@@ -47,7 +47,7 @@ tested c b h = ap (λ (y : Float). lt y (two-to 32)) (sym (size-is c)) ∙ ap (l
 counted : (c : tie.After-nearest) → c .nearest .result ≡ nearestOf (size (c .before .before .before .before .before))
 counted c =
     let after-magnitude = c .before .before in
-    c .nearest .ensures ∙ ap nearestOf (size-is (after-magnitude))
+    c .nearest .ensures ∙ ap nearestOf (size-is after-magnitude)
 
 -- N, as the laws have it
 whole : (c : tie.After-with-sign) → toZ w64 (ofZ w64 (c .with-sign .result)) ≡ signed (negative (c .before .before .before .before .before .before)) (c .before .nearest .result)
@@ -73,7 +73,7 @@ with-sign-requires c κs =
     let in-then-2 = c .before in
     let after-magnitude = in-then-2 .before in
     let at-start = after-magnitude .before .before .before in
-    size-small (at-start .args .fraction-bits) (at-start .args .tap) (c .nearest .result) (held at-start) (tested (after-magnitude) true (in-then-2 .if2 .taken)) (counted c)
+    size-small (at-start .args .fraction-bits) (at-start .args .tap) (c .nearest .result) (held at-start) (tested after-magnitude true (in-then-2 .if2 .taken)) (counted c)
 
 -- N is outside the bounds
 out : (c : tie.After-with-sign) → let s = c .before .before .before .before .before .before in most (negative s) < c .before .nearest .result → refused 6 0 ≡ roundedTap (s .args .fraction-bits) (s .args .tap)
@@ -83,21 +83,21 @@ out c l =
     let after-magnitude = in-then-2 .before in
     let in-else-1 = after-magnitude .before .before in
     let at-start = in-else-1 .before in
-    refused-most (at-start .args .fraction-bits) (negative at-start) (after-nearest .nearest .result) (in-else-1 .if1 .left) (at-start .args .tap) (held at-start) (tested (after-magnitude) true (in-then-2 .if2 .taken)) (sign at-start) (counted after-nearest) l
+    refused-most (at-start .args .fraction-bits) (negative at-start) (after-nearest .nearest .result) (in-else-1 .if1 .left) (at-start .args .tap) (held at-start) (tested after-magnitude true (in-then-2 .if2 .taken)) (sign at-start) (counted after-nearest) l
 
 returns-2 : tie.Need-returns-2
 returns-2 c =
     let after-with-sign = c .before in
     let after-nearest = after-with-sign .before in
     let at-start = after-nearest .before .before .before .before .before in
-    record { answer = out after-with-sign (above-most (negative (at-start)) (after-nearest .nearest .result) (ap (ltZ (pos (2 ^ 31 - 1))) (sym (whole after-with-sign)) ∙ c .if3 .taken)) }
+    record { answer = out after-with-sign (above-most (negative at-start) (after-nearest .nearest .result) (ap (ltZ (pos (2 ^ 31 - 1))) (sym (whole after-with-sign)) ∙ c .if3 .taken)) }
 
 returns-3 : tie.Need-returns-3
 returns-3 c =
     let after-with-sign = c .before .before in
     let after-nearest = after-with-sign .before in
     let at-start = after-nearest .before .before .before .before .before in
-    record { answer = out after-with-sign (below-least (negative (at-start)) (after-nearest .nearest .result) (ap (λ (z : ℤ). ltZ z (negsuc (2 ^ 31 - 1))) (sym (whole after-with-sign)) ∙ c .if4 .taken)) }
+    record { answer = out after-with-sign (below-least (negative at-start) (after-nearest .nearest .result) (ap (λ (z : ℤ). ltZ z (negsuc (2 ^ 31 - 1))) (sym (whole after-with-sign)) ∙ c .if4 .taken)) }
 
 -- N is within them
 within : (c : tie.Else4) → let w = c .before .before in w .before .nearest .result ≤ most (negative (w .before .before .before .before .before .before))
@@ -106,7 +106,7 @@ within c =
     let after-with-sign = in-else-3 .before in
     let after-nearest = after-with-sign .before in
     let at-start = after-nearest .before .before .before .before .before in
-    between (negative (at-start)) (after-nearest .nearest .result) (ap (ltZ (pos (2 ^ 31 - 1))) (sym (whole after-with-sign)) ∙ in-else-3 .if3 .left)
+    between (negative at-start) (after-nearest .nearest .result) (ap (ltZ (pos (2 ^ 31 - 1))) (sym (whole after-with-sign)) ∙ in-else-3 .if3 .left)
     (ap (λ (z : ℤ). ltZ z (negsuc (2 ^ 31 - 1))) (sym (whole after-with-sign)) ∙ c .if4 .left)
 
 cast-part : tie.Need-cast-part
@@ -114,7 +114,7 @@ cast-part c =
     let after-with-sign = c .before .before in
     let after-nearest = after-with-sign .before in
     let at-start = after-nearest .before .before .before .before .before in
-    subst (SFits w32) (sym (whole after-with-sign)) (in-bounds (negative (at-start)) (after-nearest .nearest .result) (within c))
+    subst (SFits w32) (sym (whole after-with-sign)) (in-bounds (negative at-start) (after-nearest .nearest .result) (within c))
 
 part-requires : tie.Need-part-requires
 part-requires c κs = search needs
@@ -136,7 +136,7 @@ returns-4 c =
           ∙ ap (λ (z : ℤ). given (parted (after-scaled .scaled .result) (toZ w32 (ofZ w32 z)))) (whole after-with-sign)
           ∙ ap (λ (z : ℤ). given (parted (after-scaled .scaled .result) z)) (toZ-ofZ w32 (signed b nearest-result) (in-bounds b nearest-result (within in-else-4)))
           ∙ ap (λ (x : Float). given (parted x (signed b nearest-result))) (after-scaled .scaled .ensures)
-          ∙ accepted (at-start .args .fraction-bits) b nearest-result (in-else-1 .if1 .left) (at-start .args .tap) (held at-start) (tested (after-magnitude) true (in-then-2 .if2 .taken)) (sign at-start) (counted after-nearest) (within in-else-4);
+          ∙ accepted (at-start .args .fraction-bits) b nearest-result (in-else-1 .if1 .left) (at-start .args .tap) (held at-start) (tested after-magnitude true (in-then-2 .if2 .taken)) (sign at-start) (counted after-nearest) (within in-else-4);
     }
 
 is-finite-requires : tie.Need-is-finite-requires
@@ -149,7 +149,7 @@ returns-5 c =
     let after-magnitude = in-else-2 .before in
     let in-else-1 = after-magnitude .before .before in
     let at-start = in-else-1 .before in
-    record { answer = refused-size (at-start .args .fraction-bits) (at-start .args .tap) (held at-start) (in-else-1 .if1 .left) (sym (after-is-finite .is-finite .ensures) ∙ c .if5 .taken) (tested (after-magnitude) false (in-else-2 .if2 .left)) }
+    record { answer = refused-size (at-start .args .fraction-bits) (at-start .args .tap) (held at-start) (in-else-1 .if1 .left) (sym (after-is-finite .is-finite .ensures) ∙ c .if5 .taken) (tested after-magnitude false (in-else-2 .if2 .left)) }
 
 returns-6 : tie.Need-returns-6
 returns-6 c =

@@ -26,7 +26,7 @@ abbrev μ-loop : tie.MeasureT-loop
 μ-loop taps sum table₀ i₀ table i = length taps - i
 
 loop-holds : tie.Need-loop-holds Inv-loop μ-loop
-loop-holds c = let a = c .args in (search needs, sym (front-start (at (a .taps .now) (a .sum)) (a .table .now)), refl)
+loop-holds c = let args = c .args in (search needs, sym (front-start (at (args .taps .now) (args .sum)) (args .table .now)), refl)
 
 mul-table : tie.Need-mul-table Inv-loop μ-loop
 mul-table c = search needs

@@ -25,13 +25,13 @@ returns : tie.Need-returns
 returns c =
     let after-magnitude2 = c .before in
     let at-start = after-magnitude2 .before .before in
-    let args = at-start .args in larger-at (args .x) (args .y) true (tested (after-magnitude2) true (c .if1 .taken))
+    let args = at-start .args in larger-at (args .x) (args .y) true (tested after-magnitude2 true (c .if1 .taken))
 
 returns-2 : tie.Need-returns-2
 returns-2 c =
     let after-magnitude2 = c .before in
     let at-start = after-magnitude2 .before .before in
-    let args = at-start .args in larger-at (args .x) (args .y) false (tested (after-magnitude2) false (c .if1 .left))
+    let args = at-start .args in larger-at (args .x) (args .y) false (tested after-magnitude2 false (c .if1 .left))
 
 pub larger-spec : {M : Type 1} → statement M
 larger-spec = tie.close (tie.spec magnitude-requires magnitude-requires-2 returns returns-2)

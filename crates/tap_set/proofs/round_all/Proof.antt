@@ -72,7 +72,7 @@ is-refused-requires c κs = search needs
 cast-t13 : tie.Need-cast-t13 Inv-loop μ-loop
 cast-t13 c =
     let in-loop = c .before .before .before .before in
-    record { fits = omega (arith, in-range (in-loop)) }
+    record { fits = omega (arith, in-range in-loop) }
 
 same-length : tie.Need-same-length Inv-loop μ-loop
 same-length c = search needs
@@ -97,7 +97,7 @@ mul-t8 c = search needs
 slice-set-from-buffer : tie.Need-slice-set-from-buffer Inv-loop μ-loop
 slice-set-from-buffer c =
     let in-loop = c .before .before .before .before .before in
-    room (in-loop)
+    room in-loop
 
 with-tap-requires : tie.Need-with-tap-requires Inv-loop μ-loop
 with-tap-requires c κs = search needs

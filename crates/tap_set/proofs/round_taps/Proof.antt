@@ -19,10 +19,10 @@ use Rattle.tap_set.proofs.round_taps.Tie as tie
 
 -- the coefficients and the table, of the arguments
 abbrev table : (c : tie.Start) → Answer Report → List ℤ
-table c b = let a = c .args in filled b (coefficientsOf (a .fraction-bits) (used (a .normalised) (a .taps .now))) (a .coefficients .now)
+table c b = let args = c .args in filled b (coefficientsOf (args .fraction-bits) (used (args .normalised) (args .taps .now))) (args .coefficients .now)
 
 abbrev answer : (c : tie.Start) → Answer Report
-answer c = let a = c .args in roundedTaps (a .fraction-bits) (a .normalised) (a .taps .now) (length (a .coefficients .now))
+answer c = let args = c .args in roundedTaps (args .fraction-bits) (args .normalised) (args .taps .now) (length (args .coefficients .now))
 
 -- 1.0 by its bit pattern, as the code has it
 one-is : ofBits binary64 0x3ff0_0000_0000_0000 ≡ fin false 1 (pos 0)

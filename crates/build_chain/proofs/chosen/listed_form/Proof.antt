@@ -40,7 +40,7 @@ mul-t12 c = search needs
 array-read-t15 : tie.Need-array-read-t15
 array-read-t15 c =
     let at-start = c .before .before .before .before .before in
-    within (at-start)
+    within at-start
 
 mul-t16 : tie.Need-mul-t16
 mul-t16 c = search needs
@@ -48,7 +48,7 @@ mul-t16 c = search needs
 array-read-t19 : tie.Need-array-read-t19
 array-read-t19 c =
     let at-start = c .before .before .before .before .before in
-    within (at-start)
+    within at-start
 
 returns : tie.Need-returns
 unfolding chosenForm formCount

@@ -77,7 +77,7 @@ returns c =
     let at-start = at-loop .before .before in
     let xs = choicesOf (at-start .args .coefficients .now) (at-start .args .choices .now) in
     let m = length-choices (at-start .args .coefficients .now) (at-start .args .choices .now) (at-start .pre) in
-    let b = tested (after-has-form) true (not-true (after-has-form .has-form .result) (c .if1 .taken)) in
+    let b = tested after-has-form true (not-true (after-has-form .has-form .result) (c .if1 .taken)) in
     (ap (placeOr (length (at-start .args .coefficients .now))) (sym (lowest-here noChoice breaks xs (at-loop .loop .i) (omega (arith, m, in-loop .loop-test .taken)) b) ∙ at-loop .loop .inv .1), at-loop .loop .inv .2)
 
 add-i : tie.Need-add-i Inv-loop μ-loop
@@ -95,7 +95,7 @@ loop-again c =
     let at-start = at-loop .before .before in
     let xs = choicesOf (at-start .args .coefficients .now) (at-start .args .choices .now) in
     let m = length-choices (at-start .args .coefficients .now) (at-start .args .choices .now) (at-start .pre) in
-    let b = tested (after-has-form) false (not-false (after-has-form .has-form .result) (c .if1 .left)) in
+    let b = tested after-has-form false (not-false (after-has-form .has-form .result) (c .if1 .left)) in
     let n = getD (at-start .args .coefficients .now) (at-loop .loop .i) (pos 0) in (
       search needs,
       sym (lowest-later noChoice breaks xs (at-loop .loop .i) (omega (arith, m, in-loop .loop-test .taken)) b) ∙ at-loop .loop .inv .1,

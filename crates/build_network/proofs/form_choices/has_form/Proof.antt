@@ -26,7 +26,7 @@ reduced c =
 split : (c : tie.After-reduction) → partsIn (Split (c .reduction .given .0 .0)) ≡ partsOf (c .before .before .before .before .args .n)
 split c =
     let after-reduce = c .before .before in
-    ap partsIn (sym (c .reduction .given .1)) ∙ reduced (after-reduce)
+    ap partsIn (sym (c .reduction .given .1)) ∙ reduced after-reduce
 
 small : (c : tie.After-reduction) → c .reduction .given .0 .0 .«odd_part» < 2 ^ 31
 small c =
@@ -50,7 +50,7 @@ enum-known-reduction c = search needs
 cast-form-count : tie.Need-cast-form-count
 cast-form-count c =
     let after-reduction = c .before .before in
-    record { sfits = small (after-reduction) }
+    record { sfits = small after-reduction }
 
 form-count-requires : tie.Need-form-count-requires
 form-count-requires c κs = search needs
@@ -60,7 +60,7 @@ returns-2 c =
     let after-reduce = c .before .before in
     let in-else-1 = after-reduce .before in
     let at-start = in-else-1 .before in
-    sym (ap not (no-odd-part-choice (partsOf (at-start .args .n)) (at-start .args .choice) (ap partsIn (sym (c .enum-told .given .1)) ∙ reduced (after-reduce)) (in-else-1 .if1 .left)))
+    sym (ap not (no-odd-part-choice (partsOf (at-start .args .n)) (at-start .args .choice) (ap partsIn (sym (c .enum-told .given .1)) ∙ reduced after-reduce) (in-else-1 .if1 .left)))
 
 returns-3 : tie.Need-returns-3
 returns-3 c =

@@ -14,7 +14,7 @@ add-result-3 : tie.Need-add-result-3
 add-result-3 c = search needs
 
 returns : tie.Need-returns
-returns c = let a = c .args in worked-tests (a .sign) (a .a) (a .b) (a .v)
+returns c = let args = c .args in worked-tests (args .sign) (args .a) (args .b) (args .v)
 
 pub is-worked-spec : {M : Type 1} → statement M
 is-worked-spec = tie.close (tie.spec add-result add-result-2 add-result-3 returns)

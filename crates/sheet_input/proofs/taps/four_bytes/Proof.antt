@@ -6,38 +6,38 @@ use Rattle.sheet_input.proofs.Bytes.{low-four}
 use Rattle.sheet_input.proofs.taps.four_bytes.Statement.{statement}
 use Rattle.sheet_input.proofs.taps.four_bytes.Tie as tie
 
-shared-slice-read-byte : tie.Need-shared-slice-read-byte
-shared-slice-read-byte c = search needs
+shared-slice-read-byte-64 : tie.Need-shared-slice-read-byte-64
+shared-slice-read-byte-64 c = search needs
 
-byte-requires : tie.Need-byte-requires
-byte-requires c κs = search needs
+byte-64-requires : tie.Need-byte-64-requires
+byte-64-requires c κs = search needs
 
-add-byte : tie.Need-add-byte
-add-byte c = search needs
+add-byte-64 : tie.Need-add-byte-64
+add-byte-64 c = search needs
 
-shared-slice-read-byte-2 : tie.Need-shared-slice-read-byte-2
-shared-slice-read-byte-2 c = search needs
+shared-slice-read-byte-64-2 : tie.Need-shared-slice-read-byte-64-2
+shared-slice-read-byte-64-2 c = search needs
 
-byte-requires-2 : tie.Need-byte-requires-2
-byte-requires-2 c κs = search needs
+byte-64-requires-2 : tie.Need-byte-64-requires-2
+byte-64-requires-2 c κs = search needs
 
-add-byte-2 : tie.Need-add-byte-2
-add-byte-2 c = search needs
+add-byte-64-2 : tie.Need-add-byte-64-2
+add-byte-64-2 c = search needs
 
-shared-slice-read-byte-3 : tie.Need-shared-slice-read-byte-3
-shared-slice-read-byte-3 c = search needs
+shared-slice-read-byte-64-3 : tie.Need-shared-slice-read-byte-64-3
+shared-slice-read-byte-64-3 c = search needs
 
-byte-requires-3 : tie.Need-byte-requires-3
-byte-requires-3 c κs = search needs
+byte-64-requires-3 : tie.Need-byte-64-requires-3
+byte-64-requires-3 c κs = search needs
 
-add-byte-3 : tie.Need-add-byte-3
-add-byte-3 c = search needs
+add-byte-64-3 : tie.Need-add-byte-64-3
+add-byte-64-3 c = search needs
 
-shared-slice-read-byte-4 : tie.Need-shared-slice-read-byte-4
-shared-slice-read-byte-4 c = search needs
+shared-slice-read-byte-64-4 : tie.Need-shared-slice-read-byte-64-4
+shared-slice-read-byte-64-4 c = search needs
 
-byte-requires-4 : tie.Need-byte-requires-4
-byte-requires-4 c κs = search needs
+byte-64-requires-4 : tie.Need-byte-64-requires-4
+byte-64-requires-4 c κs = search needs
 
 mul-result : tie.Need-mul-result
 mul-result c = search needs
@@ -59,32 +59,32 @@ add-result-3 c = search needs
 
 returns : tie.Need-returns
 returns c =
-    let after-byte3 = c .before .before in
-    let after-byte2 = after-byte3 .before .before in
-    let after-byte = after-byte2 .before .before in
-    let at-start = after-byte .before .before .before in
+    let after-byte-643 = c .before .before in
+    let after-byte-642 = after-byte-643 .before .before in
+    let after-byte-64 = after-byte-642 .before .before in
+    let at-start = after-byte-64 .before .before .before in
     let e = low-four (at-start .args .input .now) (at-start .args .at) (at-start .pre) in
-    let byte-ensures = after-byte .byte .ensures in
-    let byte2-ensures = after-byte2 .byte2 .ensures in
-    let byte3-ensures = after-byte3 .byte3 .ensures in
-    let byte4-ensures = c .byte4 .ensures in
-    (omega (arith, e, byte-ensures .0, byte2-ensures .0, byte3-ensures .0, byte4-ensures .0), omega (arith, byte-ensures .1, byte2-ensures .1, byte3-ensures .1, byte4-ensures .1))
+    let byte-64-ensures = after-byte-64 .byte-64 .ensures in
+    let byte-642-ensures = after-byte-642 .byte-642 .ensures in
+    let byte-643-ensures = after-byte-643 .byte-643 .ensures in
+    let byte-644-ensures = c .byte-644 .ensures in
+    (omega (arith, e, byte-64-ensures .0, byte-642-ensures .0, byte-643-ensures .0, byte-644-ensures .0), omega (arith, byte-64-ensures .1, byte-642-ensures .1, byte-643-ensures .1, byte-644-ensures .1))
 
 pub four-bytes-spec : {M : Type 1} → statement M
 four-bytes-spec =
     tie.close
     (tie.spec
-    shared-slice-read-byte
-    byte-requires
-    add-byte
-    shared-slice-read-byte-2
-    byte-requires-2
-    add-byte-2
-    shared-slice-read-byte-3
-    byte-requires-3
-    add-byte-3
-    shared-slice-read-byte-4
-    byte-requires-4
+    shared-slice-read-byte-64
+    byte-64-requires
+    add-byte-64
+    shared-slice-read-byte-64-2
+    byte-64-requires-2
+    add-byte-64-2
+    shared-slice-read-byte-64-3
+    byte-64-requires-3
+    add-byte-64-3
+    shared-slice-read-byte-64-4
+    byte-64-requires-4
     mul-result
     add-result
     mul-result-2
