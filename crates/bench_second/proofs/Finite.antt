@@ -1,7 +1,7 @@
 -- A number less itself is 0 exactly where it is finite. Assumes nothing.
 use mathlib.Core.Path.{_≡_, refl, sym, ap, _∙_}
 use mathlib.Core.Bool.{Bool, true, false, not}
-use Prim.Native.Nat.{ℕ, zero, suc, _-_, _*_, compare, compare·zero-suc}
+use Prim.Native.Nat.{ℕ, zero, suc, _*_, compare, compare·zero-suc}
 use native.Mathlib.Nat.{zero-div, zero-mod, sub-self, le-refl}
 use borrow.Author.Tests.{le-ltb, not-true, not-false}
 use lib.IntN.{pos}

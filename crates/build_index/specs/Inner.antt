@@ -2,7 +2,7 @@
 -- the one before it in its bucket. A row i is stored there as i + 1, and 0 stands for none. For the contracts of internal functions. Definitions only.
 use mathlib.Core.Path.{_≡_}
 use mathlib.Core.List.{List}
-use Prim.Native.Nat.{ℕ, _+_, _-_, _*_, _/_, _≤_, _<_}
+use Prim.Native.Nat.{ℕ, _-_, _*_, _/_, _≤_, _<_}
 use lib.Bits.{bitAnd}
 use lib.ListN.{length, getD, drop}
 use Rattle.refusal.specs.Answer.{Place, nowhere, at-place}

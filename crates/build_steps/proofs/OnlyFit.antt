@@ -14,6 +14,7 @@ use Rattle.network.specs.RowRule.{combined, isRowSign, isWorked, lifted, LaterR
 use Rattle.word.proofs.Booleans.{is-true}
 use Rattle.network.proofs.Rules.{is-natural}
 use Rattle.network.proofs.RowTests.{worked-tests}
+use Rattle.network.proofs.Tables.{same-row}
 use Rattle.build_steps.specs.Search.{Fit, fit, none-fits, firstFit}
 use Rattle.build_steps.specs.RowSteps.{signPlace, NoLater, lower-left, lower-shift, no-later-sign, FirstFit, Lawful}
 use Rattle.build_steps.proofs.Lawful.{lawful-distinct}
@@ -60,15 +61,6 @@ one-right s a b c v e f = go (eqb s plus) (eqb s minus) (eqb s reversed) refl re
     go false true z p q r = let d = eqb-true s minus q in omega (arith, minus-right a b v (at minus b d e), minus-right a c v (at minus c d f))
     go false false true p q r = let d = eqb-true s reversed r in omega (arith, reversed-right a b v (at reversed b d e), reversed-right a c v (at reversed c d f))
     go false false false p q r = absurd (false≢true (rw (p, q, r) at e))
-
--- ---- the whole row
-same-row : (r q : Row) → r .left ≡ q .left → r .right ≡ q .right → r .shift ≡ q .shift → r .sign ≡ q .sign → r .value ≡ q .value → r ≡ q
-same-row r q a b c d e =
-    ap (λ (x : ℕ). record { left = x; right = r .right; shift = r .shift; sign = r .sign; value = r .value }) a
-    ∙ ap (λ (x : ℕ). record { left = q .left; right = x; shift = r .shift; sign = r .sign; value = r .value }) b
-    ∙ ap (λ (x : ℕ). record { left = q .left; right = q .right; shift = x; sign = r .sign; value = r .value }) c
-    ∙ ap (λ (x : ℕ). record { left = q .left; right = q .right; shift = q .shift; sign = x; value = r .value }) d
-    ∙ ap (λ (x : ℕ). record { left = q .left; right = q .right; shift = q .shift; sign = q .sign; value = x }) e
 
 module _ (rows : List Row) (w : Lawful rows) (v : ℕ) where
   works : (r : Row) → r .value ≡ v → LaterRow rows (length rows) r

@@ -1,6 +1,6 @@
 -- Items of one width, one after the other in a table of words: what is read from a table, what writing an item leaves, and the words of all items.
 -- proofs/Tables.antt has the two layouts that there are, of rows and of tap rows. Assumes nothing.
-use mathlib.Core.Path.{_≡_, refl, sym, ap, ap₂, _∙_, subst}
+use mathlib.Core.Path.{_≡_, refl, sym, ap, ap₂, _∙_}
 use mathlib.Core.List.{List, [], _∷_, _++_, flatMap, append-nil, append-assoc}
 use Prim.Native.Nat.{ℕ, zero, suc, _+_, _*_, _≤_, _<_}
 use native.Mathlib.Nat.{mul-suc, mul-zero, mul-le-mul-left, not-suc-le-zero, le-of-suc-le-suc}
