@@ -53,10 +53,10 @@ impl Tables {
 #[inline(never)]
 fn pass(tables: &Tables, samples: [u16; PASS], window: &mut [u64]) {
     let sum: u64 = samples.iter().map(|y| *y as u64).sum();
-    let level = ((PASS as u64) << 46).wrapping_sub(sum << 31);
+    let bias = ((PASS as u64) << 46).wrapping_sub(sum << 31);
     let places = window.iter_mut().zip(&tables.offsets);
     for ((place, offset), factors) in places.zip(tables.factors.array_windows::<PASS>()) {
-        let mut more = offset.wrapping_add(level);
+        let mut more = offset.wrapping_add(bias);
         for j in 0..PASS {
             let factor = factors[PASS - 1 - j] & 0xffff_ffff;
             more = more.wrapping_add(factor * samples[j] as u64);
