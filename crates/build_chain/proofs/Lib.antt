@@ -4,4 +4,3 @@ pub mod Masks
 pub mod Longer
 pub mod Turns
 pub mod Starts
-pub mod Listed
