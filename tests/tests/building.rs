@@ -7,7 +7,8 @@ use building_check::{check, Tally};
 use fir_tests::answer::Answer;
 use fir_tests::building::call::Call;
 use fir_tests::building::search::{by_value, over_all_rows};
-use fir_tests::building::{hard, literal, mixture};
+use fir_tests::building::{bounds, hard, literal, mixture, sets};
+use fir_tests::forms::literal::canonical;
 use fir_tests::network::{MOST_TAPS, ROW_TABLE, TAP_TABLE};
 use fir_tests::random::Random;
 
@@ -174,6 +175,34 @@ fn heaviest_sets() {
     }
     println!("{tally:?}");
     assert!(tally.most_rows > 2000);
+}
+
+/// The sets of the benchmark's sweep, with the first forms and with any.
+#[test]
+fn sets_with_a_pattern() {
+    let mut random = Random::new(25);
+    let mut tally = Tally::default();
+    for set in sets::families().into_iter().flat_map(|family| family.sets) {
+        let choices = mixture::any_choices(&mut random, &set.coefficients);
+        let first = Call::first_forms(&set.coefficients);
+        for call in [first, Call::new(&set.coefficients, &choices)] {
+            check(&call, by_value, &mut tally).unwrap();
+        }
+    }
+    println!("{tally:?}");
+    assert_each_kind(&tally, 50);
+}
+
+/// The sets by their bound on rows have just that bound.
+#[test]
+fn bounds_on_rows() {
+    for (weight, bound) in bounds::ALL {
+        let set = bounds::set(weight, bound);
+        let digits = |n: &i32| (canonical(*n).plus | canonical(*n).minus).count_ones() as usize;
+        let rows: usize = set.iter().map(|n| digits(n) - 1).sum();
+        assert_eq!(1 + rows, bound);
+        assert!(set.len() <= MOST_TAPS && set.iter().all(|n| n % 2 == 1));
+    }
 }
 
 /// Random coefficients of 31 bits: half of them with every right row tried, then all.

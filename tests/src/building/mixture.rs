@@ -132,15 +132,19 @@ fn forms(coefficient: i32) -> u32 {
     count
 }
 
+/// Any form of each coefficient.
+pub fn any_choices(random: &mut Random, coefficients: &[i32]) -> Vec<u32> {
+    let any = |coefficient: &i32| random.below(forms(*coefficient) as usize) as u32;
+    coefficients.iter().map(any).collect()
+}
+
 /// One choice a coefficient: all the first form, all the last, or any.
 pub fn choices(random: &mut Random, coefficients: &[i32]) -> Vec<u32> {
-    let which = random.below(5);
-    let choice = |coefficient: &i32| match which {
-        0 => 0,
-        1 => forms(*coefficient) - 1,
-        _ => random.below(forms(*coefficient) as usize) as u32,
-    };
-    coefficients.iter().map(choice).collect()
+    match random.below(5) {
+        0 => vec![0; coefficients.len()],
+        1 => coefficients.iter().map(|n| forms(*n) - 1).collect(),
+        _ => any_choices(random, coefficients),
+    }
 }
 
 /// A call with so many coefficients that is accepted; now and then more is lent than asked for.
