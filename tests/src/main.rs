@@ -21,6 +21,11 @@ fn main() {
     println!("\nBuilding, with the first forms");
     bench::building::run();
     println!(
+        "\nBuilding, set by set: a call with the first forms, best of {}",
+        bench::sweep::REPETITIONS
+    );
+    bench::sweep::run();
+    println!(
         "\nRunning, each call best of {}; a call checks its network",
         bench::running::REPETITIONS
     );

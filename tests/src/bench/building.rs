@@ -11,14 +11,14 @@ use std::hint::black_box;
 
 /// What a builder leaves.
 #[derive(PartialEq)]
-struct Lent {
+pub struct Lent {
     rows: Vec<u32>,
     taps: Vec<u32>,
-    row_count: usize,
+    pub row_count: usize,
 }
 
 impl Lent {
-    fn new() -> Self {
+    pub fn new() -> Self {
         Lent {
             rows: vec![0; ROW_TABLE],
             taps: vec![0; TAP_TABLE],
@@ -28,7 +28,7 @@ impl Lent {
 
     /// So many calls, all with the first form of each coefficient and in the same tables.
     #[inline(always)]
-    fn build(&mut self, coefficients: &[i32], calls: usize, builder: Builder) {
+    pub fn build(&mut self, coefficients: &[i32], calls: usize, builder: Builder) {
         let choices = &[0; MOST_TAPS][..coefficients.len()];
         for _ in 0..calls {
             let (rows, taps) = (black_box(&mut self.rows), black_box(&mut self.taps));

@@ -4,6 +4,7 @@ pub mod building;
 pub mod forms;
 pub mod network;
 pub mod running;
+pub mod sweep;
 pub mod taps;
 
 use std::time::Instant;
