@@ -13,7 +13,23 @@
  *  10 a row breaks the row rule, or there are none or more than 4096 rows (place 0)
  *  11 a tap row breaks the tap row rule
  * Where nothing else is said, the lower half is the place of the refusal, counted from 0, and 0
- * where the call is accepted. A call that is turned down changes no memory. */
+ * where the call is accepted. A call that is turned down changes no memory.
+ *
+ * A call needs at most so many bytes of stack, accepted or turned down, its arguments and return
+ * address included (measured on x86-64; what memcpy and memset need of their own comes on top):
+ *   stack: fir_round_tap          64
+ *   stack: fir_round_taps       3392
+ *   stack: fir_reduce             64
+ *   stack: fir_trimmed            64
+ *   stack: fir_form_value         64
+ *   stack: fir_form_weight       384
+ *   stack: fir_canonical          64
+ *   stack: fir_minimal_forms     128
+ *   stack: fir_form_count         64
+ *   stack: fir_build          285632
+ *   stack: fir_check            1216
+ *   stack: fir_coefficients     1280
+ *   stack: fir_run              7744 */
 #ifndef FIR_H
 #define FIR_H
 

@@ -1,0 +1,98 @@
+/* Every function of fir.h, called on a stack of its own: what it is handed, and how much it needs. */
+#ifndef STACK_H
+#define STACK_H
+
+#include "fir.h"
+
+enum {
+    TAPS = 256,
+    ROWS = 4096,
+    ROW_TABLE = 5 * ROWS,
+    TAP_TABLE = 3 * TAPS,
+    FORMS = 1597,
+    SAMPLES = 20000,
+    REGISTERS = 256
+};
+
+/* All that any call is handed, and all that it leaves. */
+struct lent {
+    uint64_t answer, bits;
+    uint32_t fraction_bits, normalised;
+    int32_t n;
+    uint32_t plus, minus;
+    size_t tap_count, coefficient_count, choice_count, row_count, sample_count;
+    size_t rows_length, taps_length, plus_length, minus_length, register_count, output_count;
+    double divisor, leftover;
+    uint32_t negative, odd_part, shift, weight, count;
+    int64_t value;
+    size_t start, end;
+    double taps[TAPS + 1];
+    int32_t coefficients[TAPS + 1];
+    uint32_t choices[TAPS + 1];
+    uint32_t rows[ROW_TABLE], tap_rows[TAP_TABLE];
+    uint32_t plus_table[FORMS], minus_table[FORMS];
+    int16_t samples[SAMPLES];
+    uint64_t registers[REGISTERS];
+    int64_t outputs[SAMPLES];
+};
+
+extern struct lent lent;
+
+enum function {
+    ROUND_TAP,
+    ROUND_TAPS,
+    REDUCE,
+    TRIMMED,
+    FORM_VALUE,
+    FORM_WEIGHT,
+    CANONICAL,
+    MINIMAL_FORMS,
+    FORM_COUNT,
+    BUILD,
+    CHECK,
+    COEFFICIENTS,
+    RUN,
+    FUNCTIONS
+};
+
+struct entry {
+    const char *name;
+    /* Calls it with what is lent. */
+    void (*call)(void);
+    /* Bytes: what fir.h states, and the most that was measured, with what. */
+    size_t stated, need;
+    const char *most;
+};
+
+extern struct entry entries[FUNCTIONS];
+
+/* What came of a call on a stack of so many bytes: the signal that ended it or 0, the refusal,
+ * whether it left what an ordinary call leaves, and how many bytes of the stack it changed. */
+struct outcome {
+    int signal, same;
+    uint32_t refusal;
+    size_t depth;
+};
+
+struct outcome on_stack(void (*call)(void), size_t bytes);
+
+/* Tries a function with what is lent, which it must answer with this refusal, 0 for none; what is
+ * lent stays as it was. */
+void try_call(enum function which, uint32_t refusal, const char *what);
+
+/* Lends everything, at full length and with nothing in it that is refused. */
+void lend(void);
+
+/* The same with 256 coefficients of weight 16. */
+void lend_heaviest(void);
+
+/* The largest inputs, and one for each refusal. */
+void try_taps(void);
+void try_forms(void);
+void try_building(void);
+void try_networks(void);
+
+/* Reads what fir.h states, and gives how much of it is wrong. */
+int read_header(const char *path);
+
+#endif
