@@ -74,8 +74,8 @@ static void self_check(void)
 
 static void compare(const struct entry *entry)
 {
-    printf("%s: needs %zu bytes (%s), fir.h states %zu\n", entry->name, entry->need, entry->most,
-           entry->stated);
+    printf("%s: needs %zu bytes (%s), fir.h states %zu\n", entry->name, entry->need,
+           entry->need == 0 ? "no call came back" : entry->most, entry->stated);
     if (entry->need > entry->stated)
         fault(entry->name, "the number in fir.h is too small", "measured");
     if (entry->stated > entry->need + SLACK)
