@@ -11,6 +11,8 @@ use std::hint::black_box;
 pub const REPETITIONS: usize = 20;
 const SAMPLES: usize = 1_000_000;
 const SAMPLES_OF_A_CALL: usize = 20_000;
+/// Samples that come one a call.
+const SINGLE_SAMPLES: usize = 2_000;
 const ROWS: usize = 31;
 
 /// The registers before a call, and what the call leaves.
@@ -30,14 +32,16 @@ impl Lent {
         }
     }
 
-    /// The call that comes next, as often as it is timed.
+    /// The calls that come next, so many samples each, as often as they are timed.
     #[inline(always)]
-    fn call(&mut self, network: &Network, samples: &[i16], runner: Runner) {
+    fn calls(&mut self, network: &Network, samples: &[i16], of_a_call: usize, runner: Runner) {
         self.registers = self.before;
-        let registers = black_box(&mut self.registers);
-        let outputs = black_box(&mut self.outputs);
-        let answer = runner(black_box(network), black_box(samples), registers, outputs);
-        assert_eq!(answer, ACCEPTED);
+        let outputs = self.outputs.chunks_mut(of_a_call);
+        for (samples, outputs) in samples.chunks(of_a_call).zip(outputs) {
+            let (registers, outputs) = (black_box(&mut self.registers), black_box(outputs));
+            let answer = runner(black_box(network), black_box(samples), registers, outputs);
+            assert_eq!(answer, ACCEPTED);
+        }
     }
 
     fn move_on(&mut self) {
@@ -45,26 +49,33 @@ impl Lent {
     }
 }
 
-/// The best time of each call, added up.
-fn measure(taps: usize) {
-    let mut random = Random::new(19);
-    let network = mixture::network_of(&mut random, ROWS, taps);
-    let samples: Vec<i16> = (0..SAMPLES).map(|_| random.bits() as i16).collect();
+/// The best times of all samples, those that are timed together added up.
+fn times(network: &Network, samples: &[i16], of_a_call: usize) -> [f64; 3] {
     let mut lent = [(); 3].map(|_| Lent::new());
     let mut times = [0.0; 3];
     for samples in samples.chunks(SAMPLES_OF_A_CALL) {
         let [a, b, c] = &mut lent;
-        let mut by_core = || a.call(&network, samples, core::run);
-        let mut by_plain = || b.call(&network, samples, plain::run);
-        let mut by_fast = || c.call(&network, samples, fast::run);
+        let mut by_core = || a.calls(network, samples, of_a_call, core::run);
+        let mut by_plain = || b.calls(network, samples, of_a_call, plain::run);
+        let mut by_fast = || c.calls(network, samples, of_a_call, fast::run);
         let best = best_of(REPETITIONS, [&mut by_core, &mut by_plain, &mut by_fast]);
         times = [0, 1, 2].map(|which| times[which] + best[which]);
         assert!(lent[0] == lent[1] && lent[1] == lent[2]);
         lent.iter_mut().for_each(Lent::move_on);
     }
+    times
+}
+
+fn measure(taps: usize) {
+    let mut random = Random::new(19);
+    let network = mixture::network_of(&mut random, ROWS, taps);
+    let samples: Vec<i16> = (0..SAMPLES).map(|_| random.bits() as i16).collect();
+    let of_many = times(&network, &samples, SAMPLES_OF_A_CALL);
+    let of_one = times(&network, &samples[..SINGLE_SAMPLES], 1);
     print_head(&format!("{taps} taps"), &["plain", "fast"]);
-    print("a sample", times, SAMPLES);
-    print("a sample and tap", times, SAMPLES * taps);
+    print("a sample", of_many, SAMPLES);
+    print("a sample and tap", of_many, SAMPLES * taps);
+    print("a call of one sample", of_one, SINGLE_SAMPLES);
 }
 
 pub fn run() {

@@ -5,7 +5,7 @@
 //! The factors of a product are made unsigned, the coefficient c by adding 2^31 and the sample x by
 //! adding 2^15, so that two products are one instruction. With C and X for these sums,
 //! c·x = C·X - 2^15·C - 2^31·X + 2^46; the second term is the same in every pass, the others that
-//! correct C·X are the same at every place.
+//! correct C·X are the same at every place. Fewer than four samples go one by one.
 
 use super::REGISTERS;
 use crate::answer::{Answer, ACCEPTED};
@@ -91,6 +91,19 @@ fn feed(h: &[i32], samples: &[i16], registers: &mut [u64; REGISTERS], outputs: &
     }
 }
 
+/// The samples one by one, with no tables. What stands past the coefficients moves down alone.
+fn feed_singly(h: &[i32], samples: &[i16], registers: &mut [u64; REGISTERS], outputs: &mut [i64]) {
+    for (x, output) in samples.iter().zip(outputs) {
+        let sum = |register: u64, c: i32| register.wrapping_add((c as i64 * *x as i64) as u64);
+        *output = sum(registers[0], h[0]) as i64;
+        for k in 1..h.len() {
+            registers[k - 1] = sum(registers[k], h[k]);
+        }
+        registers.copy_within(h.len().., h.len() - 1);
+        registers[REGISTERS - 1] = 0;
+    }
+}
+
 #[inline(never)]
 pub fn run(
     network: &Network,
@@ -104,7 +117,12 @@ pub fn run(
     if answer == ACCEPTED {
         let registers = registers.first_chunk_mut().unwrap();
         let h = &h[..network.tap_count];
-        feed(h, samples, registers, &mut outputs[..samples.len()]);
+        let outputs = &mut outputs[..samples.len()];
+        if samples.len() < 4 {
+            feed_singly(h, samples, registers, outputs);
+        } else {
+            feed(h, samples, registers, outputs);
+        }
     }
     answer
 }

@@ -8,7 +8,7 @@ use lib.IntN.{pos}
 use mir.Syntax.{w32}
 use mir.ValLaws.{toZ-ofZ}
 use Rattle.run_tables.specs.Inner.{ZeroFrom}
-use Rattle.run_tables.proofs.ZeroFrom.{zero-from-end, zero-from-less}
+use Rattle.run_tables.proofs.ZeroFrom.{zero-from-less}
 use mir.Val.{toZ}
 use Rattle.run_tables.proofs.width.used.Statement.{statement}
 use Rattle.run_tables.proofs.width.used.Tie as tie
@@ -19,8 +19,11 @@ Inv-loop h registers w₀ w = (w ≤ 256) × (ZeroFrom w h registers)
 abbrev μ-loop : tie.MeasureT-loop
 μ-loop h registers w₀ w = w
 
+used-eights-requires : tie.Need-used-eights-requires Inv-loop μ-loop
+used-eights-requires c κs = search needs
+
 loop-holds : tie.Need-loop-holds Inv-loop μ-loop
-loop-holds c = (search needs, zero-from-end (c .args .h .now) (c .args .registers .now) (c .pre .0))
+loop-holds c = c .used-eights .ensures
 
 sub-if1 : tie.Need-sub-if1 Inv-loop μ-loop
 sub-if1 c = search needs
@@ -61,7 +64,7 @@ loop-again c =
     let after-if22 = c .before in
     let in-else-1 = after-if22 .before in
     let at-loop = in-else-1 .before .before .before in
-    let at-start = at-loop .before in
+    let at-start = at-loop .before .before .before in
     let w = at-loop .loop .w in
     let h = at-start .args .h .now in
     let registers = at-start .args .registers .now in
@@ -72,7 +75,7 @@ loop-again c =
 returns-3 : tie.Need-returns-3 Inv-loop μ-loop
 returns-3 c =
     let at-loop = c .before in
-    let at-start = at-loop .before in
+    let at-start = at-loop .before .before .before in
     let e : at-loop .loop .w ≡ 0 = omega arith in
     (search needs, subst (λ k. ZeroFrom k (at-start .args .h .now) (at-start .args .registers .now)) e (at-loop .loop .inv .1))
 
@@ -82,6 +85,7 @@ used-spec =
     (tie.spec
     Inv-loop
     μ-loop
+    used-eights-requires
     loop-holds
     sub-if1
     mul-if1
