@@ -1,17 +1,17 @@
 -- The row rule, test by test, as the code makes the tests. Assumes nothing.
 use mathlib.Core.Path.{_≡_, refl, sym, ap, ap₂, _∙_, subst}
-use mathlib.Core.Bool.{Bool, true, false, _&&_, _||_, and-true, and-false, or-false}
+use mathlib.Core.Bool.{Bool, true, false, _&&_, _||_, or-false}
 use mathlib.Core.List.{List}
-use Prim.Native.Nat.{ℕ, zero, suc, _+_, _^_, _≤_, _<_}
+use Prim.Native.Nat.{ℕ, zero, suc, _+_, _≤_, _<_}
 use native.Mathlib.Nat.{lt-trans}
 use native.Mathlib.Omega.{arith}
-use borrow.Author.Tests.{eqb-true, lt-ltb, le-ltb, le-leb, lt-leb, eq-eqb}
-use lib.Dec.{eqb, leb, ltb}
+use borrow.Author.Tests.{eqb-true, lt-ltb, le-ltb, eq-eqb}
+use lib.Dec.{eqb, ltb}
 use lib.IntN.{ℤ, pos, natAbs, _+ℤ_, _-ℤ_, -ℤ-+ℤ-cancel, +ℤ-negℤ-cancel}
 use Rattle.sequence.proofs.UpTo.{getD-upTo}
 use Rattle.network.specs.declared.Row.{Row}
 use Rattle.network.specs.Rows.{plus, minus, reversed, rowAt, rowsOf, rowIn, noRow}
-use Rattle.network.specs.RowRule.{lifted, isFirst, isNatural, isWorked, valueWithin, isSum, isLater, keepsRowRule}
+use Rattle.network.specs.RowRule.{isFirst, isNatural, isWorked, isSum, isLater, keepsRowRule}
 use Rattle.network.proofs.Booleans.{same-truth}
 use Rattle.network.proofs.Rules.{natural-is, is-natural}
 
@@ -24,7 +24,7 @@ difference a b v =
     (λ e. is-natural (pos a -ℤ pos b) v (sym (ap (λ (n : ℕ). pos n -ℤ pos b) (sym (eqb-true (v + b) a e)) ∙ +ℤ-negℤ-cancel (pos v) (pos b))))
     (λ e. eq-eqb (v + b) a (ap natAbs (ap (λ (z : ℤ). z +ℤ pos b) (natural-is (pos a -ℤ pos b) v e) ∙ -ℤ-+ℤ-cancel (pos a) (pos b))))
 
--- the three tests of the code
+-- a test for each sign, without a difference
 abbrev tests : ℕ → ℕ → ℕ → ℕ → Bool
 tests s a b v = eqb s plus && eqb (a + b) v || eqb s minus && eqb (v + b) a || eqb s reversed && eqb (v + a) b
 
@@ -41,25 +41,6 @@ module _ (s a b v : ℕ) where
 
   pub worked-tests : (eqb s plus && eqb (a + b) v || eqb s minus && eqb (v + b) a || eqb s reversed && eqb (v + a) b) ≡ isWorked s a b v
   worked-tests = by-sign (eqb s plus) (eqb s minus) (eqb s reversed) refl refl refl
-
--- ---- shift, sign and value
-
-module _ (r : Row) (left right : ℕ) where
-  -- what is tested after the shift
-  rest : Bool → Bool
-  rest s = s && isWorked (r .sign) (lifted (r .shift) left) right (r .value) && valueWithin (r .value) && leb (lifted (r .shift) left) (2 ^ 32)
-
-  pub sum-shift : 31 < r .shift → false ≡ isSum r left right
-  unfolding rest
-  sum-shift h = sym (ap rest (ap (λ (b : Bool). leb 1 (r .shift) && b) (lt-leb (r .shift) 31 h) ∙ and-false (leb 1 (r .shift))))
-
-  pub sum-tests : r .shift ≤ 31 → (a b v : ℕ) (w : Bool) → a ≡ lifted (r .shift) left → b ≡ right → v ≡ r .value → w ≡ isWorked (r .sign) a b v
-      → (leb 1 (r .shift) && w && valueWithin (r .value) && leb a (2 ^ 32)) ≡ isSum r left right
-  unfolding rest
-  sum-tests h a b v w ea eb ev ew =
-      ap (λ (x : Bool). leb 1 (r .shift) && x && valueWithin (r .value) && leb a (2 ^ 32)) (ew ∙ ap (isWorked (r .sign) a b) ev ∙ ap (λ (n : ℕ). isWorked (r .sign) a n (r .value)) eb)
-      ∙ ap (λ (n : ℕ). leb 1 (r .shift) && isWorked (r .sign) n right (r .value) && valueWithin (r .value) && leb n (2 ^ 32)) ea
-      ∙ ap rest (sym (ap (λ (b : Bool). leb 1 (r .shift) && b) (le-leb (r .shift) 31 h) ∙ and-true (leb 1 (r .shift))))
 
 -- ---- row i of a table, in a network of n rows
 

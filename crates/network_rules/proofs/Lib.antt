@@ -1,1 +1,2 @@
+pub mod SumTests
 pub mod TapTests

@@ -8,6 +8,7 @@ use network::MINUS;
 use network::PLUS;
 use network::REVERSED;
 use network::Row;
+use word::choose_wide;
 
 fn is_first(row: Row) -> bool
     ensures { λ r. ⌜ r ≡ isFirst row ⌝ }
@@ -15,27 +16,26 @@ fn is_first(row: Row) -> bool
     (row.left == 0) & (row.right == 0) & (row.shift == 0) & (row.sign == PLUS) & (row.value == 1)
 }
 
-// The value v is the one that the sign gives for a and b.
+// The value v, which is not 0, is the one that the sign gives for a and b: of the three the sign
+// names one that is the sum of the other two.
 fn is_worked(sign: u32, a: u64, b: u64, v: u64) -> bool
-    requires { ⌜ (a ≤ 2 ^ 63) × (b ≤ 2 ^ 32) × (v ≤ 2 ^ 32) ⌝ }
-    ensures { λ r. ⌜ r ≡ isWorked sign a b v ⌝ }
+    requires { ⌜ (a < 2 ^ 63) × (b < 2 ^ 32) × (v < 2 ^ 32) ⌝ }
+    ensures { λ r. ⌜ (1 ≤ v → r ≡ isWorked sign a b v) ⌝ }
 {
-    (sign == PLUS) & (a + b == v)
-        | (sign == MINUS) & (v + b == a)
-        | (sign == REVERSED) & (v + a == b)
+    let right = choose_wide(sign == REVERSED, b, 0);
+    let left = choose_wide(sign == MINUS, a, right);
+    a + b + v == choose_wide(sign == PLUS, v, left) << 1
 }
 
-// Shift, sign and value of a later row, over the values of the rows that it names.
+// Shift, sign and value of a later row, over the values of the rows that it names. There is no
+// jump, since a network's signs follow no pattern.
 fn is_sum(row: Row, left: u32, right: u32) -> bool
     ensures { λ r. ⌜ r ≡ isSum row left right ⌝ }
 {
-    if row.shift > 31 {
-        return false;
-    }
-    let a = crate::lift(row.shift, left);
-    (1 <= row.shift)
+    let a = crate::lift(row.shift % 32, left);
+    ((1 <= row.shift) & (row.shift <= 31))
         & is_worked(row.sign, a, word::wide(right), word::wide(row.value))
-        & ((row.value % 2 == 1) & (1 <= row.value) & (row.value <= 2147483647))
+        & ((row.value % 2 == 1) & (row.value <= 2147483647))
         & (a <= 4294967296)
 }
 

@@ -13,3 +13,9 @@ pub fn choose_index(first: bool, a: usize, b: usize) -> usize
 {
     if first { a } else { b }
 }
+
+pub fn choose_wide(first: bool, a: u64, b: u64) -> u64
+    ensures { λ r. ⌜ r ≡ cond first a b ⌝ }
+{
+    if first { a } else { b }
+}

@@ -8,22 +8,26 @@ use fir_tests::random::Random;
 use std::hint::black_box;
 
 #[inline(always)]
-fn check(network: &Network, calls: usize, checker: Checker) {
-    for _ in 0..calls {
+fn check(networks: &[Network], calls: usize, checker: Checker) {
+    for network in networks.iter().cycle().take(calls) {
         assert_eq!(checker(black_box(network)), ACCEPTED);
     }
 }
 
-fn measure(rows: usize, calls: usize) {
-    let network = mixture::network_of(&mut Random::new(18), rows, MOST_TAPS);
-    let times = best([&mut || check(&network, calls, core::check), &mut || {
-        check(&network, calls, fast::check)
+/// Calls that check so many networks in turn.
+fn measure(rows: usize, networks: usize, calls: usize) {
+    let mut random = Random::new(18);
+    let next = |_| mixture::network_of(&mut random, rows, MOST_TAPS);
+    let networks: Vec<Network> = (0..networks).map(next).collect();
+    let times = best([&mut || check(&networks, calls, core::check), &mut || {
+        check(&networks, calls, fast::check)
     }]);
     print_head(&format!("{rows} rows, {MOST_TAPS} taps"), &["fast"]);
-    print("checking, a call", times, calls);
+    print(&format!("{} in turn, a call", networks.len()), times, calls);
 }
 
 pub fn run() {
-    measure(MOST_ROWS, 10);
-    measure(31, 200);
+    measure(MOST_ROWS, 1, 10);
+    measure(1_929, 16, 16);
+    measure(31, 1, 200);
 }
