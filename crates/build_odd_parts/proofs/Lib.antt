@@ -1,4 +1,3 @@
-pub mod Weights
 pub mod Rises
 pub mod Slots
 pub mod Shifts

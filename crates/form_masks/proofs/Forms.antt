@@ -3,7 +3,7 @@ use mathlib.Core.Path.{_≡_, sym, ap, ap₂, _∙_}
 use mathlib.Core.Bool.{Bool, true, false, cond}
 use Prim.Native.Nat.{ℕ, zero, suc, _+_, _-_, _<_, _^_}
 use native.Mathlib.Omega.{arith}
-use lib.Bits.{bitAnd}
+use lib.Bits.{bitAnd, bitOr}
 use lib.Count.{ones}
 use lib.Dec.{ltb}
 use lib.IntN.{pos, negsuc, _-ℤ_}
@@ -23,6 +23,7 @@ use Rattle.form_masks.specs.Form.{formOf, stringOf, overlapIn}
 use Rattle.form_masks.specs.Inner.{lowestIn}
 use Rattle.form_masks.specs.Value.{valueOf}
 use Rattle.form_masks.specs.Weight.{weightOf}
+use Rattle.form_masks.proofs.Weights.{union-weight}
 use Rattle.form_masks.proofs.Overlap.{overlap-and, lowest-nowhere}
 
 -- ---- the check 8, by the bitwise and of the masks
@@ -52,6 +53,9 @@ module _ (form : Form) (hx : form .plus < 2 ^ 32) (hy : form .minus < 2 ^ 32) (z
 
   pub string-weight : weight (stringOf form) ≡ ones (form .plus) + ones (form .minus)
   string-weight = sym (masks-weight (stringOf form)) ∙ ap₂ (λ (x y : ℕ). ones x + ones y) string-plus string-minus
+
+  pub string-union : weight (stringOf form) ≡ ones (bitOr (form .plus) (form .minus))
+  string-union = sym (union-weight (stringOf form)) ∙ ap₂ (λ (x y : ℕ). ones (bitOr x y)) string-plus string-minus
 
 -- the difference of two 32-bit masks is a 64-bit number
 pub difference-fits : (x y : ℕ) → x < 2 ^ 32 → y < 2 ^ 32 → SFits w64 (pos x -ℤ pos y)

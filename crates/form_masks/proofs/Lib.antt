@@ -2,6 +2,7 @@
 pub mod Claims
 pub mod Figures
 -- What they and the functions' proofs rest on:
+pub mod Weights
 pub mod Forms
 pub mod Sign
 pub mod Overlap

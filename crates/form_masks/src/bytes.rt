@@ -1,6 +1,7 @@
 // The ones of a byte, by a table.
 ghost use mathlib.Core.Path.{_≡_};
 ghost use lib.Count as Count;
+ghost use Rattle.form_masks.specs.Inner.{ByteCounts};
 
 // Entry b is the number of ones in b.
 const BYTE_ONES: [u8; 256] = [
@@ -262,8 +263,16 @@ const BYTE_ONES: [u8; 256] = [
     8,
 ];
 
-pub fn byte_ones(b: u8) -> u8
+// The table, to be bound once: a constant array is stored anew in each function that names it.
+pub fn byte_counts() -> [u8; 256]
+    ensures { λ r. ⌜ ByteCounts r ⌝ }
+{
+    BYTE_ONES
+}
+
+pub fn byte_ones(counts: &[u8; 256], b: u8) -> u8
+    requires { ⌜ ByteCounts (now counts) ⌝ }
     ensures { λ r. ⌜ r ≡ Count.ones b ⌝ }
 {
-    BYTE_ONES[b as usize]
+    counts[b as usize]
 }

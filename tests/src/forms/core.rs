@@ -23,6 +23,7 @@ pub fn form_value(form: Form, value: &mut i64) -> Answer {
     unsafe { fir_form_value(form.plus, form.minus, value) }.into()
 }
 
+#[inline]
 pub fn form_weight(form: Form, weight: &mut u32) -> Answer {
     // SAFETY: a reference is never null.
     unsafe { fir_form_weight(form.plus, form.minus, weight) }.into()

@@ -1,15 +1,13 @@
 -- `form_masks::weight` meets its contract. Assumes nothing.
 use borrow.Author.Needs.{needs}
-use mathlib.Core.Path.{_≡_, sym, ap, ap₂, _∙_}
-use Prim.Native.Nat.{ℕ, _+_}
+use mathlib.Core.Path.{_≡_, sym, ap, _∙_}
 use native.Mathlib.Omega.{arith}
 use lib.Bits.{bitAnd}
-use lib.Count.{ones-le}
 use Rattle.refusal.specs.Answer.{given}
 use Rattle.signed_digit.specs.Weight.{weight}
 use Rattle.form_masks.specs.Form.{stringOf}
 use Rattle.form_masks.specs.Weight.{weightOf}
-use Rattle.form_masks.proofs.Forms.{overlapping, disjoint, string-weight}
+use Rattle.form_masks.proofs.Forms.{overlapping, disjoint, string-union}
 use Rattle.form_masks.proofs.weight.Statement.{statement}
 use Rattle.form_masks.proofs.weight.Tie as tie
 
@@ -26,32 +24,18 @@ returns c =
 ones-requires : tie.Need-ones-requires
 ones-requires c κs = search needs
 
-ones-requires-2 : tie.Need-ones-requires-2
-ones-requires-2 c κs = search needs
-
-add-t8 : tie.Need-add-t8
-add-t8 c =
-    let after-ones = c .before in
-    let at-start = after-ones .before .before .before in
-    let form = at-start .args .form in
-    let x = ones-le 32 (form .plus) (omega arith) in
-    let y = ones-le 32 (form .minus) (omega arith) in
-    record { fits = omega (arith, after-ones .ones .ensures, c .ones2 .ensures) }
-
 returns-2 : tie.Need-returns-2
 unfolding weightOf
 returns-2 c =
-    let after-ones = c .before in
-    let in-else-1 = after-ones .before in
+    let in-else-1 = c .before .before in
     let at-start = in-else-1 .before .before in
     let form = at-start .args .form in
     let z : bitAnd (form .plus) (form .minus) ≡ 0 = omega (arith, in-else-1 .if1 .left) in
     record {
       weighed =
-          ap given (ap₂ (λ (x y : ℕ). x + y) (after-ones .ones .ensures) (c .ones2 .ensures) ∙ sym (string-weight form (omega arith) (omega arith) z))
+          ap given (c .ones .ensures ∙ sym (string-union form (omega arith) (omega arith) z))
           ∙ disjoint (form .plus) (form .minus) (given (weight (stringOf form))) z;
     }
 
 pub weight-spec : {M : Type 1} → statement M
-weight-spec =
-    tie.close (tie.spec lowest-one-requires returns ones-requires ones-requires-2 add-t8 returns-2)
+weight-spec = tie.close (tie.spec lowest-one-requires returns ones-requires returns-2)

@@ -1,11 +1,11 @@
--- `form_masks::ones` meets its contract: a number has the ones of its bytes. Assumes nothing.
+-- `form_masks::ones_by` meets its contract: a number has the ones of its bytes. Assumes nothing.
 use borrow.Author.Needs.{needs}
 use mathlib.Core.Path.{_≡_, ap, _∙_}
 use Prim.Native.Nat.{ℕ, _+_, _*_, _/_, _%_, _^_}
 use native.Mathlib.Omega.{arith}
 use lib.Count.{ones, ones-cat}
-use Rattle.form_masks.proofs.ones.Statement.{statement}
-use Rattle.form_masks.proofs.ones.Tie as tie
+use Rattle.form_masks.proofs.ones_by.Statement.{statement}
+use Rattle.form_masks.proofs.ones_by.Tie as tie
 
 -- the lowest byte, and the rest
 low-byte : (x : ℕ) → ones x ≡ ones (x / 256) + ones (x % 256)
@@ -68,8 +68,8 @@ returns c =
     let e3 : x / 65536 / 256 ≡ x / 2 ^ 24 = omega arith in
     omega (arith, low-byte x, low-byte (x / 256), low-byte (x / 65536), ap ones e2, ap ones e3)
 
-pub ones-spec : {M : Type 1} → statement M
-ones-spec =
+pub ones-by-spec : {M : Type 1} → statement M
+ones-by-spec =
     tie.close
     (tie.spec
     cast-byte-ones
