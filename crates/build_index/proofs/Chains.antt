@@ -2,7 +2,7 @@
 use mathlib.Core.Path.{_≡_, sym, ap, _∙_, subst}
 use mathlib.Core.List.{List}
 use mathlib.Core.Logic.{⊎-elim}
-use Prim.Native.Nat.{ℕ, suc, _+_, _-_, _*_, _/_, _<_, _≤_}
+use Prim.Native.Nat.{ℕ, suc, _+_, _-_, _*_, _/_, _^_, _<_, _≤_}
 use native.Mathlib.Nat.{eq-or-lt-of-le}
 use native.Mathlib.Omega.{arith}
 use lib.Bits.{and-le-r}
@@ -17,12 +17,7 @@ use Rattle.build_index.proofs.Values.{row-missing}
 
 pub bucket-below : (m v : ℕ) → 0 < m → bucketOf m v < m
 unfolding bucketOf
-bucket-below m v h = omega (arith, and-le-r (v / 2) (m - 1))
-
--- a bucket without a row
-pub empty-bucket : (t heads links : List ℕ) (n x : ℕ) → Indexed t heads links n → getD heads (bucketOf (length heads) x) 0 ≡ 0 → (i : ℕ) → i < n → valueAt t i ≡ x → ⊥
-empty-bucket t heads links n x ix e i l q =
-    ix .heads-in (bucketOf (length heads) x) (bucket-below (length heads) x (ix .buckets)) .none i (omega arith) l (ap (bucketOf (length heads)) q)
+bucket-below m v h = omega (arith, and-le-r (v * 0x9e3779b9 / 2 ^ 32) (m - 1))
 
 -- while a bucket is walked: no row from p on has the value x, and p stands for a row of x's bucket
 pub record Passed (t : List ℕ) (m n x p : ℕ) : Type 0 where

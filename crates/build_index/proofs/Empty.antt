@@ -6,7 +6,7 @@ use native.Mathlib.Omega.{arith}
 use lib.ListN.{length, getD, replicate}
 use Rattle.build_index.specs.Inner.{Last, Indexed}
 
-read-clear : (m h : ℕ) → getD (replicate {A = ℕ} m 0) h 0 ≡ 0
+pub read-clear : (m h : ℕ) → getD (replicate {A = ℕ} m 0) h 0 ≡ 0
 read-clear zero h = refl
 read-clear (suc m) zero = refl
 read-clear (suc m) (suc h) = read-clear m h

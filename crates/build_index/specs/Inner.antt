@@ -2,7 +2,7 @@
 -- the one before it in its bucket. A row i is stored there as i + 1, and 0 stands for none. For the contracts of internal functions. Definitions only.
 use mathlib.Core.Path.{_≡_}
 use mathlib.Core.List.{List}
-use Prim.Native.Nat.{ℕ, _-_, _*_, _/_, _≤_, _<_}
+use Prim.Native.Nat.{ℕ, _-_, _*_, _/_, _^_, _≤_, _<_}
 use lib.Bits.{bitAnd}
 use lib.ListN.{length, getD, drop}
 use Rattle.refusal.specs.Answer.{Place, nowhere, at-place}
@@ -20,9 +20,9 @@ foundAt Missing = nowhere
 abbrev pub valueAt : List ℕ → ℕ → ℕ
 valueAt table i = rowAt table i .value
 
--- the bucket of a value, of m buckets; values are odd
+-- the bucket of a value, of m buckets
 unfoldable pub bucketOf : ℕ → ℕ → ℕ
-bucketOf m v = bitAnd (v / 2) (m - 1)
+bucketOf m v = bitAnd (v * 0x9e3779b9 / 2 ^ 32) (m - 1)
 
 -- p stands for the last row below k whose value is in bucket h of m
 pub record Last (table : List ℕ) (m h p k : ℕ) : Type 0 where

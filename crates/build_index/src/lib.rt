@@ -3,7 +3,6 @@
 ghost use mathlib.Core.Path.{_≡_};
 ghost use mathlib.Core.List.{[], _∷_, _++_};
 ghost use Prim.Native.Nat.{_+_, _*_, _≤_, _<_};
-ghost use lib.Dec.{eqb};
 ghost use lib.ListN.{length, getD, set};
 ghost use Rattle.refusal.specs.Answer.{nowhere};
 ghost use Rattle.network.specs.Rows.{rowWords, rowsOf};
@@ -17,21 +16,13 @@ pub enum Found {
     Missing,
 }
 
-// The bucket of a value, of m buckets. Every bucket is in use where m is a power of 2.
+// The bucket of a value, of m buckets: the product with 2^32 times the golden ratio's fraction has all
+// digits of the value in those from 2^32 on. Every bucket is in use where m is a power of 2.
 fn bucket(x: u32, m: usize) -> usize
     requires { ⌜ 0 < m ⌝ }
     ensures { λ r. ⌜ (r ≡ bucketOf m x) × (r < m) ⌝ }
 {
-    ((x / 2) as usize) & (m - 1)
-}
-
-// Whether no row is in the bucket of x: then no row has this value.
-pub fn is_empty(heads: &[u16], x: u32) -> bool
-    requires { ⌜ 0 < length (now heads) ⌝ }
-    ensures { λ r. ⌜ r ≡ eqb (getD (now (heads .entry)) (bucketOf (length (now (heads .entry))) x) 0) 0 ⌝ }
-{
-    let h = bucket(x, heads.len());
-    heads[h] == 0
+    (((x as u64) * 0x9e37_79b9 / 0x1_0000_0000) as usize) & (m - 1)
 }
 
 // The row that has the value x.

@@ -3,3 +3,4 @@ pub mod Slots
 pub mod Shifts
 pub mod KeyParts
 pub mod Taken
+pub mod Totals

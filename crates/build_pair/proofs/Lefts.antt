@@ -10,27 +10,22 @@ use Rattle.build_index.specs.Inner.{valueAt}
 use Rattle.build_pair.proofs.FirstOver.{over-none}
 use Rattle.build_pair.proofs.Tries.{plus-none, minus-none, reversed-none}
 use Rattle.build_pair.proofs.Signs.{three-signs}
-use Rattle.build_pair.specs.Inner.{NoLeft}
+use Rattle.build_index.proofs.Values.{row-missing}
+use Rattle.build_sieve.specs.Inner.{Sieve}
+use Rattle.build_left_rows.specs.Inner.{NoLeft, Sifting}
+use Rattle.build_pair.specs.Inner.{Searchable}
 
-pub fewer-lefts : {t : List ℕ} {m v r : ℕ} (m′ : ℕ) → m′ ≤ m → NoLeft t m v r → NoLeft t m′ v r
-fewer-lefts m′ h l =
-    record {
-      no-plus = λ s i a b. l .no-plus s i a (omega arith);
-      no-minus = λ s i a b. l .no-minus s i a (omega arith);
-      no-reversed = λ s i a b. l .no-reversed s i a (omega arith);
-    }
-
--- sum and distance are the odd parts of v + r and |v - r|, and no row below m has their values
-pub no-left : (t : List ℕ) (n m v r sum distance : ℕ) → m ≤ n → ((i : ℕ) → i < n → valueAt t i % 2 ≡ 1)
-    → ((s l : ℕ) → s < 32 → l % 2 ≡ 1 → v + r ≡ lifted s l → sum ≡ l)
-    → ((s l : ℕ) → s < 32 → l % 2 ≡ 1 → (v - r) + (r - v) ≡ lifted s l → distance ≡ l)
-    → ((i : ℕ) → i < m → valueAt t i ≡ sum → ⊥) → ((i : ℕ) → i < m → valueAt t i ≡ distance → ⊥) → NoLeft t m v r
-no-left t n m v r sum distance h odd sum-is distance-is no-sum no-distance =
-    record {
-      no-plus = λ s i a b e. no-distance i b (sym (distance-is s (valueAt t i) a (odd i (omega arith)) (omega arith)));
-      no-minus = λ s i a b e. no-sum i b (sym (sum-is s (valueAt t i) a (odd i (omega arith)) (sym e)));
-      no-reversed = λ s i a b e. no-distance i b (sym (distance-is s (valueAt t i) a (odd i (omega arith)) (omega arith)));
-    }
+-- what is known of a search is enough for the pass over the right rows
+pub sifting : (t heads links values marks : List ℕ) (n most v : ℕ) → Searchable t heads links n most v → Sieve t values marks n → Sifting t heads links values marks n v
+sifting t heads links values marks n most v s w = record {
+  index = s .index;
+  sieve = w;
+  odd = s .odd;
+  bounded = λ i l. omega (arith, s .bounded i l, s .small);
+  new-odd = s .new-odd;
+  new-small = s .new-small;
+  new = row-missing t n v (s .new);
+}
 
 -- where no right row goes with a left row, nothing fits with it
 module _ (t : List ℕ) (n m v : ℕ) (h : m ≤ n) (none : (k : ℕ) → k < n → NoLeft t m v (valueAt t k)) where

@@ -1,5 +1,4 @@
 pub mod Shifts
-pub mod OddPart
 pub mod Lefts
 pub mod FirstOver
 pub mod Tries

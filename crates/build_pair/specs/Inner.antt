@@ -38,11 +38,3 @@ pub record AtShift (table : List ℕ) (n left shift a : ℕ) : Type 0 where
   pub within : left < n
   pub is-lifted : a ≡ lifted shift (valueAt table left)
   pub low : a ≤ 2 ^ 32
-
--- ---- one right row
-
--- with a right row of value r, no left row below m makes v at any shift and sign
-pub record NoLeft (table : List ℕ) (m v r : ℕ) : Type 0 where
-  pub no-plus : (s i : ℕ) → s < 32 → i < m → lifted s (valueAt table i) + r ≡ v → ⊥
-  pub no-minus : (s i : ℕ) → s < 32 → i < m → lifted s (valueAt table i) ≡ v + r → ⊥
-  pub no-reversed : (s i : ℕ) → s < 32 → i < m → r ≡ v + lifted s (valueAt table i) → ⊥

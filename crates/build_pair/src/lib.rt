@@ -1,21 +1,30 @@
 // Step 2 of building: the search for one new row from two that are there, over rows with their index.
-mod left_rows;
 mod row_signs;
 
 ghost use mathlib.Core.Path.{_≡_};
 ghost use Rattle.network.specs.Rows.{rowsOf};
 ghost use Rattle.build_steps.specs.Search.{firstFit};
+ghost use Rattle.build_sieve.specs.Inner.{Sieve};
 ghost use Rattle.build_pair.specs.Inner.{Searchable, fitOf};
 pub use row_signs::NewRow;
 
 // The first fit for v: lowest left, then lowest shift, then sign. No row's value is above most, so
 // that no shift fits past v + most.
-pub fn first_fit(table: &[u32], heads: &[u16], links: &[u16], n: usize, most: u32, v: u32) -> NewRow
-    requires { ⌜ Searchable (now table) (now heads) (now links) n most v ⌝ }
+pub fn first_fit(
+    table: &[u32],
+    heads: &[u16],
+    links: &[u16],
+    values: &[u32],
+    marks: &[u8],
+    n: usize,
+    most: u32,
+    v: u32,
+) -> NewRow
+    requires { ⌜ Searchable (now table) (now heads) (now links) n most v × Sieve (now table) (now values) (now marks) n ⌝ }
     ensures { λ r. ⌜ fitOf r ≡ firstFit (rowsOf (now (table .entry)) n) v ⌝ }
 {
     let limit = v as u64 + most as u64;
-    let mut i = left_rows::lowest_left(table, heads, links, n, most, v);
+    let mut i = build_left_rows::lowest_left(table, heads, links, values, marks, n, v);
     let found = 'search: loop {
         if i >= n {
             break 'search NewRow::NoneFits;

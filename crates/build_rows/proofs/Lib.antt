@@ -2,3 +2,4 @@ pub mod Bounds
 pub mod Longer
 pub mod Searches
 pub mod Rounds
+pub mod Sieved

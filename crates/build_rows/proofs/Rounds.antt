@@ -15,6 +15,7 @@ use Rattle.build_steps.specs.CanBuild.{Buildable}
 use Rattle.build_steps.proofs.Steps.{step-grows}
 use Rattle.build_odd_parts.specs.Inner.{partIn}
 use Rattle.build_index.specs.Inner.{HasRoom, Grown}
+use Rattle.build_sieve.specs.Inner.{Sieve}
 use Rattle.build_index.proofs.Growth.{grown-none, grown-on}
 use Rattle.build_index.proofs.Room.{less-room}
 use Rattle.build_index.proofs.Values.{length-rows, value-in}
@@ -87,14 +88,17 @@ module _ (keys : List ℕ) (m : ℕ) (choices : List ℕ) where
     step-room : length (step (rowsOf table n) (partIn choices (getD keys i 0))) ≤ length (steps (firstRow ∷ []) (map (partIn choices) (take m keys)))
     step-room = subst (λ (x : List Row). length (step rows p) ≤ length x) rest-is (steps-longer (step rows p) (map (partIn choices) (drop (i + 1) (take m keys))))
 
-    pub ready : HasRoom table links (length (steps (firstRow ∷ []) (map (partIn choices) (take m keys)))) → Ready table heads links n most (partIn choices (getD keys i 0))
-    ready o = record {
+    pub ready : (values marks : List ℕ) → HasRoom table links (length (steps (firstRow ∷ []) (map (partIn choices) (take m keys)))) → Sieve table values marks n
+        → length (steps (firstRow ∷ []) (map (partIn choices) (take m keys))) + 7 ≤ length values → Ready table heads links values marks n most (partIn choices (getD keys i 0))
+    ready values marks o s w = record {
       index = r .grown .index;
       lawful = r .lawful;
       bounded = λ k w. (let e = value-in table n k w in omega (arith, e, r .below k (omega (arith, length-rows table n))));
       small = r .small;
       part = b;
       room = less-room table links _ _ step-room o;
+      sieve = s;
+      sieve-room = omega (arith, step-room, w);
     }
 
     pub round-next : (table′ heads′ links′ : List ℕ) (n′ most′ : ℕ) → most′ ≡ max most (p .value) → Grown table table′ heads′ links′ n′ (step (rowsOf table n) (partIn choices (getD keys i 0)))

@@ -25,7 +25,7 @@ use Rattle.build_pair.specs.Inner.{Searchable}
 use Rattle.build_chain.specs.Inner.{Readable}
 use Rattle.build_rows.specs.Inner.{Ready}
 
-module _ (table heads links : List ℕ) (n most : ℕ) (p : Part) (r : Ready table heads links n most p) where
+module _ (table heads links values marks : List ℕ) (n most : ℕ) (p : Part) (r : Ready table heads links values marks n most p) where
   abbrev rows : List Row
   rows = rowsOf table n
 

@@ -1,12 +1,13 @@
 // The rows of a network, built odd part by odd part.
 ghost use mathlib.Core.Path.{_≡_};
 ghost use mathlib.Core.List.{[], _∷_, map};
-ghost use Prim.Native.Nat.{max};
-ghost use lib.ListN.{take};
+ghost use Prim.Native.Nat.{_≤_, max};
+ghost use lib.ListN.{length, take};
 ghost use Rattle.network.specs.Rows.{rowsOf, firstRow};
 ghost use Rattle.build_steps.specs.Steps.{step, steps};
 ghost use Rattle.build_odd_parts.specs.Inner.{partIn};
-ghost use Rattle.build_index.specs.Inner.{Grown};
+ghost use Rattle.build_index.specs.Inner.{Indexed, HasRoom, Grown};
+ghost use Rattle.build_sieve.specs.Inner.{Sieve};
 ghost use Rattle.build_rows.specs.Inner.{partOf, Ready, CanStart};
 use build_index::Found;
 use build_pair::NewRow;
@@ -23,18 +24,29 @@ fn add_part(
     table: &mut [u32],
     heads: &mut [u16],
     links: &mut [u16],
+    values: &[u32],
+    marks: &[u8],
     n: usize,
     most: u32,
     v: u32,
     choice: u32,
 ) -> usize
-    requires { ⌜ Ready (now table) (now heads) (now links) n most (partOf v choice) ⌝ }
+    requires { ⌜ Ready (now table) (now heads) (now links) (now values) (now marks) n most (partOf v choice) ⌝ }
     ensures { λ r. ⌜ Grown (now (table .entry)) (now (table .exit)) (now (heads .exit)) (now (links .exit)) r
         (step (rowsOf (now (table .entry)) n) (partOf v choice)) ⌝ }
 {
     match build_index::find(table, heads, links, n, v) {
         Found::At(_) => n,
-        Found::Missing => match build_pair::first_fit(table, heads, links, n, most, v) {
+        Found::Missing => match build_pair::first_fit(
+            table,
+            heads,
+            links,
+            values,
+            marks,
+            n,
+            most,
+            v,
+        ) {
             NewRow::Fits(row) => {
                 build_index::put(table, heads, links, n, row);
                 n + 1
@@ -47,6 +59,45 @@ fn add_part(
     }
 }
 
+// The same, and the new rows join the sieve.
+fn take_part(
+    table: &mut [u32],
+    heads: &mut [u16],
+    links: &mut [u16],
+    values: &mut [u32],
+    marks: &mut [u8],
+    n: usize,
+    most: u32,
+    v: u32,
+    choice: u32,
+) -> usize
+    requires { ⌜ Ready (now table) (now heads) (now links) (now values) (now marks) n most (partOf v choice) ⌝ }
+    ensures { λ r. ⌜ Grown (now (table .entry)) (now (table .exit)) (now (heads .exit)) (now (links .exit)) r
+        (step (rowsOf (now (table .entry)) n) (partOf v choice)) ⌝ }
+    ensures { λ r. ⌜ Sieve (now (table .exit)) (now (values .exit)) (now (marks .exit)) r ⌝ }
+{
+    let more = add_part(table, heads, links, values, marks, n, most, v, choice);
+    build_sieve::extend(table, n, more, values, marks);
+    more
+}
+
+// Row 0, with its index and its sieve.
+fn first_row(
+    table: &mut [u32],
+    heads: &mut [u16],
+    links: &mut [u16],
+    values: &mut [u32],
+    marks: &mut [u8],
+)
+    requires { ⌜ Indexed (now table) (now heads) (now links) 0 × HasRoom (now table) (now links) 1 ⌝ }
+    requires { ⌜ Sieve (now table) (now values) (now marks) 0 × (8 ≤ length (now values)) ⌝ }
+    ensures { λ _. ⌜ Grown (now (table .entry)) (now (table .exit)) (now (heads .exit)) (now (links .exit)) 1 (firstRow ∷ []) ⌝ }
+    ensures { λ _. ⌜ Sieve (now (table .exit)) (now (values .exit)) (now (marks .exit)) 1 ⌝ }
+{
+    build_index::put(table, heads, links, 0, network::FIRST);
+    build_sieve::extend(table, 0, 1, values, marks);
+}
+
 // Row 0 and the rows of the odd parts, in order, and their number. The largest value is kept on the way.
 pub fn add_rows(
     keys: &[u64],
@@ -55,12 +106,14 @@ pub fn add_rows(
     table: &mut [u32],
     heads: &mut [u16],
     links: &mut [u16],
+    values: &mut [u32],
+    marks: &mut [u8],
 ) -> usize
-    requires { ⌜ CanStart (now keys) m (now choices) (now table) (now heads) (now links) ⌝ }
+    requires { ⌜ CanStart (now keys) m (now choices) (now table) (now heads) (now links) (now values) (now marks) ⌝ }
     ensures { λ r. ⌜ Grown (now (table .entry)) (now (table .exit)) (now (heads .exit)) (now (links .exit)) r
         (steps (firstRow ∷ []) (map (partIn (now (choices .entry))) (take m (now (keys .entry))))) ⌝ }
 {
-    build_index::put(table, heads, links, 0, network::FIRST);
+    first_row(table, heads, links, values, marks);
     let mut n: usize = 1;
     let mut most: u32 = 1;
     let mut i: usize = 0;
@@ -68,7 +121,7 @@ pub fn add_rows(
         let key = keys[i];
         let v = build_odd_parts::value_of(key);
         let choice = choices[build_odd_parts::tap_of(key)];
-        n = add_part(table, heads, links, n, most, v, choice);
+        n = take_part(table, heads, links, values, marks, n, most, v, choice);
         most = larger(most, v);
         i += 1;
     }

@@ -1,23 +1,27 @@
 -- Steps 1 to 3 of building, part by part: the rows stay lawful, every part has a row afterwards, and a part brings at most 15 rows.
 -- Assumes nothing.
 use mathlib.Core.Path.{_≡_, refl, sym, ap, _∙_, subst}
-use mathlib.Core.List.{List, [], _∷_, _++_, List·Memᴰ, List·Memᴰ·head, List·Memᴰ·tail, List·Memᴰ·not-nil, List·Memᴰ·cases-cons}
+use mathlib.Core.List.{List, [], _∷_, _++_, List·Memᴰ, List·Memᴰ·head, List·Memᴰ·tail, List·Memᴰ·not-nil, List·Memᴰ·cases-cons, reverse}
 use mathlib.Core.Logic.{_⊎_, inl, inr}
-use Prim.Native.Nat.{ℕ, _+_, _*_, _≤_, _<_}
+use Prim.Native.Nat.{ℕ, _+_, _*_, _-_, _≤_, _<_}
 use native.Mathlib.Numerals.{add-one}
 use native.Mathlib.Omega.{arith}
-use lib.ListN.{length, getD, drop, drop-of-length-le}
+use lib.ListN.{length, getD, drop, drop-of-length-le, length-append}
 use lib.Seq.{drop-cons}
 use Rattle.refusal.specs.Answer.{Place, nowhere, at-place}
 use Rattle.network.specs.declared.Row.{Row}
-use Rattle.build_steps.specs.Parts.{Part}
+use Rattle.signed_digit.specs.Digit.{one, nought, minus-one}
+use Rattle.signed_digit.specs.String.{DigitString}
+use Rattle.signed_digit.specs.Weight.{weight}
+use Rattle.build_steps.specs.Parts.{Part, leastWeight}
 use Rattle.build_steps.specs.Search.{rowWith, Fit, fit, none-fits, firstFit}
-use Rattle.build_steps.specs.Chain.{chosenForm, chained}
+use Rattle.build_steps.specs.Chain.{chosenForm, chained, chainEnd}
 use Rattle.build_steps.specs.Steps.{searched, lookedUp, step, steps}
 use Rattle.build_steps.specs.RowSteps.{Lawful, by-search, HasRow, Growth}
 use Rattle.build_steps.specs.CanBuild.{Buildable}
 use Rattle.build_steps.proofs.FirstFit.{fit-is-first}
-use Rattle.build_steps.proofs.ChosenForm.{chosen-form}
+use Rattle.build_steps.proofs.ChainValue.{weight-reverse}
+use Rattle.build_steps.proofs.ChosenForm.{chosen-form, least-weight}
 use Rattle.build_steps.proofs.Growth.{unchanged, one-row, still, grown-length}
 use Rattle.build_steps.proofs.Chain.{down-grows}
 
@@ -81,6 +85,54 @@ steps-grow rows (p ∷ ps) w b =
     has : Growth rows (step rows p) (p .value) 15 → AllGrown (step rows p) (steps (step rows p) ps) ps → (q : Part) → (q ≡ p) ⊎ List·Memᴰ q ps → HasRow (steps (step rows p) ps) (q .value)
     has g r q (inl e) = r .keeps (q .value) (subst (λ (x : Part). HasRow (step rows p) (x .value)) (sym e) (g .has))
     has g r q (inr m) = r .has q m
+
+-- ---- how many rows: no more than all weights together, besides those that were there
+some-weight : (s : DigitString) → 1 ≤ chainEnd s → 1 ≤ weight s
+unfolding chainEnd
+some-weight [] h = absurd (omega arith)
+some-weight (nought ∷ s) h = omega (arith, some-weight s h)
+some-weight (one ∷ s) h = omega arith
+some-weight (minus-one ∷ s) h = absurd (omega arith)
+
+module _ (rows : List Row) (p : Part) (w : Lawful rows) (b : Buildable p) where
+  abbrev down : DigitString
+  down = reverse (chosenForm (p .value) (p .choice))
+
+  down-ends : chainEnd down ≡ p .value
+  down-ends = chosen-form (p .value) (p .choice) (b .below) (b .choice) .ends (b .odd)
+
+  down-weighs : weight down ≡ leastWeight (p .value)
+  down-weighs =
+      let c = chosen-form (p .value) (p .choice) (b .below) (b .choice) in
+      weight-reverse (chosenForm (p .value) (p .choice)) ∙ least-weight (p .value) (omega (arith, b .below)) (chosenForm (p .value) (p .choice)) (c .minimal)
+
+  searched-light : (f : Fit) → length (searched f rows p) ≤ length rows + leastWeight (p .value)
+  unfolding searched chained
+  searched-light (fit r) = omega (arith, some-weight down (omega (arith, down-ends, b .odd)), down-weighs, length-append rows (r ∷ []))
+  searched-light none-fits =
+      let g = down-grows rows down (p .value) w down-ends (omega (arith, b .odd)) (b .below) in
+      omega (arith, grown-length (weight down - 1) g, down-weighs)
+
+  looked-up-light : (q : Place) → length (lookedUp q rows p) ≤ length rows + leastWeight (p .value)
+  unfolding lookedUp
+  looked-up-light (at-place i) = omega arith
+  looked-up-light nowhere = searched-light (firstFit rows (p .value))
+
+  step-light : length (step rows p) ≤ length rows + leastWeight (p .value)
+  unfolding step
+  step-light = looked-up-light (rowWith rows (p .value))
+
+-- the weights of some odd parts together
+unfoldable pub partWeights : List Part → ℕ
+partWeights [] = 0
+partWeights (p ∷ ps) = leastWeight (p .value) + partWeights ps
+
+pub steps-light : (rows : List Row) (ps : List Part) → Lawful rows → ((p : Part) → List·Memᴰ p ps → Buildable p) → length (steps rows ps) ≤ length rows + partWeights ps
+unfolding steps partWeights
+steps-light rows [] w b = omega arith
+steps-light rows (p ∷ ps) w b =
+    let c = b p (List·Memᴰ·head refl) in
+    omega (arith, step-light rows p w c, steps-light (step rows p) ps (step-grows rows p w c .lawful) (λ q m. b q (List·Memᴰ·tail m)))
 
 -- ---- the parts from number i on
 pub steps-next : (rows : List Row) (ps : List Part) (i : ℕ) (d : Part) → i < length ps → steps rows (drop i ps) ≡ steps (step rows (getD ps i d)) (drop (i + 1) ps)

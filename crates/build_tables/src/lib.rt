@@ -5,12 +5,13 @@ ghost use Prim.Native.Nat.{_*_, _≤_};
 ghost use lib.ListN.{length, take};
 ghost use Rattle.network.specs.Rows.{tapWords};
 ghost use Rattle.build_steps.specs.Parts.{partsToBuild};
+ghost use Rattle.build_steps.specs.Steps.{builtRows};
 ghost use Rattle.build_steps.specs.CanBuild.{CanBuildInto};
-ghost use Rattle.build_odd_parts.specs.Inner.{partIn};
+ghost use Rattle.build_odd_parts.specs.Inner.{partIn, Ordered};
 ghost use Rattle.build_rows.specs.Inner.{CanStart};
 ghost use Rattle.build_tables.specs.Inner.{Written};
 
-// Rows and tap rows, with an index that is empty at first.
+// Rows and tap rows, with an index and a sieve that are empty at first.
 fn write_network(
     coefficients: &[i32],
     choices: &[u32],
@@ -20,20 +21,150 @@ fn write_network(
     taps: &mut [u32],
     heads: &mut [u16],
     links: &mut [u16],
+    values: &mut [u32],
+    marks: &mut [u8],
 ) -> usize
-    requires { ⌜ CanStart (now keys) m (now choices) (now rows) (now heads) (now links) ⌝ }
+    requires { ⌜ CanStart (now keys) m (now choices) (now rows) (now heads) (now links) (now values) (now marks) ⌝ }
     requires { ⌜ map (partIn (now choices)) (take m (now keys)) ≡ partsToBuild (now coefficients) (now choices) ⌝ }
     requires { ⌜ tapWords * length (now coefficients) ≤ length (now taps) ⌝ }
     ensures { λ r. ⌜ Written (now (coefficients .entry)) (now (choices .entry)) (now (rows .entry)) (now (taps .entry))
         (now (rows .exit)) (now (taps .exit)) r ⌝ }
 {
-    let n = build_rows::add_rows(keys, m, choices, rows, heads, links);
+    let n = build_rows::add_rows(keys, m, choices, rows, heads, links, values, marks);
     build_tap_rows::write_tap_rows(coefficients, rows, heads, links, n, taps);
     n
 }
 
-// The odd parts in order, and the network. At most 64 odd parts have at most 961 rows, and a small index,
-// since it is cleared first; the others have at most 3,841 rows.
+// The network where it has at most 64 rows, with little to clear.
+fn within_64(
+    coefficients: &[i32],
+    choices: &[u32],
+    keys: &[u64],
+    m: usize,
+    rows: &mut [u32],
+    taps: &mut [u32],
+) -> usize
+    requires { ⌜ CanBuildInto (now coefficients) (now choices) (now rows) (now taps) × Ordered (now coefficients) (now keys) m × (m ≤ length (now keys)) ⌝ }
+    requires { ⌜ length (builtRows (now coefficients) (now choices)) ≤ 64 ⌝ }
+    ensures { λ r. ⌜ Written (now (coefficients .entry)) (now (choices .entry)) (now (rows .entry)) (now (taps .entry))
+        (now (rows .exit)) (now (taps .exit)) r ⌝ }
+{
+    let mut heads = [0u16; 64];
+    let mut links = [0u16; 64];
+    let mut values = [0u32; 72];
+    let mut marks = [0u8; 2048];
+    write_network(
+        coefficients,
+        choices,
+        keys,
+        m,
+        rows,
+        taps,
+        &mut heads,
+        &mut links,
+        &mut values,
+        &mut marks,
+    )
+}
+
+// The same with at most 512 rows.
+fn within_512(
+    coefficients: &[i32],
+    choices: &[u32],
+    keys: &[u64],
+    m: usize,
+    rows: &mut [u32],
+    taps: &mut [u32],
+) -> usize
+    requires { ⌜ CanBuildInto (now coefficients) (now choices) (now rows) (now taps) × Ordered (now coefficients) (now keys) m × (m ≤ length (now keys)) ⌝ }
+    requires { ⌜ length (builtRows (now coefficients) (now choices)) ≤ 512 ⌝ }
+    ensures { λ r. ⌜ Written (now (coefficients .entry)) (now (choices .entry)) (now (rows .entry)) (now (taps .entry))
+        (now (rows .exit)) (now (taps .exit)) r ⌝ }
+{
+    let mut heads = [0u16; 512];
+    let mut links = [0u16; 512];
+    let mut values = [0u32; 520];
+    let mut marks = [0u8; 8192];
+    write_network(
+        coefficients,
+        choices,
+        keys,
+        m,
+        rows,
+        taps,
+        &mut heads,
+        &mut links,
+        &mut values,
+        &mut marks,
+    )
+}
+
+// The same with at most 3,072 rows.
+fn within_3072(
+    coefficients: &[i32],
+    choices: &[u32],
+    keys: &[u64],
+    m: usize,
+    rows: &mut [u32],
+    taps: &mut [u32],
+) -> usize
+    requires { ⌜ CanBuildInto (now coefficients) (now choices) (now rows) (now taps) × Ordered (now coefficients) (now keys) m × (m ≤ length (now keys)) ⌝ }
+    requires { ⌜ length (builtRows (now coefficients) (now choices)) ≤ 3072 ⌝ }
+    ensures { λ r. ⌜ Written (now (coefficients .entry)) (now (choices .entry)) (now (rows .entry)) (now (taps .entry))
+        (now (rows .exit)) (now (taps .exit)) r ⌝ }
+{
+    let mut heads = [0u16; 4096];
+    let mut links = [0u16; 3072];
+    let mut values = [0u32; 3080];
+    let mut marks = [0u8; 32768];
+    write_network(
+        coefficients,
+        choices,
+        keys,
+        m,
+        rows,
+        taps,
+        &mut heads,
+        &mut links,
+        &mut values,
+        &mut marks,
+    )
+}
+
+// The same with at most 3,841 rows, which is all that there can be. Half of the heads are left out, so
+// that no more than 64 KB of stack are needed.
+fn within_3841(
+    coefficients: &[i32],
+    choices: &[u32],
+    keys: &[u64],
+    m: usize,
+    rows: &mut [u32],
+    taps: &mut [u32],
+) -> usize
+    requires { ⌜ CanBuildInto (now coefficients) (now choices) (now rows) (now taps) × Ordered (now coefficients) (now keys) m × (m ≤ length (now keys)) ⌝ }
+    requires { ⌜ length (builtRows (now coefficients) (now choices)) ≤ 3841 ⌝ }
+    ensures { λ r. ⌜ Written (now (coefficients .entry)) (now (choices .entry)) (now (rows .entry)) (now (taps .entry))
+        (now (rows .exit)) (now (taps .exit)) r ⌝ }
+{
+    let mut heads = [0u16; 2048];
+    let mut links = [0u16; 3841];
+    let mut values = [0u32; 3848];
+    let mut marks = [0u8; 32768];
+    write_network(
+        coefficients,
+        choices,
+        keys,
+        m,
+        rows,
+        taps,
+        &mut heads,
+        &mut links,
+        &mut values,
+        &mut marks,
+    )
+}
+
+// The odd parts in order, and the network, with an index and a sieve as large as the rows can need.
 pub fn build_accepted(
     coefficients: &[i32],
     choices: &[u32],
@@ -46,31 +177,15 @@ pub fn build_accepted(
 {
     let mut keys = [0u64; 256];
     let m = build_odd_parts::order(coefficients, &mut keys);
-    if m <= 64 {
-        let mut heads = [0u16; 1024];
-        let mut links = [0u16; 1024];
-        write_network(
-            coefficients,
-            choices,
-            &keys,
-            m,
-            rows,
-            taps,
-            &mut heads,
-            &mut links,
-        )
-    } else {
-        let mut heads = [0u16; 131072];
-        let mut links = [0u16; 4096];
-        write_network(
-            coefficients,
-            choices,
-            &keys,
-            m,
-            rows,
-            taps,
-            &mut heads,
-            &mut links,
-        )
+    let most = 1 + build_odd_parts::total_weight(&keys, m);
+    if most <= 64 {
+        return within_64(coefficients, choices, &keys, m, rows, taps);
     }
+    if most <= 512 {
+        return within_512(coefficients, choices, &keys, m, rows, taps);
+    }
+    if most <= 3072 {
+        return within_3072(coefficients, choices, &keys, m, rows, taps);
+    }
+    within_3841(coefficients, choices, &keys, m, rows, taps)
 }

@@ -14,24 +14,25 @@ use Rattle.build_steps.specs.Search.{none-fits, fitAtLeft}
 use Rattle.build_index.specs.Inner.{valueAt}
 use Rattle.build_pair.specs.Inner.{fitOf}
 use Rattle.build_pair.proofs.Shifts.{Trying, try-first, few-shifts, try-next, left-none, left-first, fit-none, fit-first}
+use Rattle.build_pair.proofs.Lefts.{sifting, left-fits-none}
 use Rattle.build_pair.proofs.first_fit.Statement.{statement}
 use Rattle.build_pair.proofs.first_fit.Tie as tie
 
 abbrev Inv-loop : tie.InvT-loop
-Inv-loop table heads links n most v limit i left value a₀ s₀ a s = Trying table n v left s a
+Inv-loop table heads links values marks n most v limit i left value a₀ s₀ a s = Trying table n v left s a
 
 abbrev μ-loop : tie.MeasureT-loop
-μ-loop table heads links n most v limit i left value a₀ s₀ a s = 33 - s
+μ-loop table heads links values marks n most v limit i left value a₀ s₀ a s = 33 - s
 
 abbrev Inv-search : tie.InvT-search
-Inv-search table heads links n most v limit i₀ i = (i ≤ n) × ((k : ℕ) → k < i → fitAtLeft (rowsOf table n) v k ≡ none-fits)
+Inv-search table heads links values marks n most v limit i₀ i = (i ≤ n) × ((k : ℕ) → k < i → fitAtLeft (rowsOf table n) v k ≡ none-fits)
 
 abbrev μ-search : tie.MeasureT-search
-μ-search table heads links n most v limit i₀ i = n - i
+μ-search table heads links values marks n most v limit i₀ i = n - i
 
 -- the places on the way
 abbrev start : tie.At-search Inv-loop μ-loop Inv-search μ-search → tie.Start Inv-loop μ-loop Inv-search μ-search
-start c = c .before .before .before .before .before
+start c = c .before .before .before .before .before .before .before
 
 abbrev at-search : tie.At-loop Inv-loop μ-loop Inv-search μ-search → tie.At-search Inv-loop μ-loop Inv-search μ-search
 at-search c = c .before .before .before .before
@@ -43,30 +44,36 @@ left-within c =
     omega (arith, after-narrow .narrow .ensures)
 
 below-word : (c : tie.In-loop Inv-loop μ-loop Inv-search μ-search) → c .before .loop .a < 2 ^ 32
-below-word c = let s = start (at-search (c .before)) in omega (arith, c .loop-test .taken, s .pre .small, s .pre .new-small)
+below-word c = let s = start (at-search (c .before)) in omega (arith, c .loop-test .taken, s .pre .0 .small, s .pre .0 .new-small)
 
 add-limit : tie.Need-add-limit Inv-loop μ-loop Inv-search μ-search
 add-limit c =
-    let at-start = c .before .before .before in
-    omega (arith, at-start .pre .small, at-start .pre .new-small)
+    let at-start = c .before .before .before .before .before in
+    omega (arith, at-start .pre .0 .small, at-start .pre .0 .new-small)
 
 lowest-left-requires : tie.Need-lowest-left-requires Inv-loop μ-loop Inv-search μ-search
-lowest-left-requires c κs = search needs
+lowest-left-requires c κs =
+    let at-start = c .before .before .before .before .before in
+    let args = at-start .args in
+    sifting (args .table .now) (args .heads .now) (args .links .now) (args .values .now) (args .marks .now) (args .n) (args .most) (args .v) (at-start .pre .0) (at-start .pre .1)
 
 search-holds : tie.Need-search-holds Inv-loop μ-loop Inv-search μ-search
-search-holds c = c .lowest-left .ensures
+search-holds c =
+    let args = c .before .before .before .before .before .before .args in
+    let low = c .lowest-left in
+    (low .ensures .0, left-fits-none (args .table .now) (args .n) (low .result) (args .v) (low .ensures .0) (low .ensures .1))
 
 narrow-requires : tie.Need-narrow-requires Inv-loop μ-loop Inv-search μ-search
 narrow-requires c κs =
     let at-search = c .before in
     let at-start = start at-search in
-    omega (arith, at-start .pre .index .few)
+    omega (arith, at-start .pre .0 .index .few)
 
 read-value-requires : tie.Need-read-value-requires Inv-loop μ-loop Inv-search μ-search
 read-value-requires c κs =
     let at-search = c .before .before in
     let at-start = start at-search in
-    omega (arith, at-start .pre .index .room)
+    omega (arith, at-start .pre .0 .index .room)
 
 cast-a : tie.Need-cast-a Inv-loop μ-loop Inv-search μ-search
 cast-a c = search needs
@@ -89,7 +96,7 @@ at-shift-requires c κs =
     let after-narrow = at-loop .before .before in
     let at-search = after-narrow .before .before in
     let at-start = start at-search in
-    (at-start .pre, record { within = omega (arith, after-narrow .narrow .ensures); is-lifted = at-loop .loop .inv .is-lifted; low = omega (arith, at-start .pre .small, at-start .pre .new-small) })
+    (at-start .pre .0, record { within = omega (arith, after-narrow .narrow .ensures); is-lifted = at-loop .loop .inv .is-lifted; low = omega (arith, at-start .pre .0 .small, at-start .pre .0 .new-small) })
 
 enum-known-row : tie.Need-enum-known-row Inv-loop μ-loop Inv-search μ-search
 enum-known-row c = search needs
@@ -114,7 +121,7 @@ loop-less c =
     let after-narrow = at-loop .before .before in
     let at-start = start (at-search at-loop) in
     let args = at-start .args in
-    omega (arith, few-shifts (args .table .now) (args .heads .now) (args .links .now) (args .n) (args .most) (args .v) (at-start .pre) (after-narrow .narrow .result) (left-within at-loop) (at-loop .loop .s) (at-loop .loop .a) (at-loop .loop .inv) (below-word in-loop))
+    omega (arith, few-shifts (args .table .now) (args .heads .now) (args .links .now) (args .n) (args .most) (args .v) (at-start .pre .0) (after-narrow .narrow .result) (left-within at-loop) (at-loop .loop .s) (at-loop .loop .a) (at-loop .loop .inv) (below-word in-loop))
 
 loop-again : tie.Need-loop-again Inv-loop μ-loop Inv-search μ-search
 loop-again c =
@@ -124,7 +131,7 @@ loop-again c =
     let after-narrow = at-loop .before .before in
     let at-start = start (at-search at-loop) in
     let args = at-start .args in
-    try-next (args .table .now) (args .heads .now) (args .links .now) (args .n) (args .most) (args .v) (at-start .pre) (after-narrow .narrow .result) (left-within at-loop) (at-loop .loop .s) (at-loop .loop .a) (at-loop .loop .inv) (below-word in-loop)
+    try-next (args .table .now) (args .heads .now) (args .links .now) (args .n) (args .most) (args .v) (at-start .pre .0) (after-narrow .narrow .result) (left-within at-loop) (at-loop .loop .s) (at-loop .loop .a) (at-loop .loop .inv) (below-word in-loop)
     (sym (after-at-shift .at-shift .ensures) ∙ ap fitOf (c .enum-told .given .1))
 
 add-i : tie.Need-add-i Inv-loop μ-loop Inv-search μ-search
@@ -144,7 +151,7 @@ search-again c =
       omega arith,
       below-more (λ k. fitAtLeft (rowsOf (args .table .now) (args .n)) (args .v) k ≡ none-fits) (r .search .i) (r .search .inv .1)
           (ap (fitAtLeft (rowsOf (args .table .now) (args .n)) (args .v)) (sym (left .ensures))
-          ∙ left-none (args .table .now) (args .heads .now) (args .links .now) (args .n) (args .most) (args .v) (at-start .pre) (left .result) (left-within at-loop) (at-loop .loop .s) (at-loop .loop .a) (at-loop .loop .inv) (omega (arith, c .loop-test .left))),
+          ∙ left-none (args .table .now) (args .heads .now) (args .links .now) (args .n) (args .most) (args .v) (at-start .pre .0) (left .result) (left-within at-loop) (at-loop .loop .s) (at-loop .loop .a) (at-loop .loop .inv) (omega (arith, c .loop-test .left))),
     )
 
 returns : tie.Need-returns Inv-loop μ-loop Inv-search μ-search
@@ -169,7 +176,7 @@ returns-2 c =
     sym
     (fit-first (args .table .now) (args .n) (args .v) (r .search .i) (r .search .inv .1) row (omega arith)
     (ap (fitAtLeft (rowsOf (args .table .now) (args .n)) (args .v)) (sym (left .ensures))
-    ∙ left-first (args .table .now) (args .heads .now) (args .links .now) (args .n) (args .most) (args .v) (at-start .pre) (left .result) (left-within at-loop) (at-loop .loop .s) (at-loop .loop .a) (at-loop .loop .inv) (below-word in-loop) row
+    ∙ left-first (args .table .now) (args .heads .now) (args .links .now) (args .n) (args .most) (args .v) (at-start .pre .0) (left .result) (left-within at-loop) (at-loop .loop .s) (at-loop .loop .a) (at-loop .loop .inv) (below-word in-loop) row
     (sym (after-at-shift .at-shift .ensures) ∙ ap fitOf (after-row .row .given .1))))
 
 pub first-fit-spec : {M : Type 1} → statement M

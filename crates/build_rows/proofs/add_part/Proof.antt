@@ -26,7 +26,7 @@ use Rattle.build_rows.proofs.add_part.Tie as tie
 
 -- the places on the way, and what is known of the part there
 abbrev start : tie.After-find → tie.Start
-start c = c .before .before .before .before .before .before .before
+start c = c .before .before .before .before .before .before .before .before .before
 
 abbrev unfound : tie.After-first-fit → tie.After-enum-told2
 unfound c = c .before .before .before .before
@@ -71,7 +71,7 @@ first-fit-requires c κs =
     let after-enum-told2 = c .before .before .before in
     let s = entry after-enum-told2 in
     let a = s .args in
-    searchable (a .table .now) (a .heads .now) (a .links .now) (a .n) (a .most) (part s) (s .pre) (missing after-enum-told2)
+    (searchable (a .table .now) (a .heads .now) (a .links .now) (a .values .now) (a .marks .now) (a .n) (a .most) (part s) (s .pre) (missing after-enum-told2), s .pre .sieve)
 
 enum-known-row : tie.Need-enum-known-row
 enum-known-row c = search needs
@@ -84,9 +84,9 @@ put-requires c κs =
     let s = entry u in
     let a = s .args in
     let row = after-row .row .given .0 .0 in
-    let e = fit-length (a .table .now) (a .heads .now) (a .links .now) (a .n) (a .most) (part s) (s .pre) (missing u) row (fits after-row) in
+    let e = fit-length (a .table .now) (a .heads .now) (a .links .now) (a .values .now) (a .marks .now) (a .n) (a .most) (part s) (s .pre) (missing u) row (fits after-row) in
     let r = s .pre .room in
-    (s .pre .index, ((omega (arith, e, r .few), omega (arith, e, r .words), omega (arith, e, r .linked)), fit-new (a .table .now) (a .heads .now) (a .links .now) (a .n) (a .most) (part s) (s .pre) (missing u) row (fits after-row)))
+    (s .pre .index, ((omega (arith, e, r .few), omega (arith, e, r .words), omega (arith, e, r .linked)), fit-new (a .table .now) (a .heads .now) (a .links .now) (a .values .now) (a .marks .now) (a .n) (a .most) (part s) (s .pre) (missing u) row (fits after-row)))
 
 add-result : tie.Need-add-result
 add-result c = search needs
@@ -109,7 +109,7 @@ chain c =
     let u = unfound after-first-fit in
     let s = entry u in
     let a = s .args in
-    ap (λ (x : Form). chained (rows s) (stringOf x)) (c .chosen-form .ensures) ∙ chain-added (a .table .now) (a .heads .now) (a .links .now) (a .n) (a .most) (part s) (s .pre) (missing u) (none after-enum-told3)
+    ap (λ (x : Form). chained (rows s) (stringOf x)) (c .chosen-form .ensures) ∙ chain-added (a .table .now) (a .heads .now) (a .links .now) (a .values .now) (a .marks .now) (a .n) (a .most) (part s) (s .pre) (missing u) (none after-enum-told3)
 
 add-chain-requires : tie.Need-add-chain-requires
 add-chain-requires c κs =
@@ -117,7 +117,7 @@ add-chain-requires c κs =
     let after-first-fit = after-chosen-form .before .before .before in
     let s = entry (unfound after-first-fit) in
     let a = s .args in (
-      (s .pre .index, subst (λ (x : Form). Readable x (rows s)) (sym (after-chosen-form .chosen-form .ensures)) (readable (a .table .now) (a .heads .now) (a .links .now) (a .n) (a .most) (part s) (s .pre))),
+      (s .pre .index, subst (λ (x : Form). Readable x (rows s)) (sym (after-chosen-form .chosen-form .ensures)) (readable (a .table .now) (a .heads .now) (a .links .now) (a .values .now) (a .marks .now) (a .n) (a .most) (part s) (s .pre))),
       subst (λ (x : List Row). HasRoom (a .table .now) (a .links .now) (length x)) (sym (chain after-chosen-form)) (s .pre .room),
     )
 
@@ -136,7 +136,7 @@ returns c =
     let at-start = start after-find in
     let args = at-start .args in
     let e = sym (after-find .find .ensures) ∙ ap foundAt (c .enum-told .given .1) in
-    subst (Grown (args .table .now) (args .table .now) (args .heads .now) (args .links .now) (args .n)) (row-used (args .table .now) (args .heads .now) (args .links .now) (args .n) (args .most) (part at-start) (at-start .pre) (c .enum-told .given .0 .0) e) (grown-none (args .table .now) (args .heads .now) (args .links .now) (args .n) (at-start .pre .index))
+    subst (Grown (args .table .now) (args .table .now) (args .heads .now) (args .links .now) (args .n)) (row-used (args .table .now) (args .heads .now) (args .links .now) (args .values .now) (args .marks .now) (args .n) (args .most) (part at-start) (at-start .pre) (c .enum-told .given .0 .0) e) (grown-none (args .table .now) (args .heads .now) (args .links .now) (args .n) (at-start .pre .index))
 
 same-length-4 : tie.Need-same-length-4
 same-length-4 c = search needs
@@ -156,7 +156,7 @@ returns-2 c =
     let u = unfound after-first-fit in
     let s = entry u in
     let a = s .args in
-    subst (Grown (a .table .now) (after-put .put .last .0) (after-put .put .last .1 .0) (after-put .put .last .1 .1 .0) (a .n + 1)) (fit-added (a .table .now) (a .heads .now) (a .links .now) (a .n) (a .most) (part s) (s .pre) (missing u) (after-row .row .given .0 .0) (fits after-row)) (after-put .put .ensures)
+    subst (Grown (a .table .now) (after-put .put .last .0) (after-put .put .last .1 .0) (after-put .put .last .1 .1 .0) (a .n + 1)) (fit-added (a .table .now) (a .heads .now) (a .links .now) (a .values .now) (a .marks .now) (a .n) (a .most) (part s) (s .pre) (missing u) (after-row .row .given .0 .0) (fits after-row)) (after-put .put .ensures)
 
 same-length-7 : tie.Need-same-length-7
 same-length-7 c = search needs

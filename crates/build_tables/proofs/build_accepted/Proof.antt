@@ -1,15 +1,12 @@
--- `build_tables::build_accepted` meets its contract. What can be built and the keys in order say which parts are built, that each can be, and that at most 15 rows
--- are added for each; an array of zeros is an empty index. Assumes nothing.
+-- `build_tables::build_accepted` meets its contract. What can be built and the keys in order say which parts are built, that each can be, and that there
+-- are at most as many rows besides row 0 as the weights of all odd parts together. Assumes nothing.
 use borrow.Author.Needs.{needs}
-use mathlib.Core.Path.{_≡_, refl}
-use Prim.Native.Nat.{ℕ, _≤_}
-use native.Mathlib.Nat.{le-trans}
+use Prim.Native.Nat.{_+_, _≤_}
 use native.Mathlib.Omega.{arith}
-use lib.Dec.{lit<, lit≤}
-use lib.ListN.{length, replicate}
+use mathlib.Core.Path.{_≡_}
+use lib.ListN.{length}
 use Rattle.build_steps.specs.Steps.{builtRows}
-use Rattle.build_index.proofs.Empty.{indexed-none}
-use Rattle.build_tables.proofs.Plans.{parts-ordered, rows-few, fifteen-each, can-start}
+use Rattle.build_tables.proofs.Plans.{rows-few, rows-weighed}
 use Rattle.build_tables.proofs.build_accepted.Statement.{statement}
 use Rattle.build_tables.proofs.build_accepted.Tie as tie
 
@@ -18,9 +15,17 @@ start c = c .before .before .before .before .before
 
 keyed : (c : tie.After-order) → c .order .result ≤ length (c .order .last .1 .0)
 keyed c =
-    let at-start = c .before .before .before .before .before in
+    let at-start = start c in
     let l : length (c .order .last .1 .0) ≡ 256 = c .order .kept .1 .0 in
     omega (arith, c .order .ensures .few, at-start .pre .can-build .few, l)
+
+-- row 0, and as many rows as the weights together
+weighed : (c : tie.After-total-weight) → length (builtRows (start (c .before .before .before) .args .coefficients .now) (start (c .before .before .before) .args .choices .now)) ≤ 1 + c .total-weight .result
+weighed c =
+    let after-order = c .before .before .before in
+    let at-start = start after-order in
+    let a = at-start .args in
+    omega (arith, c .total-weight .ensures .0, rows-weighed (a .coefficients .now) (a .choices .now) (a .rows .now) (a .taps .now) (after-order .order .last .1 .0) (after-order .order .result) (at-start .pre) (after-order .order .ensures) (keyed after-order))
 
 slice-aggregate-order : tie.Need-slice-aggregate-order
 slice-aggregate-order c = search needs
@@ -28,55 +33,26 @@ slice-aggregate-order c = search needs
 order-requires : tie.Need-order-requires
 order-requires c κs = search needs
 
-slice-aggregate-write-network : tie.Need-slice-aggregate-write-network
-slice-aggregate-write-network c = search needs
+slice-aggregate-total-weight : tie.Need-slice-aggregate-total-weight
+slice-aggregate-total-weight c = search needs
 
-slice-aggregate-write-network-2 : tie.Need-slice-aggregate-write-network-2
-slice-aggregate-write-network-2 c = search needs
+total-weight-requires : tie.Need-total-weight-requires
+total-weight-requires c κs =
+    let after-order = c .before .before in
+    (keyed after-order, omega (arith, after-order .order .ensures .few, start after-order .pre .can-build .few))
 
-slice-aggregate-write-network-3 : tie.Need-slice-aggregate-write-network-3
-slice-aggregate-write-network-3 c = search needs
+add-most : tie.Need-add-most
+add-most c = omega (arith, c .total-weight .ensures .1)
 
-write-network-requires : tie.Need-write-network-requires
-write-network-requires c κs =
-    let in-then-1 = c .before .before .before .before .before in
-    let after-order = in-then-1 .before .before in
-    let at-start = after-order .before .before .before .before .before in
-    let args = at-start .args in
-    let keys = after-order .order .last .1 .0 in
-    let few : length (builtRows (args .coefficients .now) (args .choices .now)) ≤ 961 = omega (arith, fifteen-each (args .coefficients .now) (args .choices .now) (args .rows .now) (args .taps .now) keys (after-order .order .result) (at-start .pre) (after-order .order .ensures) (keyed after-order), in-then-1 .if1 .taken) in (
-      can-start (args .coefficients .now) (args .choices .now) (args .rows .now) (args .taps .now) keys (after-order .order .result) (at-start .pre) (after-order .order .ensures) (keyed after-order)
-          (replicate {A = ℕ} 1024 0) _ (indexed-none (args .rows .now) (replicate {A = ℕ} 1024 0) _ 1024 refl (lit< tt)) (le-trans few (lit≤ tt)),
-      (
-        parts-ordered (args .coefficients .now) (args .choices .now) (args .rows .now) (args .taps .now) keys (after-order .order .result) (at-start .pre) (after-order .order .ensures) (keyed after-order),
-        omega (arith, at-start .pre .taps-long, at-start .pre .can-build .few),
-      ),
-    )
+slice-aggregate-within-64 : tie.Need-slice-aggregate-within-64
+slice-aggregate-within-64 c = search needs
 
-slice-aggregate-write-network-4 : tie.Need-slice-aggregate-write-network-4
-slice-aggregate-write-network-4 c = search needs
-
-slice-aggregate-write-network-5 : tie.Need-slice-aggregate-write-network-5
-slice-aggregate-write-network-5 c = search needs
-
-slice-aggregate-write-network-6 : tie.Need-slice-aggregate-write-network-6
-slice-aggregate-write-network-6 c = search needs
-
-write-network-requires-2 : tie.Need-write-network-requires-2
-write-network-requires-2 c κs =
-    let after-keys4 = c .before .before .before .before in
-    let after-order = after-keys4 .before .before .before in
-    let at-start = after-order .before .before .before .before .before in
-    let args = at-start .args in
-    let keys = after-order .order .last .1 .0 in
-    let few = rows-few (args .coefficients .now) (args .choices .now) (args .rows .now) (args .taps .now) keys (after-order .order .result) (at-start .pre) (after-order .order .ensures) (keyed after-order) in (
-      can-start (args .coefficients .now) (args .choices .now) (args .rows .now) (args .taps .now) keys (after-order .order .result) (at-start .pre) (after-order .order .ensures) (keyed after-order)
-          (replicate {A = ℕ} 131072 0) _ (indexed-none (args .rows .now) (replicate {A = ℕ} 131072 0) _ 131072 refl (lit< tt)) (le-trans few (lit≤ tt)),
-      (
-        parts-ordered (args .coefficients .now) (args .choices .now) (args .rows .now) (args .taps .now) keys (after-order .order .result) (at-start .pre) (after-order .order .ensures) (keyed after-order),
-        omega (arith, at-start .pre .taps-long, at-start .pre .can-build .few),
-      ),
-    )
+within-64-requires : tie.Need-within-64-requires
+within-64-requires c κs =
+    let in-then = c .before .before .before in
+    let after-total-weight = in-then .before in
+    let after-order = after-total-weight .before .before .before in
+    ((start after-order .pre, after-order .order .ensures, keyed after-order), omega (arith, weighed after-total-weight, in-then .if1 .taken))
 
 same-length : tie.Need-same-length
 same-length c = search needs
@@ -87,6 +63,16 @@ same-length-2 c = search needs
 returns : tie.Need-returns
 returns c = search needs
 
+slice-aggregate-within-512 : tie.Need-slice-aggregate-within-512
+slice-aggregate-within-512 c = search needs
+
+within-512-requires : tie.Need-within-512-requires
+within-512-requires c κs =
+    let in-then = c .before .before .before in
+    let after-total-weight = in-then .before .before in
+    let after-order = after-total-weight .before .before .before in
+    ((start after-order .pre, after-order .order .ensures, keyed after-order), omega (arith, weighed after-total-weight, in-then .if2 .taken))
+
 same-length-3 : tie.Need-same-length-3
 same-length-3 c = search needs
 
@@ -96,23 +82,70 @@ same-length-4 c = search needs
 returns-2 : tie.Need-returns-2
 returns-2 c = search needs
 
+slice-aggregate-within-3072 : tie.Need-slice-aggregate-within-3072
+slice-aggregate-within-3072 c = search needs
+
+within-3072-requires : tie.Need-within-3072-requires
+within-3072-requires c κs =
+    let in-then = c .before .before .before in
+    let after-total-weight = in-then .before .before .before in
+    let after-order = after-total-weight .before .before .before in
+    ((start after-order .pre, after-order .order .ensures, keyed after-order), omega (arith, weighed after-total-weight, in-then .if3 .taken))
+
+same-length-5 : tie.Need-same-length-5
+same-length-5 c = search needs
+
+same-length-6 : tie.Need-same-length-6
+same-length-6 c = search needs
+
+returns-3 : tie.Need-returns-3
+returns-3 c = search needs
+
+slice-aggregate-within-3841 : tie.Need-slice-aggregate-within-3841
+slice-aggregate-within-3841 c = search needs
+
+within-3841-requires : tie.Need-within-3841-requires
+within-3841-requires c κs =
+    let after-order = c .before .before .before .before .before .before .before .before .before in
+    let at-start = start after-order in
+    let a = at-start .args in
+    ((at-start .pre, after-order .order .ensures, keyed after-order), rows-few (a .coefficients .now) (a .choices .now) (a .rows .now) (a .taps .now) (after-order .order .last .1 .0) (after-order .order .result) (at-start .pre) (after-order .order .ensures) (keyed after-order))
+
+same-length-7 : tie.Need-same-length-7
+same-length-7 c = search needs
+
+same-length-8 : tie.Need-same-length-8
+same-length-8 c = search needs
+
+returns-4 : tie.Need-returns-4
+returns-4 c = search needs
+
 pub build-accepted-spec : {M : Type 1} → statement M
 build-accepted-spec =
     tie.close
     (tie.spec
     slice-aggregate-order
     order-requires
-    slice-aggregate-write-network
-    slice-aggregate-write-network-2
-    slice-aggregate-write-network-3
-    write-network-requires
-    slice-aggregate-write-network-4
-    slice-aggregate-write-network-5
-    slice-aggregate-write-network-6
-    write-network-requires-2
+    slice-aggregate-total-weight
+    total-weight-requires
+    add-most
+    slice-aggregate-within-64
+    within-64-requires
     same-length
     same-length-2
     returns
+    slice-aggregate-within-512
+    within-512-requires
     same-length-3
     same-length-4
-    returns-2)
+    returns-2
+    slice-aggregate-within-3072
+    within-3072-requires
+    same-length-5
+    same-length-6
+    returns-3
+    slice-aggregate-within-3841
+    within-3841-requires
+    same-length-7
+    same-length-8
+    returns-4)

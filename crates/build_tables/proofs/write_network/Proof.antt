@@ -5,21 +5,17 @@ use Rattle.build_tables.proofs.write_network.Statement.{statement}
 use Rattle.build_tables.proofs.write_network.Tie as tie
 
 abbrev start : tie.After-add-rows → tie.Start
-start c = c .before .before .before .before .before .before .before .before .before .before
+start c = c .before .before .before .before .before .before .before .before .before .before .before .before .before .before
 
 add-rows-requires : tie.Need-add-rows-requires
 add-rows-requires c κs =
-    let after-add-rows-arg = c .before .before in
-    let at-start = after-add-rows-arg .before .before .before .before .before .before .before in
+    let at-start = c .before .before .before .before .before .before .before .before .before .before .before .before .before in
     at-start .pre .0
 
 write-tap-rows-requires : tie.Need-write-tap-rows-requires
 write-tap-rows-requires c κs =
-    let after-links = c .before .before .before .before .before in
-    let after-add-rows = after-links .before .before .before .before .before in
-    let after-add-rows-arg = after-add-rows .before .before .before in
-    let at-start = after-add-rows-arg .before .before .before .before .before .before .before in
-    (after-add-rows .add-rows .ensures .index, at-start .pre .1 .1)
+    let after-add-rows = c .before .before .before .before .before .before .before .before .before .before .before .before .before .before in
+    (after-add-rows .add-rows .ensures .index, start after-add-rows .pre .1 .1)
 
 same-length : tie.Need-same-length
 same-length c = search needs
@@ -33,14 +29,17 @@ same-length-3 c = search needs
 same-length-4 : tie.Need-same-length-4
 same-length-4 c = search needs
 
+same-length-5 : tie.Need-same-length-5
+same-length-5 c = search needs
+
+same-length-6 : tie.Need-same-length-6
+same-length-6 c = search needs
+
 returns : tie.Need-returns
 returns c =
     let after-write-tap-rows = c .before .before in
-    let after-write-tap-rows-arg = after-write-tap-rows .before .before .before .before in
-    let after-heads = after-write-tap-rows-arg .before .before .before .before in
-    let after-add-rows = after-heads .before .before .before in
-    let after-add-rows-arg = after-add-rows .before .before .before in
-    let at-start = after-add-rows-arg .before .before .before .before .before .before .before in
+    let after-add-rows = after-write-tap-rows .before .before .before .before .before .before .before .before .before .before .before .before .before .before .before in
+    let at-start = start after-add-rows in
     let args = at-start .args in
     let add-rows = after-add-rows .add-rows in
     written (args .coefficients .now) (args .choices .now) (args .keys .now) (args .m) (at-start .pre .1 .0) (args .rows .now) (args .taps .now)
@@ -56,4 +55,6 @@ write-network-spec =
     same-length-2
     same-length-3
     same-length-4
+    same-length-5
+    same-length-6
     returns)

@@ -1,4 +1,4 @@
--- `build_pair::left_rows::lower` meets its contract. Assumes nothing.
+-- `build_left_rows::lower` meets its contract. Assumes nothing.
 use mathlib.Core.Path.{_≡_, sym, ap, _∙_}
 use mathlib.Core.List.{List}
 use Prim.Native.Nat.{ℕ, _<_}
@@ -9,8 +9,8 @@ use Rattle.network.specs.Rows.{rowsOf}
 use Rattle.build_steps.specs.Search.{rowWith}
 use Rattle.build_index.specs.Inner.{valueAt, Indexed, foundAt}
 use Rattle.build_index.proofs.Values.{row-found, row-missing}
-use Rattle.build_pair.proofs.left_rows.lower.Statement.{statement}
-use Rattle.build_pair.proofs.left_rows.lower.Tie as tie
+use Rattle.build_left_rows.proofs.lower.Statement.{statement}
+use Rattle.build_left_rows.proofs.lower.Tie as tie
 
 -- no row before the one that has the value
 before-found : (t heads links : List ℕ) (n x k : ℕ) → Indexed t heads links n → rowWith (rowsOf t n) x ≡ at-place k → (i : ℕ) → i < k → valueAt t i ≡ x → ⊥

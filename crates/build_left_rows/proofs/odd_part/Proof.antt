@@ -1,8 +1,8 @@
--- `build_pair::left_rows::odd_part` meets its contract. Assumes nothing.
+-- `build_left_rows::odd_part` meets its contract. Assumes nothing.
 use Rattle.word.proofs.LowZeros.{zeros-below}
-use Rattle.build_pair.proofs.OddPart.{odd-part-is}
-use Rattle.build_pair.proofs.left_rows.odd_part.Statement.{statement}
-use Rattle.build_pair.proofs.left_rows.odd_part.Tie as tie
+use Rattle.build_left_rows.proofs.OddPart.{odd-part-is}
+use Rattle.build_left_rows.proofs.odd_part.Statement.{statement}
+use Rattle.build_left_rows.proofs.odd_part.Tie as tie
 
 shr-result : tie.Need-shr-result
 shr-result c = zeros-below 32 (c .args .x) (c .fits .x .fits) (c .pre)

@@ -1,0 +1,4 @@
+pub mod Lefts
+pub mod NamedRows
+pub mod OddPart
+pub mod Sifted

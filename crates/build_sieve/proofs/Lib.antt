@@ -1,0 +1,4 @@
+pub mod Cells
+pub mod Differences
+pub mod MaskDigits
+pub mod Sieves
