@@ -22,11 +22,11 @@
  *   stack: fir_reduce             64
  *   stack: fir_trimmed            64
  *   stack: fir_form_value         64
- *   stack: fir_form_weight       384
+ *   stack: fir_form_weight       320
  *   stack: fir_canonical          64
  *   stack: fir_minimal_forms     128
  *   stack: fir_form_count         64
- *   stack: fir_build          285632
+ *   stack: fir_build           65344
  *   stack: fir_check            1216
  *   stack: fir_coefficients     1280
  *   stack: fir_run              7744 */

@@ -152,7 +152,7 @@ fn lower_block(
             differences,
             k,
         );
-        if low < (n - at) / 8 {
+        if low < (n - at) / 16 {
             return 0;
         }
         k += 8;

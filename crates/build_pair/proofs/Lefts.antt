@@ -1,7 +1,7 @@
 -- The left rows that no right row goes with. Assumes nothing.
 use mathlib.Core.Path.{_≡_, refl, sym}
 use mathlib.Core.List.{List}
-use Prim.Native.Nat.{ℕ, suc, _+_, _-_, _%_, _≤_, _<_}
+use Prim.Native.Nat.{ℕ, suc, _-_, _≤_, _<_}
 use native.Mathlib.Omega.{arith}
 use Rattle.network.specs.Rows.{rowsOf}
 use Rattle.network.specs.RowRule.{lifted}

@@ -19,7 +19,7 @@ use Rattle.build_sieve.specs.Inner.{Sieve}
 use Rattle.build_index.proofs.Growth.{grown-none, grown-on}
 use Rattle.build_index.proofs.Room.{less-room}
 use Rattle.build_index.proofs.Values.{length-rows, value-in}
-use Rattle.build_rows.specs.Inner.{Ready}
+use Rattle.build_part.specs.Inner.{Ready}
 use Rattle.build_rows.proofs.Bounds.{Below, part-below}
 use Rattle.build_rows.proofs.Longer.{step-longer, steps-longer}
 

@@ -1,7 +1,7 @@
 -- The sieve of the rows before a step, in the table after it. Assumes nothing.
 use mathlib.Core.Path.{_≡_, sym, ap, subst, _∙_}
 use mathlib.Core.List.{List, [], _∷_}
-use Prim.Native.Nat.{ℕ, zero, suc, _+_, _^_, _≤_, _<_}
+use Prim.Native.Nat.{ℕ, _+_, _^_, _≤_, _<_}
 use native.Mathlib.Omega.{arith}
 use lib.ListN.{length}
 use Rattle.network.specs.declared.Row.{Row}
@@ -15,7 +15,7 @@ use Rattle.build_index.specs.Inner.{valueAt, Grown}
 use Rattle.build_index.proofs.Values.{length-rows, value-in}
 use Rattle.build_sieve.specs.Inner.{Sieve}
 use Rattle.build_sieve.proofs.Sieves.{sieve-kept}
-use Rattle.build_rows.specs.Inner.{Ready}
+use Rattle.build_part.specs.Inner.{Ready}
 use Rattle.build_rows.proofs.Longer.{step-longer}
 
 -- the values of lawful rows

@@ -8,9 +8,8 @@ ghost use Rattle.build_steps.specs.Steps.{step, steps};
 ghost use Rattle.build_odd_parts.specs.Inner.{partIn};
 ghost use Rattle.build_index.specs.Inner.{Indexed, HasRoom, Grown};
 ghost use Rattle.build_sieve.specs.Inner.{Sieve};
-ghost use Rattle.build_rows.specs.Inner.{partOf, Ready, CanStart};
-use build_index::Found;
-use build_pair::NewRow;
+ghost use Rattle.build_part.specs.Inner.{partOf, Ready};
+ghost use Rattle.build_rows.specs.Inner.{CanStart};
 
 fn larger(a: u32, b: u32) -> u32
     ensures { λ r. ⌜ r ≡ max a b ⌝ }
@@ -18,48 +17,7 @@ fn larger(a: u32, b: u32) -> u32
     if a < b { b } else { a }
 }
 
-// Steps 1 to 3 for one odd part: a row that has its value, a new row from two that are there, or the
-// chain of its chosen form.
-fn add_part(
-    table: &mut [u32],
-    heads: &mut [u16],
-    links: &mut [u16],
-    values: &[u32],
-    marks: &[u8],
-    n: usize,
-    most: u32,
-    v: u32,
-    choice: u32,
-) -> usize
-    requires { ⌜ Ready (now table) (now heads) (now links) (now values) (now marks) n most (partOf v choice) ⌝ }
-    ensures { λ r. ⌜ Grown (now (table .entry)) (now (table .exit)) (now (heads .exit)) (now (links .exit)) r
-        (step (rowsOf (now (table .entry)) n) (partOf v choice)) ⌝ }
-{
-    match build_index::find(table, heads, links, n, v) {
-        Found::At(_) => n,
-        Found::Missing => match build_pair::first_fit(
-            table,
-            heads,
-            links,
-            values,
-            marks,
-            n,
-            most,
-            v,
-        ) {
-            NewRow::Fits(row) => {
-                build_index::put(table, heads, links, n, row);
-                n + 1
-            }
-            NewRow::NoneFits => {
-                let form = build_chain::chosen_form(v, choice);
-                build_chain::add_chain(table, heads, links, n, form)
-            }
-        },
-    }
-}
-
-// The same, and the new rows join the sieve.
+// The three steps for one odd part, after which its rows join the sieve.
 fn take_part(
     table: &mut [u32],
     heads: &mut [u16],
@@ -76,7 +34,7 @@ fn take_part(
         (step (rowsOf (now (table .entry)) n) (partOf v choice)) ⌝ }
     ensures { λ r. ⌜ Sieve (now (table .exit)) (now (values .exit)) (now (marks .exit)) r ⌝ }
 {
-    let more = add_part(table, heads, links, values, marks, n, most, v, choice);
+    let more = build_part::add_part(table, heads, links, values, marks, n, most, v, choice);
     build_sieve::extend(table, n, more, values, marks);
     more
 }

@@ -1,10 +1,9 @@
 -- `build_left_rows::lower_block` meets its contract. The invariant of its loop: no left row below `low` goes with one of the first k right rows. `low`
 -- only falls. The measure is the number of right rows still to pass. Below 0 there is no left row. Assumes nothing.
 use Prim.Native.Nat.{ℕ, _+_, _-_, _%_, _≤_, _<_}
-use mathlib.Core.Path.{_≡_, ap, subst}
+use mathlib.Core.Path.{_≡_, subst}
 use mathlib.Core.Logic.{⊎-elim}
 use native.Mathlib.Omega.{arith}
-use borrow.Author.Needs.{needs}
 use Rattle.word.proofs.Order.{lt-or-le}
 use Rattle.build_index.specs.Inner.{valueAt}
 use Rattle.build_left_rows.specs.Inner.{NoLeft}

@@ -1,8 +1,8 @@
 -- `build_left_rows::lower_named` meets its contract. The mask is read from one digit 1 to the next. The invariant of its loop: `rest` has the digits of
 -- the mask from place j - at on, and no left row below `low` goes with a right row that a digit below that place names. `low` only falls. The
 -- measure is the number of places still to come. Assumes nothing.
-use Prim.Native.Nat.{ℕ, suc, _+_, _-_, _/_, _%_, _^_, _≤_, _<_}
-use mathlib.Core.Path.{_≡_, refl, sym, ap, subst, _∙_}
+use Prim.Native.Nat.{ℕ, _+_, _-_, _/_, _^_, _≤_, _<_}
+use mathlib.Core.Path.{_≡_, sym, subst}
 use mathlib.Core.List.{List}
 use native.Mathlib.Omega.{arith}
 use borrow.Author.Needs.{needs}

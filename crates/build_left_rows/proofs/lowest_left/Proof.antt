@@ -2,14 +2,14 @@
 -- shift and sign. `low` only falls, so that what was said of earlier right rows stays true. The measure is the number of right rows still to pass.
 -- Below 0 there is no left row. Assumes nothing.
 use Prim.Native.Nat.{ℕ, _+_, _-_, _≤_, _<_}
-use mathlib.Core.Path.{_≡_, refl, sym, ap, subst, _∙_}
+use mathlib.Core.Path.{_≡_, refl, subst}
 use mathlib.Core.Logic.{⊎-elim}
 use native.Mathlib.Omega.{arith}
 use borrow.Author.Needs.{needs}
 use lib.ListN.{length}
 use Rattle.word.proofs.Order.{lt-or-le}
 use Rattle.build_index.specs.Inner.{valueAt}
-use Rattle.build_sieve.specs.Inner.{shiftFor, Cells}
+use Rattle.build_sieve.specs.Inner.{Cells}
 use Rattle.build_sieve.proofs.Sieves.{shift-small}
 use Rattle.build_left_rows.specs.Inner.{NoLeft}
 use Rattle.build_left_rows.proofs.Lefts.{fewer-lefts, no-row-below-0}

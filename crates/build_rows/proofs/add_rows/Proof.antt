@@ -17,7 +17,7 @@ use Rattle.build_odd_parts.specs.Inner.{partIn}
 use Rattle.build_index.specs.Inner.{Grown}
 use Rattle.build_index.proofs.Room.{less-room, same-room}
 use Rattle.build_sieve.specs.Inner.{Sieve}
-use Rattle.build_rows.specs.Inner.{partOf, Ready}
+use Rattle.build_part.specs.Inner.{partOf, Ready}
 use Rattle.build_rows.proofs.Rounds.{Round, round-start, round-end, round-next, some-rows, ready}
 use Rattle.build_rows.proofs.add_rows.Statement.{statement}
 use Rattle.build_rows.proofs.add_rows.Tie as tie

@@ -1,6 +1,6 @@
 -- `build_rows::take_part` meets its contract: no step changes a row that is there. Assumes nothing.
 use borrow.Author.Needs.{needs}
-use Rattle.build_rows.specs.Inner.{partOf}
+use Rattle.build_part.specs.Inner.{partOf}
 use Rattle.build_rows.proofs.Sieved.{no-fewer, room-left, sieve-carried, step-bounded}
 use Rattle.build_rows.proofs.take_part.Statement.{statement}
 use Rattle.build_rows.proofs.take_part.Tie as tie

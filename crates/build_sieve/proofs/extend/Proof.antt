@@ -1,6 +1,6 @@
 -- `build_sieve::extend` meets its contract. The invariant of its loop: the rows below i are in the sieve. The measure is the number of rows still to
 -- join it. Assumes nothing.
-use Prim.Native.Nat.{ℕ, _+_, _-_, _≤_, _<_}
+use Prim.Native.Nat.{ℕ, _+_, _-_, _≤_}
 use mathlib.Core.Path.{_≡_, refl, sym, ap, subst, _∙_}
 use native.Mathlib.Omega.{arith}
 use borrow.Author.Needs.{needs}

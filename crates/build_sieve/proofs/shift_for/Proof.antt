@@ -1,6 +1,5 @@
 -- `build_sieve::shift_for` meets its contract. Assumes nothing.
 use borrow.Author.Tests.{lt-ltb, le-ltb}
-use mathlib.Core.Path.{refl}
 use Rattle.build_sieve.specs.Inner.{shiftFor}
 use Rattle.build_sieve.proofs.shift_for.Statement.{statement}
 use Rattle.build_sieve.proofs.shift_for.Tie as tie

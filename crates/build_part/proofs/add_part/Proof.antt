@@ -1,4 +1,4 @@
--- `build_rows::add_part` meets its contract. The two matches are the three steps of `step`: what `find` says of the value opens `lookedUp`, and what `first_fit`
+-- `build_part::add_part` meets its contract. The two matches are the three steps of `step`: what `find` says of the value opens `lookedUp`, and what `first_fit`
 -- says opens `searched`. The room is that of the rows after the step, whichever it is. Assumes nothing.
 use borrow.Author.Needs.{needs}
 use mathlib.Core.Path.{_≡_, sym, ap, subst, _∙_}
@@ -19,10 +19,10 @@ use Rattle.build_index.specs.Inner.{HasRoom, Grown, foundAt}
 use Rattle.build_index.proofs.Growth.{grown-none}
 use Rattle.build_pair.specs.Inner.{fitOf}
 use Rattle.build_chain.specs.Inner.{Readable}
-use Rattle.build_rows.specs.Inner.{partOf}
-use Rattle.build_rows.proofs.Searches.{row-used, searchable, fit-added, fit-length, fit-new, readable, chain-added}
-use Rattle.build_rows.proofs.add_part.Statement.{statement}
-use Rattle.build_rows.proofs.add_part.Tie as tie
+use Rattle.build_part.specs.Inner.{partOf}
+use Rattle.build_part.proofs.Searches.{row-used, searchable, fit-added, fit-length, fit-new, readable, chain-added}
+use Rattle.build_part.proofs.add_part.Statement.{statement}
+use Rattle.build_part.proofs.add_part.Tie as tie
 
 -- the places on the way, and what is known of the part there
 abbrev start : tie.After-find → tie.Start

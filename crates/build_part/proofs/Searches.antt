@@ -23,7 +23,7 @@ use Rattle.build_index.specs.Inner.{valueAt}
 use Rattle.build_index.proofs.Values.{length-rows, value-in}
 use Rattle.build_pair.specs.Inner.{Searchable}
 use Rattle.build_chain.specs.Inner.{Readable}
-use Rattle.build_rows.specs.Inner.{Ready}
+use Rattle.build_part.specs.Inner.{Ready}
 
 module _ (table heads links values marks : List ℕ) (n most : ℕ) (p : Part) (r : Ready table heads links values marks n most p) where
   abbrev rows : List Row
