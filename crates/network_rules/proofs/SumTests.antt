@@ -21,7 +21,7 @@ totalOf s a b v = cond (eqb s plus) v (cond (eqb s minus) a (cond (eqb s reverse
 pub total-is : (s a b v x y z : ℕ) → x ≡ cond (eqb s reversed) b 0 → y ≡ cond (eqb s minus) a x → z ≡ cond (eqb s plus) v y → z ≡ totalOf s a b v
 total-is s a b v x y z e f g = g ∙ ap (λ (n : ℕ). cond (eqb s plus) v n) (f ∙ ap (λ (n : ℕ). cond (eqb s minus) a n) e)
 
-below : (t : Bool) (x y m : ℕ) → x < m → y < m → cond t x y < m
+pub below : (t : Bool) (x y m : ℕ) → x < m → y < m → cond t x y < m
 below true x y m l k = l
 below false x y m l k = k
 

@@ -1,57 +1,91 @@
 -- The tap row rule, test by test, as the code makes the tests. Assumes nothing.
-use mathlib.Core.Path.{_≡_, refl, sym, ap, _∙_}
-use mathlib.Core.Bool.{Bool, true, false, _&&_, _||_, or-false}
+use mathlib.Core.Path.{_≡_, refl, sym, ap, ap₂, subst, _∙_}
+use mathlib.Core.Bool.{Bool, true, false, cond, _&&_, _||_, or-false, false≢true}
 use mathlib.Core.List.{List}
-use Prim.Native.Nat.{ℕ, zero, suc, _-_, _^_, _≤_, _<_}
+use Prim.Native.Nat.{ℕ, zero, suc, _-_, _%_, _^_, _≤_, _<_}
 use native.Mathlib.Omega.{arith}
-use borrow.Author.Tests.{lt-ltb, le-ltb, le-leb, lt-leb, eq-eqb, ne-eqb}
+use borrow.Author.Tests.{leb-true, leb-false, eqb-true, lt-ltb, le-ltb, le-leb, lt-leb, ne-eqb}
 use lib.Dec.{eqb, leb, ltb}
 use lib.IntN.{ℤ, pos, negℤ}
 use lib.ListN.{length}
 use mir.Syntax.{w32}
 use mir.Val.{toZ}
-use mir.ValLaws.{toZ-neg}
+use mir.ValLaws.{toZ-pos, toZ-neg}
 use Rattle.network.specs.declared.Row.{Row}
 use Rattle.network.specs.declared.TapRow.{TapRow}
 use Rattle.network_rules.specs.declared.tap_row_rule.TapProduct.the-variants.{Coefficient, Broken}
-use Rattle.network.specs.Rows.{none, plus, minus}
+use Rattle.network.specs.Rows.{none, plus, minus, rowIn}
+use Rattle.network.specs.RowRule.{lifted}
 use Rattle.network.specs.Coefficients.{withSign, coefficientOf}
 use Rattle.network.specs.TapRowRule.{isTapSign, isProduct, keepsTapRowRule}
 use Rattle.word.specs.Bounds.{withinBounds}
+use Rattle.network.proofs.Booleans.{three}
+use Rattle.network_rules.proofs.SumTests.{below}
 use Rattle.network_rules.specs.Inner.{productIf, productOf}
 
 -- ---- a number p with a sign
 
-pub negative-word : (p : ℕ) → (p ≡ 0 → ⊥) → p ≤ 2 ^ 31 → toZ w32 (2 ^ 32 - 1 - (p - 1)) ≡ negℤ (pos p)
-negative-word zero n l = absurd (n refl)
-negative-word (suc k) n l =
-    let e : 2 ^ 32 - 1 - (suc k - 1) ≡ 2 ^ 32 - suc k = omega arith in
+negative-word : (p : ℕ) → p ≤ 2 ^ 31 → toZ w32 ((2 ^ 32 - p) % 2 ^ 32) ≡ negℤ (pos p)
+negative-word zero l = refl
+negative-word (suc k) l =
+    let e : (2 ^ 32 - suc k) % 2 ^ 32 ≡ 2 ^ 32 - suc k = omega arith in
     ap (toZ w32) e ∙ toZ-neg w32 k (omega arith)
 
-negative-within : (p : ℕ) → p ≤ 2 ^ 31 → withinBounds (negℤ (pos p)) ≡ true
-negative-within zero l = refl
-negative-within (suc k) l = rw (le-leb k (2 ^ 31 - 1) (omega arith))
+negative-within : (p : ℕ) (t : Bool) → leb p (2 ^ 31) ≡ t → t ≡ withinBounds (negℤ (pos p))
+negative-within zero true e = refl
+negative-within zero false e = absurd (omega (arith, leb-false zero (2 ^ 31) e))
+negative-within (suc k) true e = rw (le-leb k (2 ^ 31 - 1) (omega (arith, leb-true (suc k) (2 ^ 31) e)))
+negative-within (suc k) false e = rw (lt-leb k (2 ^ 31 - 1) (omega (arith, leb-false (suc k) (2 ^ 31) e)))
 
-negative-outside : (p : ℕ) → 2 ^ 31 < p → withinBounds (negℤ (pos p)) ≡ false
-negative-outside zero l = absurd (omega arith)
-negative-outside (suc k) l = rw (lt-leb k (2 ^ 31 - 1) (omega arith))
+-- most is the greatest number that the sign lets through
+module _ (s p most : ℕ) (e : most ≡ cond (eqb s minus) (2 ^ 31) (2 ^ 31 - 1)) where
+  Tested : ℕ → Type 0
+  Tested t = (isTapSign t && leb p (cond (eqb t minus) (2 ^ 31) (2 ^ 31 - 1))) ≡ (isTapSign t && withinBounds (withSign t (pos p)))
 
-module _ (s p : ℕ) where
-  pub plus-within : s ≡ plus → p ≤ 2 ^ 31 - 1 → Coefficient (pos p) ≡ productIf (isTapSign s && withinBounds (withSign s (pos p))) (withSign s (pos p))
-  plus-within e l = rw (eq-eqb s plus e, le-leb p (2 ^ 31 - 1) l)
+  by-sign : (x y : Bool) → eqb s plus ≡ x → eqb s minus ≡ y → Tested s
+  unfolding Tested
+  by-sign true y f g = subst Tested (sym (eqb-true s plus f)) refl
+  by-sign false true f g = subst Tested (sym (eqb-true s minus g)) (negative-within p (leb p (2 ^ 31)) refl)
+  by-sign false false f g = rw (f, g)
 
-  pub plus-outside : s ≡ plus → 2 ^ 31 - 1 < p → Broken ≡ productIf (isTapSign s && withinBounds (withSign s (pos p))) (withSign s (pos p))
-  plus-outside e l = rw (eq-eqb s plus e, lt-leb p (2 ^ 31 - 1) l)
+  after : (a b c d : Bool) → (b && c) ≡ (b && d) → (a && b && c) ≡ (a && b && d)
+  after true b c d q = q
+  after false b c d q = refl
 
-  module _ (n : s ≡ plus → ⊥) where
-    pub minus-within : s ≡ minus → p ≤ 2 ^ 31 → Coefficient (negℤ (pos p)) ≡ productIf (isTapSign s && withinBounds (withSign s (pos p))) (withSign s (pos p))
-    minus-within e l = rw (ne-eqb s plus n, eq-eqb s minus e, negative-within p l)
+  pub product-tests : (shift : ℕ) → (leb shift 31 && isTapSign s && leb p most) ≡ (leb shift 31 && isTapSign s && withinBounds (withSign s (pos p)))
+  unfolding Tested
+  product-tests shift =
+      ap (λ (m : ℕ). leb shift 31 && isTapSign s && leb p m) e
+      ∙ after (leb shift 31) (isTapSign s) (leb p (cond (eqb s minus) (2 ^ 31) (2 ^ 31 - 1))) (withinBounds (withSign s (pos p))) (by-sign (eqb s plus) (eqb s minus) refl refl)
 
-    pub minus-outside : s ≡ minus → 2 ^ 31 < p → Broken ≡ productIf (isTapSign s && withinBounds (withSign s (pos p))) (withSign s (pos p))
-    minus-outside e l = rw (ne-eqb s plus n, eq-eqb s minus e, negative-outside p l)
+  pub product-small : (shift : ℕ) → (leb shift 31 && isTapSign s && leb p most) ≡ true → p ≤ 2 ^ 31
+  product-small shift q = omega (arith, leb-true p most (three (leb shift 31) (isTapSign s) (leb p most) q .2), e, at-most (eqb s minus))
+    where
+      at-most : (t : Bool) → cond t (2 ^ 31) (2 ^ 31 - 1) ≤ 2 ^ 31
+      at-most true = omega arith
+      at-most false = omega arith
 
-    pub no-sign : (s ≡ minus → ⊥) → Broken ≡ productIf (isTapSign s && withinBounds (withSign s (pos p))) (withSign s (pos p))
-    no-sign m = rw (ne-eqb s plus n, ne-eqb s minus m)
+pub last-two : (a b c : Bool) → (a && b && c) ≡ true → (b && c) ≡ true
+last-two true b c e = e
+last-two false b c e = absurd (false≢true e)
+
+-- w is the word that the code chooses
+module _ (s p w : ℕ) (l : p ≤ 2 ^ 31) (e : w ≡ cond (eqb s minus) ((2 ^ 32 - p) % 2 ^ 32) p) where
+  Read : ℕ → Type 0
+  Read t = (isTapSign t && withinBounds (withSign t (pos p))) ≡ true → toZ w32 (cond (eqb t minus) ((2 ^ 32 - p) % 2 ^ 32) p) ≡ withSign t (pos p)
+
+  by-its-sign : (x y : Bool) → eqb s plus ≡ x → eqb s minus ≡ y → Read s
+  unfolding Read
+  by-its-sign true y f g = subst Read (sym (eqb-true s plus f)) (λ h. toZ-pos w32 p (omega (arith, leb-true p (2 ^ 31 - 1) h)))
+  by-its-sign false true f g = subst Read (sym (eqb-true s minus g)) (λ h. negative-word p l)
+  by-its-sign false false f g = λ h. absurd (false≢true (sym (ap₂ (λ (x y : Bool). (x || y) && withinBounds (withSign s (pos p))) f g) ∙ h))
+
+  pub word-fits : w < 2 ^ 32
+  word-fits = omega (arith, e, below (eqb s minus) ((2 ^ 32 - p) % 2 ^ 32) p (2 ^ 32) (omega arith) (omega arith))
+
+  pub signed-word : (isTapSign s && withinBounds (withSign s (pos p))) ≡ true → toZ w32 w ≡ withSign s (pos p)
+  unfolding Read
+  signed-word h = ap (toZ w32) e ∙ by-its-sign (eqb s plus) (eqb s minus) refl refl h
 
 -- ---- a tap row
 
@@ -94,16 +128,30 @@ module _ (rows : List Row) (t : TapRow) where
         ap (λ (b : Bool). productIf b (coefficientOf rows t)) (sym (second-fails (isTapSign (t .sign)) (ltb (t .row) (length rows)) (leb (t .shift) 31) (withinBounds (coefficientOf rows t)) (le-ltb (t .row) (length rows) l)))
         ∙ product-is
 
-    pub tap-shift : 31 < t .shift → Broken ≡ productOf rows t
+    tap-shift : 31 < t .shift → Broken ≡ productOf rows t
     tap-shift l =
         ap (λ (b : Bool). productIf b (coefficientOf rows t)) (sym (third-fails (isTapSign (t .sign)) (ltb (t .row) (length rows)) (leb (t .shift) 31) (withinBounds (coefficientOf rows t)) (lt-leb (t .shift) 31 l)))
         ∙ product-is
 
-    pub tap-signed : t .row < length rows → t .shift ≤ 31 → productIf (isTapSign (t .sign) && withinBounds (coefficientOf rows t)) (coefficientOf rows t) ≡ productOf rows t
+    tap-signed : t .row < length rows → t .shift ≤ 31 → productIf (isTapSign (t .sign) && withinBounds (coefficientOf rows t)) (coefficientOf rows t) ≡ productOf rows t
     tap-signed l m =
         ap (λ (b : Bool). productIf b (coefficientOf rows t))
         (others (isTapSign (t .sign)) (ltb (t .row) (length rows)) (leb (t .shift) 31) (withinBounds (coefficientOf rows t)) (lt-ltb (t .row) (length rows) l) (le-leb (t .shift) 31 m))
         ∙ product-is
+
+    -- p is the number of the code
+    pub tap-tests : t .row < length rows → (p : ℕ) → p ≡ lifted (t .shift % 32) (rowIn rows (t .row) .value)
+        → productIf (leb (t .shift) 31 && isTapSign (t .sign) && withinBounds (withSign (t .sign) (pos p))) (withSign (t .sign) (pos p)) ≡ productOf rows t
+    unfolding coefficientOf
+    tap-tests l p e = go (leb (t .shift) 31) refl
+      where
+        go : (q : Bool) → leb (t .shift) 31 ≡ q → productIf (q && isTapSign (t .sign) && withinBounds (withSign (t .sign) (pos p))) (withSign (t .sign) (pos p)) ≡ productOf rows t
+        go true f =
+            let m : t .shift ≤ 31 = leb-true (t .shift) 31 f in
+            let g : t .shift % 32 ≡ t .shift = omega arith in
+            let h : p ≡ lifted (t .shift) (rowIn rows (t .row) .value) = e ∙ ap (λ (n : ℕ). lifted n (rowIn rows (t .row) .value)) g in
+            ap (λ (n : ℕ). productIf (isTapSign (t .sign) && withinBounds (withSign (t .sign) (pos n))) (withSign (t .sign) (pos n))) h ∙ tap-signed l m
+        go false f = tap-shift (leb-false (t .shift) 31 f)
 
 -- ---- what a product that was read tells
 

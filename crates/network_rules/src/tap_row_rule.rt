@@ -1,17 +1,21 @@
 // The tap row rule, and the coefficient of a tap row that keeps it.
 ghost use mathlib.Core.Path.{_≡_};
-ghost use mathlib.Core.Bool.{_&&_};
-ghost use Prim.Native.Nat.{_+_, _*_, _^_, _≤_};
-ghost use lib.IntN.{pos, negℤ};
+ghost use mathlib.Core.Bool.{true, _&&_};
+ghost use Prim.Native.Nat.{_+_, _*_, _^_, _≤_, _<_};
+ghost use lib.Dec.{leb};
+ghost use lib.IntN.{pos};
 ghost use lib.ListN.{length};
+ghost use mir.Syntax.{w32};
+ghost use mir.Val.{toZ};
 ghost use Rattle.network.specs.Rows.{rowWords, tapWords, rowsOf, tapRowAt};
 ghost use Rattle.network.specs.Coefficients.{withSign};
 ghost use Rattle.network.specs.TapRowRule.{isTapSign};
 ghost use Rattle.word.specs.Bounds.{withinBounds};
-ghost use Rattle.network_rules.specs.Inner.{productIf, productOf};
+ghost use Rattle.network_rules.specs.Inner.{productOf};
 use network::MINUS;
 use network::NONE;
 use network::PLUS;
+use word::choose_wide;
 
 // The product of a tap row, where it is a coefficient.
 pub enum TapProduct {
@@ -19,33 +23,35 @@ pub enum TapProduct {
     Broken,
 }
 
-fn negated(p: u64) -> i32
-    requires { ⌜ p ≤ 2 ^ 31 ⌝ }
-    ensures { λ r. ⌜ r ≡ negℤ (pos p) ⌝ }
+// A word of 32 bits read as signed.
+fn signed(word: u64) -> i32
+    requires { ⌜ word < 2 ^ 32 ⌝ }
+    ensures { λ r. ⌜ r ≡ toZ w32 word ⌝ }
 {
-    if p == 0 {
-        return 0;
+    if word < 0x8000_0000 {
+        word as i32
+    } else {
+        !((0xffff_ffff - word) as i32)
     }
-    !((p - 1) as i32)
 }
 
-// p with the sign of a tap row that is not empty.
-fn signed_product(sign: u32, p: u64) -> TapProduct
-    ensures { λ r. ⌜ r ≡ productIf (isTapSign sign && withinBounds (withSign sign (pos p))) (withSign sign (pos p)) ⌝ }
+// p with the sign of a tap row, where that is a coefficient.
+fn with_sign(sign: u32, p: u64) -> i32
+    requires { ⌜ (p ≤ 2 ^ 31) × ((isTapSign sign && withinBounds (withSign sign (pos p))) ≡ true) ⌝ }
+    ensures { λ r. ⌜ r ≡ withSign sign (pos p) ⌝ }
 {
-    if sign == PLUS {
-        if p <= 2147483647 {
-            return TapProduct::Coefficient(p as i32);
-        }
-        return TapProduct::Broken;
-    }
-    if sign == MINUS {
-        if p <= 2147483648 {
-            return TapProduct::Coefficient(negated(p));
-        }
-        return TapProduct::Broken;
-    }
-    TapProduct::Broken
+    let negative = (0x1_0000_0000 - p) % 0x1_0000_0000;
+    signed(choose_wide(sign == MINUS, negative, p))
+}
+
+// The shift and the sign are those of a tap row that is not empty, and p with the sign is a
+// coefficient. There is no jump, since the signs of taps follow no pattern.
+fn is_product(shift: u32, sign: u32, p: u64) -> bool
+    ensures { λ r. ⌜ (r ≡ (leb shift 31 && isTapSign sign && withinBounds (withSign sign (pos p)))) × (r ≡ true → p ≤ 2 ^ 31) ⌝ }
+{
+    (shift <= 31)
+        & ((sign == PLUS) | (sign == MINUS))
+        & (p <= choose_wide(sign == MINUS, 2147483648, 2147483647))
 }
 
 // The product of tap row j over the first n rows.
@@ -64,11 +70,9 @@ pub fn tap_product(rows: &[u32], n: usize, taps: &[u32], j: usize) -> TapProduct
     if row >= n {
         return TapProduct::Broken;
     }
-    if tap.shift > 31 {
-        return TapProduct::Broken;
+    let p = crate::lift(tap.shift % 32, network::read_value(rows, row));
+    if is_product(tap.shift, tap.sign, p) {
+        return TapProduct::Coefficient(with_sign(tap.sign, p));
     }
-    signed_product(
-        tap.sign,
-        crate::lift(tap.shift, network::read_value(rows, row)),
-    )
+    TapProduct::Broken
 }

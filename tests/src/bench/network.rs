@@ -30,4 +30,5 @@ pub fn run() {
     measure(MOST_ROWS, 1, 10);
     measure(1_929, 16, 16);
     measure(31, 1, 200);
+    measure(31, 400, 400);
 }
