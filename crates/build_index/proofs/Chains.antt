@@ -5,7 +5,7 @@ use mathlib.Core.Logic.{⊎-elim}
 use Prim.Native.Nat.{ℕ, suc, _+_, _-_, _*_, _/_, _^_, _<_, _≤_}
 use native.Mathlib.Nat.{eq-or-lt-of-le}
 use native.Mathlib.Omega.{arith}
-use lib.Bits.{and-le-r}
+use lib.Bits.{bitXor, and-le-r}
 use lib.ListN.{length, getD, set, length-set}
 use lib.Seq.{getD-set-same, getD-set-other}
 use Rattle.refusal.specs.Answer.{nowhere}
@@ -17,7 +17,7 @@ use Rattle.build_index.proofs.Values.{row-missing}
 
 pub bucket-below : (m v : ℕ) → 0 < m → bucketOf m v < m
 unfolding bucketOf
-bucket-below m v h = omega (arith, and-le-r (v * 0x9e3779b9 / 2 ^ 32) (m - 1))
+bucket-below m v h = omega (arith, and-le-r (bitXor (v * 0x9e3779b9) (v * 0x9e3779b9 / 2 ^ 32)) (m - 1))
 
 -- while a bucket is walked: no row from p on has the value x, and p stands for a row of x's bucket
 pub record Passed (t : List ℕ) (m n x p : ℕ) : Type 0 where

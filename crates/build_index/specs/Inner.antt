@@ -3,7 +3,7 @@
 use mathlib.Core.Path.{_≡_}
 use mathlib.Core.List.{List}
 use Prim.Native.Nat.{ℕ, _-_, _*_, _/_, _^_, _≤_, _<_}
-use lib.Bits.{bitAnd}
+use lib.Bits.{bitAnd, bitXor}
 use lib.ListN.{length, getD, drop}
 use Rattle.refusal.specs.Answer.{Place, nowhere, at-place}
 use Rattle.network.specs.declared.Row.{Row}
@@ -22,7 +22,7 @@ valueAt table i = rowAt table i .value
 
 -- the bucket of a value, of m buckets
 unfoldable pub bucketOf : ℕ → ℕ → ℕ
-bucketOf m v = bitAnd (v * 0x9e3779b9 / 2 ^ 32) (m - 1)
+bucketOf m v = bitAnd (bitXor (v * 0x9e3779b9) (v * 0x9e3779b9 / 2 ^ 32)) (m - 1)
 
 -- p stands for the last row below k whose value is in bucket h of m
 pub record Last (table : List ℕ) (m h p k : ℕ) : Type 0 where

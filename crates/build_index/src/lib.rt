@@ -16,13 +16,15 @@ pub enum Found {
     Missing,
 }
 
-// The bucket of a value, of m buckets: the product with 2^32 times the golden ratio's fraction has all
-// digits of the value in those from 2^32 on. Every bucket is in use where m is a power of 2.
+// The bucket of a value, of m buckets: each digit of the value has a say in the upper half of the
+// product, and the lower half parts values that stand evenly. Every bucket is in use where m is a
+// power of 2.
 fn bucket(x: u32, m: usize) -> usize
     requires { ⌜ 0 < m ⌝ }
     ensures { λ r. ⌜ (r ≡ bucketOf m x) × (r < m) ⌝ }
 {
-    (((x as u64) * 0x9e37_79b9 / 0x1_0000_0000) as usize) & (m - 1)
+    let product = (x as u64) * 0x9e37_79b9;
+    ((product ^ (product / 0x1_0000_0000)) as usize) & (m - 1)
 }
 
 // The row that has the value x.

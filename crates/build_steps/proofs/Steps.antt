@@ -2,12 +2,13 @@
 -- Assumes nothing.
 use mathlib.Core.Path.{_≡_, refl, sym, ap, _∙_, subst}
 use mathlib.Core.List.{List, [], _∷_, _++_, List·Memᴰ, List·Memᴰ·head, List·Memᴰ·tail, List·Memᴰ·not-nil, List·Memᴰ·cases-cons, reverse}
-use mathlib.Core.Logic.{_⊎_, inl, inr}
-use Prim.Native.Nat.{ℕ, _+_, _*_, _-_, _≤_, _<_}
+use mathlib.Core.Logic.{_⊎_, inl, inr, ⊎-elim}
+use Prim.Native.Nat.{ℕ, suc, _+_, _*_, _-_, _≤_, _<_}
 use native.Mathlib.Numerals.{add-one}
 use native.Mathlib.Omega.{arith}
 use lib.ListN.{length, getD, drop, drop-of-length-le, length-append}
 use lib.Seq.{drop-cons}
+use Rattle.word.proofs.Order.{lt-or-le}
 use Rattle.refusal.specs.Answer.{Place, nowhere, at-place}
 use Rattle.network.specs.declared.Row.{Row}
 use Rattle.signed_digit.specs.Digit.{one, nought, minus-one}
@@ -15,7 +16,7 @@ use Rattle.signed_digit.specs.String.{DigitString}
 use Rattle.signed_digit.specs.Weight.{weight}
 use Rattle.build_steps.specs.Parts.{Part, leastWeight}
 use Rattle.build_steps.specs.Search.{rowWith, Fit, fit, none-fits, firstFit}
-use Rattle.build_steps.specs.Chain.{chosenForm, chained, chainEnd}
+use Rattle.build_steps.specs.Chain.{chosenForm, chained, chainValue, chainEnd}
 use Rattle.build_steps.specs.Steps.{searched, lookedUp, step, steps}
 use Rattle.build_steps.specs.RowSteps.{Lawful, by-search, HasRow, Growth}
 use Rattle.build_steps.specs.CanBuild.{Buildable}
@@ -23,7 +24,7 @@ use Rattle.build_steps.proofs.FirstFit.{fit-is-first}
 use Rattle.build_steps.proofs.ChainValue.{weight-reverse}
 use Rattle.build_steps.proofs.ChosenForm.{chosen-form, least-weight}
 use Rattle.build_steps.proofs.Growth.{unchanged, one-row, still, grown-length}
-use Rattle.build_steps.proofs.Chain.{down-grows}
+use Rattle.build_steps.proofs.Chain.{one-has-row, down-grows}
 
 -- ---- the three cases of a step
 module _ (rows : List Row) (p : Part) where
@@ -86,13 +87,28 @@ steps-grow rows (p ∷ ps) w b =
     has g r q (inl e) = r .keeps (q .value) (subst (λ (x : Part). HasRow (step rows p) (x .value)) (sym e) (g .has))
     has g r q (inr m) = r .has q m
 
--- ---- how many rows: no more than all weights together, besides those that were there
+-- ---- how many rows: besides those that were there, one less than its weight for each odd part
 some-weight : (s : DigitString) → 1 ≤ chainEnd s → 1 ≤ weight s
 unfolding chainEnd
 some-weight [] h = absurd (omega arith)
 some-weight (nought ∷ s) h = omega (arith, some-weight s h)
 some-weight (one ∷ s) h = omega arith
 some-weight (minus-one ∷ s) h = absurd (omega arith)
+
+-- without a nonzero digit the value stays
+idle : (v gap : ℕ) (s : DigitString) → weight s ≡ 0 → chainValue v gap s ≡ v
+unfolding chainValue
+idle v gap [] h = refl
+idle v gap (nought ∷ s) h = idle v (suc gap) s (omega arith)
+idle v gap (one ∷ s) h = absurd (omega arith)
+idle v gap (minus-one ∷ s) h = absurd (omega arith)
+
+more-weight : (s : DigitString) → 2 ≤ chainEnd s → 2 ≤ weight s
+unfolding chainEnd
+more-weight [] h = absurd (omega arith)
+more-weight (nought ∷ s) h = omega (arith, more-weight s h)
+more-weight (one ∷ s) h = ⊎-elim (λ (z : weight s < 1). absurd (omega (arith, idle 1 1 s (omega arith), h))) (λ (z : 1 ≤ weight s). omega arith) (lt-or-le (weight s) 1)
+more-weight (minus-one ∷ s) h = absurd (omega arith)
 
 module _ (rows : List Row) (p : Part) (w : Lawful rows) (b : Buildable p) where
   abbrev down : DigitString
@@ -106,28 +122,41 @@ module _ (rows : List Row) (p : Part) (w : Lawful rows) (b : Buildable p) where
       let c = chosen-form (p .value) (p .choice) (b .below) (b .choice) in
       weight-reverse (chosenForm (p .value) (p .choice)) ∙ least-weight (p .value) (omega (arith, b .below)) (chosenForm (p .value) (p .choice)) (c .minimal)
 
-  searched-light : (f : Fit) → length (searched f rows p) ≤ length rows + leastWeight (p .value)
+  weighs-some : 1 ≤ leastWeight (p .value)
+  weighs-some = omega (arith, some-weight down (omega (arith, down-ends, b .odd)), down-weighs)
+
+  -- 1 has row 0
+  not-one : rowWith rows (p .value) ≡ nowhere → 2 ≤ p .value
+  not-one n =
+      ⊎-elim
+      (λ (l : p .value < 2).
+      let e : p .value ≡ 1 = omega (arith, b .odd) in
+      let z : at-place 0 ≡ nowhere = sym (one-has-row w) ∙ ap (rowWith rows) (sym e) ∙ n in
+      let q : _≡_ {A = ℕ} 0 1 = cc in absurd (omega arith))
+      (λ (l : 2 ≤ p .value). l) (lt-or-le (p .value) 2)
+
+  searched-light : rowWith rows (p .value) ≡ nowhere → (f : Fit) → length (searched f rows p) + 1 ≤ length rows + leastWeight (p .value)
   unfolding searched chained
-  searched-light (fit r) = omega (arith, some-weight down (omega (arith, down-ends, b .odd)), down-weighs, length-append rows (r ∷ []))
-  searched-light none-fits =
+  searched-light n (fit r) = omega (arith, more-weight down (omega (arith, down-ends, not-one n)), down-weighs, length-append rows (r ∷ []))
+  searched-light n none-fits =
       let g = down-grows rows down (p .value) w down-ends (omega (arith, b .odd)) (b .below) in
-      omega (arith, grown-length (weight down - 1) g, down-weighs)
+      omega (arith, grown-length (weight down - 1) g, down-weighs, weighs-some)
 
-  looked-up-light : (q : Place) → length (lookedUp q rows p) ≤ length rows + leastWeight (p .value)
+  looked-up-light : (q : Place) → rowWith rows (p .value) ≡ q → length (lookedUp q rows p) + 1 ≤ length rows + leastWeight (p .value)
   unfolding lookedUp
-  looked-up-light (at-place i) = omega arith
-  looked-up-light nowhere = searched-light (firstFit rows (p .value))
+  looked-up-light (at-place i) e = omega (arith, weighs-some)
+  looked-up-light nowhere e = searched-light e (firstFit rows (p .value))
 
-  step-light : length (step rows p) ≤ length rows + leastWeight (p .value)
+  step-light : length (step rows p) + 1 ≤ length rows + leastWeight (p .value)
   unfolding step
-  step-light = looked-up-light (rowWith rows (p .value))
+  step-light = looked-up-light (rowWith rows (p .value)) refl
 
 -- the weights of some odd parts together
 unfoldable pub partWeights : List Part → ℕ
 partWeights [] = 0
 partWeights (p ∷ ps) = leastWeight (p .value) + partWeights ps
 
-pub steps-light : (rows : List Row) (ps : List Part) → Lawful rows → ((p : Part) → List·Memᴰ p ps → Buildable p) → length (steps rows ps) ≤ length rows + partWeights ps
+pub steps-light : (rows : List Row) (ps : List Part) → Lawful rows → ((p : Part) → List·Memᴰ p ps → Buildable p) → length (steps rows ps) + length ps ≤ length rows + partWeights ps
 unfolding steps partWeights
 steps-light rows [] w b = omega arith
 steps-light rows (p ∷ ps) w b =

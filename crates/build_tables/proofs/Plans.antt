@@ -73,11 +73,11 @@ module _ (cs : List ℤ) (ks rows taps keys : List ℕ) (m : ℕ) (a : CanBuildI
   rows-few = rows-built cs ks (a .can-build) .few
 
   -- the weights of the odd parts are those of their keys
-  pub rows-weighed : length (builtRows cs ks) ≤ 1 + totalWeight (take m keys)
+  pub rows-weighed : length (builtRows cs ks) + m ≤ 1 + totalWeight (take m keys)
   unfolding builtRows
   rows-weighed =
       let l = steps-light (firstRow ∷ []) (partsToBuild cs ks) row-0 (part-buildable cs ks (a .can-build)) in
-      omega (arith, l, ap partWeights (sym parts-ordered), weights-same ks (take m keys) (o .weights))
+      omega (arith, l, ap partWeights (sym parts-ordered), ap length (sym parts-ordered), length-parts, weights-same ks (take m keys) (o .weights))
 
   pub can-start : (heads links values marks : List ℕ) → Indexed rows heads links 0 → Sieve rows values marks 0 → length (builtRows cs ks) ≤ length links
       → length (builtRows cs ks) + 7 ≤ length values → CanStart keys m ks rows heads links values marks

@@ -164,7 +164,8 @@ fn within_3841(
     )
 }
 
-// The odd parts in order, and the network, with an index and a sieve as large as the rows can need.
+// The odd parts in order, and the network, with an index and a sieve as large as the rows can need:
+// row 0, and for each odd part one less than its weight.
 pub fn build_accepted(
     coefficients: &[i32],
     choices: &[u32],
@@ -177,14 +178,14 @@ pub fn build_accepted(
 {
     let mut keys = [0u64; 256];
     let m = build_odd_parts::order(coefficients, &mut keys);
-    let most = 1 + build_odd_parts::total_weight(&keys, m);
-    if most <= 64 {
+    let weights = build_odd_parts::total_weight(&keys, m);
+    if weights < m + 64 {
         return within_64(coefficients, choices, &keys, m, rows, taps);
     }
-    if most <= 512 {
+    if weights < m + 512 {
         return within_512(coefficients, choices, &keys, m, rows, taps);
     }
-    if most <= 3072 {
+    if weights < m + 3072 {
         return within_3072(coefficients, choices, &keys, m, rows, taps);
     }
     within_3841(coefficients, choices, &keys, m, rows, taps)

@@ -63,6 +63,7 @@ fn arithmetic() -> Family {
         pattern("1 + 12345678 k mod 2^31", |k| {
             (1 + 12_345_678 * k) % (1 << 31)
         }),
+        pattern("1 + 1617102 k", |k| 1 + 1_617_102 * k),
     ];
     family(
         "arithmetic progressions",

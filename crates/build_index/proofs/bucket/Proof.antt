@@ -6,8 +6,8 @@ use Rattle.build_index.proofs.Chains.{bucket-below}
 use Rattle.build_index.proofs.bucket.Statement.{statement}
 use Rattle.build_index.proofs.bucket.Tie as tie
 
-mul-result : tie.Need-mul-result
-mul-result c = search needs
+mul-product : tie.Need-mul-product
+mul-product c = search needs
 
 sub-result : tie.Need-sub-result
 sub-result c = search needs
@@ -17,4 +17,4 @@ unfolding bucketOf
 returns c = (refl, bucket-below (c .args .m) (c .args .x) (c .pre))
 
 pub bucket-spec : {M : Type 1} → statement M
-bucket-spec = tie.close (tie.spec mul-result sub-result returns)
+bucket-spec = tie.close (tie.spec mul-product sub-result returns)

@@ -1,5 +1,5 @@
 -- `build_tables::build_accepted` meets its contract. What can be built and the keys in order say which parts are built, that each can be, and that there
--- are at most as many rows besides row 0 as the weights of all odd parts together. Assumes nothing.
+-- are at most as many rows besides row 0 as the weights of all odd parts together, less one for each. Assumes nothing.
 use borrow.Author.Needs.{needs}
 use Prim.Native.Nat.{_+_, _≤_}
 use native.Mathlib.Omega.{arith}
@@ -13,14 +13,17 @@ use Rattle.build_tables.proofs.build_accepted.Tie as tie
 abbrev start : tie.After-order → tie.Start
 start c = c .before .before .before .before .before
 
+-- as many odd parts as coefficients at most
+few : (c : tie.After-order) → c .order .result ≤ 256
+few c = omega (arith, c .order .ensures .few, start c .pre .can-build .few)
+
 keyed : (c : tie.After-order) → c .order .result ≤ length (c .order .last .1 .0)
 keyed c =
-    let at-start = start c in
     let l : length (c .order .last .1 .0) ≡ 256 = c .order .kept .1 .0 in
-    omega (arith, c .order .ensures .few, at-start .pre .can-build .few, l)
+    omega (arith, few c, l)
 
--- row 0, and as many rows as the weights together
-weighed : (c : tie.After-total-weight) → length (builtRows (start (c .before .before .before) .args .coefficients .now) (start (c .before .before .before) .args .choices .now)) ≤ 1 + c .total-weight .result
+-- row 0, and for each odd part one row less than its weight
+weighed : (c : tie.After-total-weight) → length (builtRows (start (c .before .before .before) .args .coefficients .now) (start (c .before .before .before) .args .choices .now)) + c .before .before .before .order .result ≤ 1 + c .total-weight .result
 weighed c =
     let after-order = c .before .before .before in
     let at-start = start after-order in
@@ -39,10 +42,10 @@ slice-aggregate-total-weight c = search needs
 total-weight-requires : tie.Need-total-weight-requires
 total-weight-requires c κs =
     let after-order = c .before .before in
-    (keyed after-order, omega (arith, after-order .order .ensures .few, start after-order .pre .can-build .few))
+    (keyed after-order, few after-order)
 
-add-most : tie.Need-add-most
-add-most c = omega (arith, c .total-weight .ensures .1)
+add-if1 : tie.Need-add-if1
+add-if1 c = omega (arith, few (c .before .before .before))
 
 slice-aggregate-within-64 : tie.Need-slice-aggregate-within-64
 slice-aggregate-within-64 c = search needs
@@ -63,6 +66,9 @@ same-length-2 c = search needs
 returns : tie.Need-returns
 returns c = search needs
 
+add-if2 : tie.Need-add-if2
+add-if2 c = omega (arith, few (c .before .before .before .before))
+
 slice-aggregate-within-512 : tie.Need-slice-aggregate-within-512
 slice-aggregate-within-512 c = search needs
 
@@ -81,6 +87,9 @@ same-length-4 c = search needs
 
 returns-2 : tie.Need-returns-2
 returns-2 c = search needs
+
+add-if3 : tie.Need-add-if3
+add-if3 c = omega (arith, few (c .before .before .before .before .before))
 
 slice-aggregate-within-3072 : tie.Need-slice-aggregate-within-3072
 slice-aggregate-within-3072 c = search needs
@@ -128,17 +137,19 @@ build-accepted-spec =
     order-requires
     slice-aggregate-total-weight
     total-weight-requires
-    add-most
+    add-if1
     slice-aggregate-within-64
     within-64-requires
     same-length
     same-length-2
     returns
+    add-if2
     slice-aggregate-within-512
     within-512-requires
     same-length-3
     same-length-4
     returns-2
+    add-if3
     slice-aggregate-within-3072
     within-3072-requires
     same-length-5
