@@ -64,6 +64,7 @@ fn arithmetic() -> Family {
             (1 + 12_345_678 * k) % (1 << 31)
         }),
         pattern("1 + 1617102 k", |k| 1 + 1_617_102 * k),
+        pattern("1 + 7335618 k", |k| 1 + 7_335_618 * k),
     ];
     family(
         "arithmetic progressions",
