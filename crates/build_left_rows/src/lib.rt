@@ -89,7 +89,7 @@ fn lower_named(
     low
 }
 
-// The same for eight right rows, from one on; most often no cell of theirs has a mark.
+// The same for eight right rows, from one on; most often no cell of theirs has a mark that counts.
 fn lower_eight(
     table: &[u32],
     heads: &[u16],
@@ -108,15 +108,14 @@ fn lower_eight(
     requires { ⌜ InBlock (now values) (now marks) at (k + 8) v (now sums) (now differences) ⌝ }
     ensures { λ a. ⌜ (a ≤ m) × ((i : ℕ) → i < 8 → at + (k + i) < n → NoLeft (now (table .entry)) a v (valueAt (now (table .entry)) (at + (k + i)))) ⌝ }
 {
-    if !build_sieve::any_marked(marks, sums, differences, k) {
+    if !build_sieve::any_marked(marks, sums, differences, k, m) {
         return m;
     }
-    let mask = build_sieve::marked(marks, sums, differences, k);
+    let mask = build_sieve::marked(marks, sums, differences, k, m);
     lower_named(table, heads, links, values, n, m, v, at + k, mask)
 }
 
-// The same for a stretch of right rows, eight by eight. It is cut short, with 0, where a low left row
-// may fit: then the search itself comes there sooner.
+// The same for a stretch of right rows, eight by eight.
 fn lower_block(
     table: &[u32],
     heads: &[u16],
@@ -132,7 +131,7 @@ fn lower_block(
     differences: &[u32; 32],
 ) -> usize
     requires { ⌜ Sifting (now table) (now heads) (now links) (now values) (now marks) n v × (m ≤ n) ⌝ }
-    requires { ⌜ InBlock (now values) (now marks) at count v (now sums) (now differences) × (count % 8 ≡ 0) × (at ≤ n) ⌝ }
+    requires { ⌜ InBlock (now values) (now marks) at count v (now sums) (now differences) × (count % 8 ≡ 0) ⌝ }
     ensures { λ a. ⌜ (a ≤ m) × ((i : ℕ) → i < count → at + i < n → NoLeft (now (table .entry)) a v (valueAt (now (table .entry)) (at + i))) ⌝ }
 {
     let mut low = m;
@@ -152,9 +151,6 @@ fn lower_block(
             differences,
             k,
         );
-        if low < (n - at) / 16 {
-            return 0;
-        }
         k += 8;
     }
     low
@@ -171,7 +167,8 @@ fn stretch(rows: usize) -> usize
     (rows + 7) / 8 * 8
 }
 
-// No left row below the result makes v with any right row.
+// No left row below the result makes v with any right row. The pass is cut short, with 0, where a low left
+// row may fit: then the search itself comes there sooner.
 pub fn lowest_left(
     table: &[u32],
     heads: &[u16],
@@ -206,7 +203,7 @@ pub fn lowest_left(
             &sums,
             &differences,
         );
-        if low == 0 {
+        if low <= (n - j) / 32 {
             return 0;
         }
         j += 32;

@@ -1,5 +1,6 @@
 -- The digits of a mask that is made from its high end. Assumes nothing.
-use mathlib.Core.Path.{_≡_, sym, ap, subst, _∙_}
+use mathlib.Core.Path.{_≡_, refl, sym, ap, subst, _∙_}
+use mathlib.Core.Bool.{Bool, true, false, cond}
 use mathlib.Core.Logic.{⊎-elim}
 use Prim.Native.Nat.{ℕ, suc, _+_, _*_, _-_, _/_, _%_, _^_, _≤_, _<_}
 use native.Mathlib.Nat.{eq-or-lt-of-le, pow-suc}
@@ -12,6 +13,15 @@ digit-above m b e h =
     let half : (2 * m + b) / 2 ≡ m = omega arith in
     let q : 1 + e ≡ suc e = omega arith in
     ap (λ (k : ℕ). (2 * m + b) / 2 ^ k) (sym q) ∙ sym (shr-shr (2 * m + b) 1 e) ∙ ap (λ (x : ℕ). x / 2 ^ e) half
+
+-- a digit that is chosen
+pub digit-small : (t : Bool) → cond t 1 0 ≤ 1
+digit-small true = omega arith
+digit-small false = omega arith
+
+pub digit-zero : (t : Bool) → cond {A = ℕ} t 1 0 ≡ 0 → t ≡ false
+digit-zero true e = absurd (omega (arith, e))
+digit-zero false e = refl
 
 -- a mask of the numbers from i to 7
 pub mask-small : (m i : ℕ) → i ≤ 8 → m < 2 ^ (8 - i) → m < 2 ^ 8

@@ -3,17 +3,19 @@ use mathlib.Core.Path.{_≡_, refl, sym, ap, subst, _∙_}
 use mathlib.Core.Bool.{Bool, true, false, cond}
 use mathlib.Core.List.{List}
 use mathlib.Core.Logic.{⊎-elim}
-use Prim.Native.Nat.{ℕ, _+_, _-_, _/_, _^_, _≤_, _<_}
+use Prim.Native.Nat.{ℕ, _+_, _*_, _-_, _/_, _^_, _≤_, _<_}
+use native.Mathlib.Nat.{le-trans, mul-le-mul-right}
 use native.Mathlib.Omega.{arith}
 use borrow.Author.Count.{below-more}
 use borrow.Author.Tests.{ltb-false}
+use lib.Bits.{bitOr, and-le-l, and-le-r, or-add-and}
 use lib.Dec.{ltb}
 use lib.ListN.{length, getD, set, length-set, replicate}
 use lib.Seq.{getD-set-same, getD-set-other}
 use Rattle.build_index.specs.Inner.{valueAt}
 use Rattle.build_index.proofs.Empty.{read-clear}
 use Rattle.build_index.proofs.Compare.{eq-or-ne}
-use Rattle.build_sieve.specs.Inner.{cellOf, shiftFor, cellIn, Sieve, Cells}
+use Rattle.build_sieve.specs.Inner.{cellOf, shiftFor, cellIn, Sieve, Cells, NoMarkOver, Unmarked}
 use Rattle.build_sieve.proofs.Cells.{cell-low}
 
 -- ---- a cell is one of the marks
@@ -39,34 +41,50 @@ cells-fit m h = go (ltb m 8192) (ltb m 32768) refl refl
 pub cell-in : (m x : ℕ) → 2048 ≤ m → cellIn m x < m
 cell-in m x h = let s = shift-small m in omega (arith, cell-low (shiftFor m) x (omega arith), cells-fit m h)
 
+-- ---- marks
+
+-- two marks in one are no less than either
+pub or-over : (a b : ℕ) → (a ≤ bitOr a b) × (b ≤ bitOr a b)
+or-over a b = (omega (arith, or-add-and a b, and-le-r a b), omega (arith, or-add-and a b, and-le-l a b))
+
+module _ (marks sums differences : List ℕ) (j : ℕ) where
+  pub higher : (x y : ℕ) → x ≤ y → NoMarkOver marks sums differences j x → NoMarkOver marks sums differences j y
+  higher x y h o = record { sum-to = omega (arith, o .sum-to); difference-to = omega (arith, o .difference-to) }
+
+  -- no mark is over x, which is no mark of a row below m
+  pub unmarked : (x m : ℕ) → x * m < 128 → NoMarkOver marks sums differences j x → Unmarked marks sums differences m j
+  unmarked x m h o = record {
+    no-sum = omega (arith, mul-le-mul-right m (o .sum-to));
+    no-difference = omega (arith, mul-le-mul-right m (o .difference-to));
+  }
+
 -- ---- a row more
 
-module _ (t values marks : List ℕ) (i x : ℕ) (s : Sieve t values marks i) (room : i + 8 ≤ length values) (e : x ≡ valueAt t i) where
+-- row i, of value x, joins: its cell keeps its marks and has y for one
+module _ (t values marks : List ℕ) (i x y : ℕ) (s : Sieve t values marks i) (room : i + 8 ≤ length values) (e : x ≡ valueAt t i)
+    (kept : getD marks (cellIn (length marks) x) 0 ≤ y) (high : 128 ≤ y * (i + 1)) where
   abbrev cell : ℕ
   cell = cellIn (length marks) x
 
   within : cell < length marks
   within = cell-in (length marks) x (s .cells)
 
-  -- a mark stays, and one more is set
-  read-mark : (c : ℕ) → getD marks c 0 ≡ 1 → getD (set marks cell 1) c 0 ≡ 1
-  read-mark c q =
-      ⊎-elim (λ (same : c ≡ cell). ap (λ (k : ℕ). getD (set marks cell 1) k 0) same ∙ getD-set-same marks cell 1 0 within)
-      (λ (other : c ≡ cell → ⊥). getD-set-other marks cell c 1 0 other ∙ q) (eq-or-ne c cell)
+  -- no mark becomes lower
+  read-mark : (c : ℕ) → getD marks c 0 ≤ getD (set marks cell y) c 0
+  read-mark c =
+      ⊎-elim (λ (same : c ≡ cell). subst (λ (k : ℕ). getD marks k 0 ≤ getD (set marks cell y) k 0) (sym same) (omega (arith, kept, getD-set-same marks cell y 0 within)))
+      (λ (other : c ≡ cell → ⊥). omega (arith, getD-set-other marks cell c y 0 other)) (eq-or-ne c cell)
 
-  marked-next : (k : ℕ) → k < i + 1 → getD (set marks cell 1) (cellIn (length marks) (valueAt t k)) 0 ≡ 1
+  marked-next : (k : ℕ) → k < i + 1 → 128 ≤ getD (set marks cell y) (cellIn (length marks) (valueAt t k)) 0 * (k + 1)
   marked-next =
-      below-more (λ k. getD (set marks cell 1) (cellIn (length marks) (valueAt t k)) 0 ≡ 1) i (λ k b. read-mark (cellIn (length marks) (valueAt t k)) (s .marked k b))
-      (subst (λ (y : ℕ). getD (set marks cell 1) (cellIn (length marks) y) 0 ≡ 1) e (getD-set-same marks cell 1 0 within))
+      below-more (λ k. 128 ≤ getD (set marks cell y) (cellIn (length marks) (valueAt t k)) 0 * (k + 1)) i
+      (λ k b. le-trans (s .marked k b) (mul-le-mul-right (k + 1) (read-mark (cellIn (length marks) (valueAt t k)))))
+      (subst (λ (z : ℕ). 128 ≤ getD (set marks cell y) (cellIn (length marks) z) 0 * (i + 1)) e
+      (subst (λ (z : ℕ). 128 ≤ z * (i + 1)) (sym (getD-set-same marks cell y 0 within)) high))
 
-  flags-next : (c : ℕ) → getD (set marks cell 1) c 0 ≤ 1
-  flags-next c =
-      ⊎-elim (λ (same : c ≡ cell). omega (arith, ap (λ (k : ℕ). getD (set marks cell 1) k 0) same ∙ getD-set-same marks cell 1 0 within))
-      (λ (other : c ≡ cell → ⊥). omega (arith, getD-set-other marks cell c 1 0 other, s .flags c)) (eq-or-ne c cell)
-
-  pub sieve-next : Sieve t (set values i x) (set marks (cellIn (length marks) x) 1) (i + 1)
+  pub sieve-next : Sieve t (set values i x) (set marks (cellIn (length marks) x) y) (i + 1)
   sieve-next =
-      let q : length marks ≡ length (set marks cell 1) = sym (simp length-set) in
+      let q : length marks ≡ length (set marks cell y) = sym (simp length-set) in
       record {
         room = simp length-set (omega arith);
         cells = simp length-set (s .cells);
@@ -75,8 +93,7 @@ module _ (t values marks : List ℕ) (i x : ℕ) (s : Sieve t values marks i) (r
             (λ k b. getD-set-other values i k x 0 (λ f. omega arith) ∙ s .values-are k b)
             (getD-set-same values i x 0 (omega arith) ∙ e);
         rest = λ k b. getD-set-other values i k x 0 (λ f. omega arith) ∙ s .rest k (omega arith);
-        marked = subst (λ (m : ℕ). (k : ℕ) → k < i + 1 → getD (set marks cell 1) (cellIn m (valueAt t k)) 0 ≡ 1) q marked-next;
-        flags = flags-next;
+        marked = subst (λ (m : ℕ). (k : ℕ) → k < i + 1 → 128 ≤ getD (set marks cell y) (cellIn m (valueAt t k)) 0 * (k + 1)) q marked-next;
       }
 
 -- what is said of n rows holds of every table that has them
@@ -86,19 +103,17 @@ sieve-kept t t′ values marks n same s = record {
   cells = s .cells;
   values-are = λ i b. s .values-are i b ∙ sym (same i b);
   rest = s .rest;
-  marked = λ i b. ap (λ (y : ℕ). getD marks (cellIn (length marks) y) 0) (same i b) ∙ s .marked i b;
-  flags = s .flags;
+  marked = λ i b. subst (λ (y : ℕ). 128 ≤ getD marks (cellIn (length marks) y) 0 * (i + 1)) (sym (same i b)) (s .marked i b);
 }
 
--- no rows: cleared
-pub sieve-none : (t values marks : List ℕ) (a b : ℕ) → values ≡ replicate {A = ℕ} a 0 → marks ≡ replicate {A = ℕ} b 0 → 7 ≤ length values → 2048 ≤ length marks → Sieve t values marks 0
-sieve-none t values marks a b e f h l = record {
+-- no rows: the values are cleared
+pub sieve-none : (t values marks : List ℕ) (a : ℕ) → values ≡ replicate {A = ℕ} a 0 → 7 ≤ length values → 2048 ≤ length marks → Sieve t values marks 0
+sieve-none t values marks a e h l = record {
   room = h;
   cells = l;
   values-are = λ i k. absurd (omega arith);
   rest = λ i k. ap (λ (xs : List ℕ). getD xs i 0) e ∙ read-clear a i;
   marked = λ i k. absurd (omega arith);
-  flags = λ c. omega (arith, ap (λ (xs : List ℕ). getD xs c 0) f ∙ read-clear b c);
 }
 
 -- ---- a value more

@@ -24,27 +24,30 @@ shiftFor m = cond (ltb m 8192) 21 (cond (ltb m 32768) 19 17)
 abbrev pub cellIn : ℕ → ℕ → ℕ
 cellIn m x = cellOf (shiftFor m) x
 
--- the values of n rows, and zeros after them; the cell of each has a mark
+-- the values of n rows, and zeros after them; the cell of each has a mark, the higher the lower the row
 pub record Sieve (table values marks : List ℕ) (n : ℕ) : Type 0 where
   pub room : n + 7 ≤ length values
   pub cells : 2048 ≤ length marks
   pub values-are : (i : ℕ) → i < n → getD values i 0 ≡ valueAt table i
   pub rest : (i : ℕ) → n ≤ i → getD values i 0 ≡ 0
-  pub marked : (i : ℕ) → i < n → getD marks (cellIn (length marks) (valueAt table i)) 0 ≡ 1
-  pub flags : (c : ℕ) → getD marks c 0 ≤ 1
+  pub marked : (i : ℕ) → i < n → 128 ≤ getD marks (cellIn (length marks) (valueAt table i)) 0 * (i + 1)
 
 -- the cells of v + r and of |v - r| for some values r; v + r is even
 pub record Cells (values : List ℕ) (at count v shift : ℕ) (sums differences : List ℕ) : Type 0 where
   pub sums-are : (j : ℕ) → j < count → getD sums j 0 ≡ cellOf shift ((v + getD values (at + j) 0) / 2)
   pub differences-are : (j : ℕ) → j < count → getD differences j 0 ≡ cellOf shift ((v - getD values (at + j) 0) + (getD values (at + j) 0 - v))
 
--- neither of the two cells at place j has a mark
-pub record Unmarked (marks sums differences : List ℕ) (j : ℕ) : Type 0 where
-  pub no-sum : getD marks (getD sums j 0) 0 ≡ 0
-  pub no-difference : getD marks (getD differences j 0) 0 ≡ 0
-
 -- the two cells at place j are those of marks
 pub record InMarks (marks sums differences : List ℕ) (j : ℕ) : Type 0 where
   pub sum-in : getD sums j 0 < length marks
   pub difference-in : getD differences j 0 < length marks
-  pub flags : (c : ℕ) → getD marks c 0 ≤ 1
+
+-- neither of the two cells at place j has a mark over x
+pub record NoMarkOver (marks sums differences : List ℕ) (j x : ℕ) : Type 0 where
+  pub sum-to : getD marks (getD sums j 0) 0 ≤ x
+  pub difference-to : getD marks (getD differences j 0) 0 ≤ x
+
+-- neither of the two cells at place j has the mark of a row below m
+pub record Unmarked (marks sums differences : List ℕ) (m j : ℕ) : Type 0 where
+  pub no-sum : getD marks (getD sums j 0) 0 * m < 128
+  pub no-difference : getD marks (getD differences j 0) 0 * m < 128

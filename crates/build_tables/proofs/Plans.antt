@@ -105,4 +105,4 @@ module _ (cs : List ℤ) (ks rows taps keys : List ℕ) (m : ℕ) (a : CanBuildI
       let ll : length ls ≡ l = length-replicate l 0 in
       let lw : length ws ≡ w = length-replicate w 0 in
       let lb : length bs ≡ b = length-replicate b 0 in
-      can-start hs ls ws bs (indexed-none rows hs ls h refl (omega arith)) (sieve-none rows ws bs w b refl refl (omega arith) (omega arith)) (omega arith) (omega arith)
+      can-start hs ls ws bs (indexed-none rows hs ls h refl (omega arith)) (sieve-none rows ws bs w refl (omega arith) (omega arith)) (omega arith) (omega arith)

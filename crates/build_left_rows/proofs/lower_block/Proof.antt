@@ -1,5 +1,5 @@
 -- `build_left_rows::lower_block` meets its contract. The invariant of its loop: no left row below `low` goes with one of the first k right rows. `low`
--- only falls. The measure is the number of right rows still to pass. Below 0 there is no left row. Assumes nothing.
+-- only falls. The measure is the number of right rows still to pass. Assumes nothing.
 use Prim.Native.Nat.{ℕ, _+_, _-_, _%_, _≤_, _<_}
 use mathlib.Core.Path.{_≡_, subst}
 use mathlib.Core.Logic.{⊎-elim}
@@ -7,7 +7,7 @@ use native.Mathlib.Omega.{arith}
 use Rattle.word.proofs.Order.{lt-or-le}
 use Rattle.build_index.specs.Inner.{valueAt}
 use Rattle.build_left_rows.specs.Inner.{NoLeft}
-use Rattle.build_left_rows.proofs.Lefts.{fewer-lefts, no-row-below-0}
+use Rattle.build_left_rows.proofs.Lefts.{fewer-lefts}
 use Rattle.build_left_rows.proofs.Sifted.{first-cells}
 use Rattle.build_left_rows.proofs.lower_block.Statement.{statement}
 use Rattle.build_left_rows.proofs.lower_block.Tie as tie
@@ -35,31 +35,20 @@ lower-eight-requires c κs =
     let eight : loop .k + 8 ≤ args .count = omega (arith, c .loop-test .taken, loop .inv .1, at-start .pre .1 .1) in
     ((at-start .pre .0 .0, omega (arith, loop .inv .2, at-start .pre .0 .1)), first-cells (args .values .now) (args .marks .now) (args .at) (args .count) (args .v) (args .sums .now) (args .differences .now) (loop .k + 8) eight (at-start .pre .1 .0))
 
-sub-if1 : tie.Need-sub-if1 Inv-loop μ-loop
-sub-if1 c =
-    let at-start = start (c .before .before) in
-    omega (arith, at-start .pre .1 .2)
-
-returns : tie.Need-returns Inv-loop μ-loop
-returns c =
-    let args = start (c .before .before .before) .args in
-    (omega arith, λ i l w. no-row-below-0 (args .table .now) (args .v) (valueAt (args .table .now) (args .at + i)))
-
 add-k : tie.Need-add-k Inv-loop μ-loop
 add-k c = omega arith
 
 loop-less : tie.Need-loop-less Inv-loop μ-loop
-loop-less c = omega (arith, c .before .before .loop-test .taken)
+loop-less c = omega (arith, c .before .loop-test .taken)
 
 loop-again : tie.Need-loop-again Inv-loop μ-loop
 loop-again c =
-    let after-lower-eight = c .before in
-    let in-loop = after-lower-eight .before in
+    let in-loop = c .before in
     let at-loop = in-loop .before in
     let at-start = start at-loop in
     let args = at-start .args in
     let loop = at-loop .loop in
-    let low = after-lower-eight .lower-eight in (
+    let low = c .lower-eight in (
       omega (arith, in-loop .loop-test .taken, loop .inv .1, at-start .pre .1 .1),
       omega (arith, loop .inv .1),
       omega (arith, low .ensures .0, loop .inv .2),
@@ -71,8 +60,8 @@ loop-again c =
           (lt-or-le i (loop .k)),
     )
 
-returns-2 : tie.Need-returns-2 Inv-loop μ-loop
-returns-2 c =
+returns : tie.Need-returns Inv-loop μ-loop
+returns c =
     let loop = c .before .loop in
     (loop .inv .2, λ i l w. loop .inv .3 i (omega (arith, c .loop-test .left)) w)
 
@@ -84,9 +73,7 @@ lower-block-spec =
     μ-loop
     loop-holds
     lower-eight-requires
-    sub-if1
-    returns
     add-k
     loop-less
     loop-again
-    returns-2)
+    returns)

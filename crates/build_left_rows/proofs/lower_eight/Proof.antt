@@ -1,5 +1,5 @@
--- `build_left_rows::lower_eight` meets its contract. A right row of which neither cell has a mark goes with no left row at all; the mask names the
--- others. Assumes nothing.
+-- `build_left_rows::lower_eight` meets its contract. A right row of which neither cell has the mark of a row below m goes with no left row below m;
+-- the mask names the others. Assumes nothing.
 use borrow.Author.Needs.{needs}
 use borrow.Author.Tests.{not-true}
 use mathlib.Core.Path.{_≡_, ap, subst, _∙_}
@@ -22,29 +22,28 @@ cells-in c =
     let args = c .args in
     in-marks (args .table .now) (args .heads .now) (args .links .now) (args .values .now) (args .marks .now) (args .n) (args .v) (c .pre .0 .0) (args .at) (args .k + 8) (args .sums .now) (args .differences .now) (c .pre .1)
 
--- a right row without a mark
-unmarked : (c : tie.Start) (a i : ℕ) → a ≤ c .args .n → i < 8 → c .args .at + (c .args .k + i) < c .args .n → Unmarked (c .args .marks .now) (c .args .sums .now) (c .args .differences .now) (c .args .k + i)
-    → NoLeft (c .args .table .now) a (c .args .v) (valueAt (c .args .table .now) (c .args .at + (c .args .k + i)))
-unmarked c a i h l w u =
+-- a right row without the mark of a row below m
+unmarked : (c : tie.Start) (i : ℕ) → i < 8 → c .args .at + (c .args .k + i) < c .args .n → Unmarked (c .args .marks .now) (c .args .sums .now) (c .args .differences .now) (c .args .m) (c .args .k + i)
+    → NoLeft (c .args .table .now) (c .args .m) (c .args .v) (valueAt (c .args .table .now) (c .args .at + (c .args .k + i)))
+unmarked c i l w u =
     let args = c .args in
-    fewer-lefts a h
-    (unmarked-none (args .table .now) (args .heads .now) (args .links .now) (args .values .now) (args .marks .now) (args .n) (args .v) (c .pre .0 .0) (args .at) (args .k + 8) (args .sums .now) (args .differences .now) (c .pre .1) (args .k + i) (omega arith) w u)
+    unmarked-none (args .table .now) (args .heads .now) (args .links .now) (args .values .now) (args .marks .now) (args .n) (args .v) (c .pre .0 .0) (args .at) (args .k + 8) (args .sums .now) (args .differences .now) (c .pre .1) (args .m) (args .k + i) (c .pre .0 .1) (omega arith) w u
 
 any-marked-requires : tie.Need-any-marked-requires
 any-marked-requires c κs =
     let at-start = c .before .before .before .before .before in
-    ((at-start .pre .1 .few, at-start .pre .1 .sums-long, at-start .pre .1 .differences-long), cells-in at-start)
+    ((at-start .pre .1 .few, at-start .pre .1 .sums-long, at-start .pre .1 .differences-long, omega (arith, at-start .pre .0 .0 .index .few, at-start .pre .0 .1)), cells-in at-start)
 
 returns : tie.Need-returns
 returns c =
     let after-any-marked = c .before in
     let at-start = after-any-marked .before .before .before .before .before .before in
-    (omega arith, λ i l w. unmarked at-start (at-start .args .m) i (at-start .pre .0 .1) l w (after-any-marked .any-marked .ensures (not-true _ (c .if1 .taken)) i l))
+    (omega arith, λ i l w. unmarked at-start i l w (after-any-marked .any-marked .ensures (not-true _ (c .if1 .taken)) i l))
 
 marked-requires : tie.Need-marked-requires
 marked-requires c κs =
     let at-start = c .before .before .before .before .before .before .before in
-    ((at-start .pre .1 .few, at-start .pre .1 .sums-long, at-start .pre .1 .differences-long), cells-in at-start)
+    ((at-start .pre .1 .few, at-start .pre .1 .sums-long, at-start .pre .1 .differences-long, omega (arith, at-start .pre .0 .0 .index .few, at-start .pre .0 .1)), cells-in at-start)
 
 add-lower-named : tie.Need-add-lower-named
 add-lower-named c = search needs
@@ -71,7 +70,7 @@ returns-2 c =
     let mask = after-marked .marked in (
       low .ensures .0,
       λ i l w.
-          ⊎-elim (λ (none : mask .result / 2 ^ i % 2 < 1). unmarked at-start (low .result) i (omega (arith, low .ensures .0, at-start .pre .0 .1)) l w (mask .ensures .1 i l (omega arith)))
+          ⊎-elim (λ (none : mask .result / 2 ^ i % 2 < 1). fewer-lefts (low .result) (low .ensures .0) (unmarked at-start i l w (mask .ensures .1 i l (omega arith))))
           (λ (some : 1 ≤ mask .result / 2 ^ i % 2).
           let e : args .at + args .k + i ≡ args .at + (args .k + i) = omega arith in
           let q : getD (args .values .now) (args .at + args .k + i) 0 ≡ valueAt (args .table .now) (args .at + (args .k + i)) = ap (λ (j : ℕ). getD (args .values .now) j 0) e ∙ s .sieve .values-are (args .at + (args .k + i)) w in

@@ -74,9 +74,13 @@ lower-block-requires c κs =
           differences-long = cells .ensures .1 .1;
         },
         count .ensures .1,
-        omega (arith, in-loop .loop-test .taken),
       ),
     )
+
+sub-if1 : tie.Need-sub-if1 Inv-loop μ-loop
+sub-if1 c =
+    let in-loop = c .before .before .before .before .before .before .before in
+    omega (arith, in-loop .loop-test .taken)
 
 returns : tie.Need-returns Inv-loop μ-loop
 returns c =
@@ -135,6 +139,7 @@ lowest-left-spec =
     stretch-requires
     fill-cells-requires
     lower-block-requires
+    sub-if1
     returns
     add-j
     loop-less

@@ -35,7 +35,7 @@ extend-requires c κs =
     let a = at-start .args in
     let t = after-put .put .last .0 in
     let g = row-0-put after-put in (
-      (sieve-kept (a .table .now) t (a .values .now) (a .marks .now) 0 (λ i l. absurd (omega arith)) (at-start .pre .1 .0), omega arith, omega (arith, at-start .pre .1 .1), g .index .room),
+      (sieve-kept (a .table .now) t (a .values .now) (a .marks .now) 0 (λ i l. absurd (omega arith)) (at-start .pre .1 .0), omega arith, omega (arith, at-start .pre .1 .1), g .index .room, g .index .few),
       first-bounded (a .table .now) t (after-put .put .last .1 .0) (after-put .put .last .1 .1 .0) g,
     )
 

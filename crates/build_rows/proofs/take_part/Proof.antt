@@ -23,6 +23,7 @@ extend-requires c κs =
         no-fewer (a .table .now) (a .heads .now) (a .links .now) (a .values .now) (a .marks .now) (a .n) (a .most) p (at-start .pre) t h l (add .result) (add .ensures),
         room-left (a .table .now) (a .heads .now) (a .links .now) (a .values .now) (a .marks .now) (a .n) (a .most) p (at-start .pre) t h l (add .result) (add .ensures),
         add .ensures .index .room,
+        add .ensures .index .few,
       ),
       step-bounded (a .table .now) (a .heads .now) (a .links .now) (a .values .now) (a .marks .now) (a .n) (a .most) p (at-start .pre) t h l (add .result) (add .ensures),
     )
