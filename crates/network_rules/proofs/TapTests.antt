@@ -2,7 +2,8 @@
 use mathlib.Core.Path.{_≡_, refl, sym, ap, ap₂, subst, _∙_}
 use mathlib.Core.Bool.{Bool, true, false, cond, _&&_, _||_, or-false, false≢true}
 use mathlib.Core.List.{List}
-use Prim.Native.Nat.{ℕ, zero, suc, _-_, _%_, _^_, _≤_, _<_}
+use Prim.Native.Nat.{ℕ, zero, suc, _+_, _*_, _-_, _%_, _^_, _≤_, _<_}
+use native.Mathlib.Nat.{lt-of-not-le, not-le-of-lt}
 use native.Mathlib.Omega.{arith}
 use borrow.Author.Tests.{leb-true, leb-false, eqb-true, lt-ltb, le-ltb, le-leb, lt-leb, ne-eqb}
 use lib.Dec.{eqb, leb, ltb}
@@ -37,33 +38,43 @@ negative-within zero false e = absurd (omega (arith, leb-false zero (2 ^ 31) e))
 negative-within (suc k) true e = rw (le-leb k (2 ^ 31 - 1) (omega (arith, leb-true (suc k) (2 ^ 31) e)))
 negative-within (suc k) false e = rw (lt-leb k (2 ^ 31 - 1) (omega (arith, leb-false (suc k) (2 ^ 31) e)))
 
--- most is the greatest number that the sign lets through
-module _ (s p most : ℕ) (e : most ≡ cond (eqb s minus) (2 ^ 31) (2 ^ 31 - 1)) where
+same-test : (a b c d : ℕ) → (a ≤ b → c ≤ d) → (c ≤ d → a ≤ b) → leb a b ≡ leb c d
+same-test a b c d f g = go (leb c d) refl
+  where
+    go : (t : Bool) → leb c d ≡ t → leb a b ≡ t
+    go true e = le-leb a b (g (leb-true c d e))
+    go false e = lt-leb a b (lt-of-not-le (λ h. not-le-of-lt (leb-false c d e) (f h)))
+
+-- most is twice the greatest number that the sign lets through
+module _ (s p most : ℕ) (e : most ≡ 2 ^ 32 - minus + s) where
   Tested : ℕ → Type 0
-  Tested t = (isTapSign t && leb p (cond (eqb t minus) (2 ^ 31) (2 ^ 31 - 1))) ≡ (isTapSign t && withinBounds (withSign t (pos p)))
+  Tested t = (isTapSign t && leb (2 * p) (2 ^ 32 - minus + t)) ≡ (isTapSign t && withinBounds (withSign t (pos p)))
 
   by-sign : (x y : Bool) → eqb s plus ≡ x → eqb s minus ≡ y → Tested s
   unfolding Tested
-  by-sign true y f g = subst Tested (sym (eqb-true s plus f)) refl
-  by-sign false true f g = subst Tested (sym (eqb-true s minus g)) (negative-within p (leb p (2 ^ 31)) refl)
+  by-sign true y f g = subst Tested (sym (eqb-true s plus f)) (same-test (2 * p) (2 ^ 32 - 2) p (2 ^ 31 - 1) (λ h. omega arith) (λ h. omega arith))
+  by-sign false true f g = subst Tested (sym (eqb-true s minus g)) (same-test (2 * p) (2 ^ 32) p (2 ^ 31) (λ h. omega arith) (λ h. omega arith) ∙ negative-within p (leb p (2 ^ 31)) refl)
   by-sign false false f g = rw (f, g)
 
   after : (a b c d : Bool) → (b && c) ≡ (b && d) → (a && b && c) ≡ (a && b && d)
   after true b c d q = q
   after false b c d q = refl
 
-  pub product-tests : (shift : ℕ) → (leb shift 31 && isTapSign s && leb p most) ≡ (leb shift 31 && isTapSign s && withinBounds (withSign s (pos p)))
+  pub product-tests : (shift : ℕ) → (leb shift 31 && isTapSign s && leb (2 * p) most) ≡ (leb shift 31 && isTapSign s && withinBounds (withSign s (pos p)))
   unfolding Tested
   product-tests shift =
-      ap (λ (m : ℕ). leb shift 31 && isTapSign s && leb p m) e
-      ∙ after (leb shift 31) (isTapSign s) (leb p (cond (eqb s minus) (2 ^ 31) (2 ^ 31 - 1))) (withinBounds (withSign s (pos p))) (by-sign (eqb s plus) (eqb s minus) refl refl)
+      ap (λ (m : ℕ). leb shift 31 && isTapSign s && leb (2 * p) m) e
+      ∙ after (leb shift 31) (isTapSign s) (leb (2 * p) (2 ^ 32 - minus + s)) (withinBounds (withSign s (pos p))) (by-sign (eqb s plus) (eqb s minus) refl refl)
 
-  pub product-small : (shift : ℕ) → (leb shift 31 && isTapSign s && leb p most) ≡ true → p ≤ 2 ^ 31
-  product-small shift q = omega (arith, leb-true p most (three (leb shift 31) (isTapSign s) (leb p most) q .2), e, at-most (eqb s minus))
+  pub product-small : (shift : ℕ) → (leb shift 31 && isTapSign s && leb (2 * p) most) ≡ true → p ≤ 2 ^ 31
+  product-small shift q =
+      let t = three (leb shift 31) (isTapSign s) (leb (2 * p) most) q in
+      omega (arith, leb-true (2 * p) most (t .2), e, at-most (eqb s plus) (eqb s minus) refl refl (t .1))
     where
-      at-most : (t : Bool) → cond t (2 ^ 31) (2 ^ 31 - 1) ≤ 2 ^ 31
-      at-most true = omega arith
-      at-most false = omega arith
+      at-most : (x y : Bool) → eqb s plus ≡ x → eqb s minus ≡ y → isTapSign s ≡ true → s ≤ minus
+      at-most true y f g h = omega (arith, eqb-true s plus f)
+      at-most false true f g h = omega (arith, eqb-true s minus g)
+      at-most false false f g h = absurd (false≢true (sym (ap₂ _||_ f g) ∙ h))
 
 pub last-two : (a b c : Bool) → (a && b && c) ≡ true → (b && c) ≡ true
 last-two true b c e = e

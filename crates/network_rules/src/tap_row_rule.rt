@@ -45,13 +45,15 @@ fn with_sign(sign: u32, p: u64) -> i32
 }
 
 // The shift and the sign are those of a tap row that is not empty, and p with the sign is a
-// coefficient. There is no jump, since the signs of taps follow no pattern.
+// coefficient: the code of - is 2 above that of +, so that p goes to 2^31 with - and to 2^31 - 1
+// with +. There is no jump, since the signs of taps follow no pattern.
 fn is_product(shift: u32, sign: u32, p: u64) -> bool
+    requires { ⌜ p < 2 ^ 63 ⌝ }
     ensures { λ r. ⌜ (r ≡ (leb shift 31 && isTapSign sign && withinBounds (withSign sign (pos p)))) × (r ≡ true → p ≤ 2 ^ 31) ⌝ }
 {
     (shift <= 31)
         & ((sign == PLUS) | (sign == MINUS))
-        & (p <= choose_wide(sign == MINUS, 2147483648, 2147483647))
+        & (2 * p <= 0x1_0000_0000 - word::wide(MINUS) + word::wide(sign))
 }
 
 // The product of tap row j over the first n rows.

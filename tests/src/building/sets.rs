@@ -72,6 +72,17 @@ fn arithmetic() -> Family {
     )
 }
 
+/// How slow an index or a search is goes by the step, and nobody knows the worst one.
+fn random_steps() -> Family {
+    let mut random = Random::new(10);
+    let sets = (0..8).map(|_| {
+        let step = 2 * random_bits(&mut random, 30);
+        let what = format!("1 + {step} k mod 2^31");
+        pattern(&what, |k| (1 + step * k) % (1 << 31))
+    });
+    family("progressions of random steps", sets)
+}
+
 fn geometric() -> Family {
     let mut power = 1;
     let next = |_| {
@@ -156,6 +167,7 @@ pub fn families() -> Vec<Family> {
     let random = [8, 12, 16, 24, 31].map(random_parts);
     let others = [
         arithmetic(),
+        random_steps(),
         geometric(),
         reversed_bits(),
         changed_bits(),
