@@ -26,7 +26,7 @@
  *   stack: fir_canonical          64
  *   stack: fir_minimal_forms     128
  *   stack: fir_form_count         64
- *   stack: fir_build           65344
+ *   stack: fir_build           65408
  *   stack: fir_check            1216
  *   stack: fir_coefficients     1280
  *   stack: fir_run              7744 */

@@ -1,4 +1,3 @@
-pub mod Lefts
 pub mod NamedRows
-pub mod OddPart
 pub mod Sifted
+pub mod Turns

@@ -1,19 +1,19 @@
--- What the sieve tells of the left rows: where neither of the two cells of a right row has the mark of a row below m, no left row below m goes with it.
--- Assumes nothing.
+-- What the sieve tells of the left rows: where a cell has no mark of a row below m, no such row goes with the right row. Assumes nothing.
 use mathlib.Core.Path.{_≡_, sym, ap, subst, _∙_}
+use mathlib.Core.Bool.{Bool, true, false}
 use mathlib.Core.List.{List}
 use mathlib.Core.Logic.{⊎-elim}
 use Prim.Native.Nat.{ℕ, zero, suc, _+_, _*_, _-_, _/_, _%_, _^_, _≤_, _<_}
-use native.Mathlib.Nat.{mul-assoc, mul-le-mul-left, pow-succ'}
+use native.Mathlib.Nat.{mul-assoc, mul-le-mul-left, mul-le-mul-right, pow-succ'}
 use native.Mathlib.Omega.{arith}
 use lib.ListN.{length, getD}
 use Rattle.word.proofs.Order.{lt-or-le}
 use Rattle.network.specs.RowRule.{lifted}
 use Rattle.build_index.specs.Inner.{valueAt}
-use Rattle.build_sieve.specs.Inner.{cellOf, shiftFor, cellIn, Unmarked, InMarks}
+use Rattle.build_sieve.specs.Inner.{cellOf, shiftFor, cellIn, markAt}
 use Rattle.build_sieve.proofs.Cells.{cell-lifted}
 use Rattle.build_sieve.proofs.Sieves.{cell-in}
-use Rattle.build_left_rows.specs.Inner.{NoLeft, Sifting, InBlock}
+use Rattle.build_left_rows.specs.Inner.{NoTurn, numberFor, Sifting, InBlock, Telling}
 
 module _ (table heads links values marks : List ℕ) (n v : ℕ) (s : Sifting table heads links values marks n v) where
   -- ---- the values, and the zeros after them
@@ -40,32 +40,40 @@ module _ (table heads links values marks : List ℕ) (n v : ℕ) (s : Sifting ta
       let q : lifted (suc t) l ≡ 2 * (2 ^ t * l) = rw (pow-succ' 2 t) (mul-assoc 2 (2 ^ t) l) in
       omega (arith, e, q)
 
-  module _ (m r : ℕ) (few : m ≤ n) (odd : r % 2 ≡ 1) (small : r < 2 ^ 31) where
-    no-sum : (s′ i : ℕ) → i < m → lifted s′ (valueAt table i) ≡ v + r → None m ((v + r) / 2) → ⊥
-    no-sum zero i l e none = omega (arith, s .odd i (omega arith), s .new-odd, e)
-    no-sum (suc t) i l e none = no-row m ((v + r) / 2) t i (omega arith) l (half-lifted (v + r) t (valueAt table i) (sym e)) (omega (arith, s .new-small)) none
-
-    pub cells-tell : None m ((v + r) / 2) → None m ((v - r) + (r - v)) → NoLeft table m v r
-    cells-tell none-sum none-difference = record {
-      no-plus = λ t i b l e. no-row m ((v - r) + (r - v)) t i (omega arith) l (omega (arith, e)) (omega (arith, s .new-small)) none-difference;
-      no-minus = λ t i b l e. no-sum t i l e none-sum;
-      no-reversed = λ t i b l e. no-row m ((v - r) + (r - v)) t i (omega arith) l (omega (arith, e)) (omega (arith, s .new-small)) none-difference;
-    }
+  no-sum : (m r s′ i : ℕ) → m ≤ n → r % 2 ≡ 1 → r < 2 ^ 31 → i < m → lifted s′ (valueAt table i) ≡ v + r → None m ((v + r) / 2) → ⊥
+  no-sum m r zero i few odd small l e none = omega (arith, s .odd i (omega arith), s .new-odd, e)
+  no-sum m r (suc t) i few odd small l e none = no-row m ((v + r) / 2) t i (omega arith) l (half-lifted (v + r) t (valueAt table i) (sym e)) (omega (arith, s .new-small)) none
 
   -- ---- a stretch of right rows
   module _ (at count : ℕ) (sums differences : List ℕ) (b : InBlock values marks at count v sums differences) where
-    pub in-marks : (j : ℕ) → j < count → InMarks marks sums differences j
-    in-marks j l = record {
-      sum-in = omega (arith, b .cells .sums-are j l, cell-in (length marks) ((v + getD values (at + j) 0) / 2) (s .sieve .cells));
-      difference-in = omega (arith, b .cells .differences-are j l, cell-in (length marks) ((v - getD values (at + j) 0) + (getD values (at + j) 0 - v)) (s .sieve .cells));
+    pub sums-tell : Telling table marks sums at count n v true
+    sums-tell = record {
+      few = b .few;
+      long = b .sums-long;
+      in-marks = λ j l. omega (arith, b .cells .sums-are j l, cell-in (length marks) ((v + getD values (at + j) 0) / 2) (s .sieve .cells));
+      tells = λ j m l w few u t i h k e.
+          no-sum m (valueAt table (at + j)) t i few (s .odd (at + j) w) (s .bounded (at + j) w) k e
+          (subst (λ (r : ℕ). None m ((v + r) / 2)) (s .sieve .values-are (at + j) w) (subst (λ (c : ℕ). getD marks c 0 * m < 128) (b .cells .sums-are j l) u));
     }
 
-    pub unmarked-none : (m j : ℕ) → m ≤ n → j < count → at + j < n → Unmarked marks sums differences m j → NoLeft table m v (valueAt table (at + j))
-    unmarked-none m j few l w u =
-        let e = s .sieve .values-are (at + j) w in
-        cells-tell m (valueAt table (at + j)) few (s .odd (at + j) w) (s .bounded (at + j) w)
-        (subst (λ (r : ℕ). None m ((v + r) / 2)) e (subst (λ (c : ℕ). getD marks c 0 * m < 128) (b .cells .sums-are j l) (u .no-sum)))
-        (subst (λ (r : ℕ). None m ((v - r) + (r - v))) e (subst (λ (c : ℕ). getD marks c 0 * m < 128) (b .cells .differences-are j l) (u .no-difference)))
+    pub differences-tell : Telling table marks differences at count n v false
+    differences-tell = record {
+      few = b .few;
+      long = b .differences-long;
+      in-marks = λ j l. omega (arith, b .cells .differences-are j l, cell-in (length marks) ((v - getD values (at + j) 0) + (getD values (at + j) 0 - v)) (s .sieve .cells));
+      tells = λ j m l w few u t i h k e.
+          no-row m ((v - valueAt table (at + j)) + (valueAt table (at + j) - v)) t i (omega arith) k (sym e) (omega (arith, s .new-small, s .bounded (at + j) w))
+          (subst (λ (r : ℕ). None m ((v - r) + (r - v))) (s .sieve .values-are (at + j) w) (subst (λ (c : ℕ). getD marks c 0 * m < 128) (b .cells .differences-are j l) u));
+    }
+
+-- a mark that is no higher than one that is of no row below m
+pub low-mark : (x y m : ℕ) → x ≤ y → y * m < 128 → x * m < 128
+low-mark x y m h l = omega (arith, mul-le-mul-right m h)
+
+-- a cell without a mark of the rows that have a turn below m
+pub no-turn-told : (table marks cells : List ℕ) (at count n v : ℕ) (sum : Bool) → Telling table marks cells at count n v sum → (m j : ℕ) → m ≤ 32 * n → j < count → at + j < n
+    → markAt marks cells j * ((m + 31) / 32) < 128 → NoTurn table m (numberFor sum v (valueAt table (at + j)))
+no-turn-told table marks cells at count n v sum w m j h l b u s i k e = w .tells j ((m + 31) / 32) l b (omega arith) u s i k (omega arith)
 
 -- fewer of them
 pub first-cells : (values marks : List ℕ) (at count v : ℕ) (sums differences : List ℕ) (k : ℕ) → k ≤ count → InBlock values marks at count v sums differences → InBlock values marks at k v sums differences

@@ -1,20 +1,14 @@
-// Step 2 of building: the left rows that no right row goes with, by one pass over the right rows.
+// Step 2 of building: the turns of the search that no right row goes with, by one pass over the right
+// rows. Left row i at shift s is turn 32·i + s.
 ghost use mathlib.Core.Path.{_≡_};
+ghost use mathlib.Core.Bool.{true, false};
 ghost use mathlib.Core.Logic.{_⊎_};
-ghost use Prim.Native.Nat.{ℕ, _+_, _-_, _/_, _%_, _^_, _≤_, _<_};
+ghost use Prim.Native.Nat.{ℕ, _+_, _*_, _-_, _/_, _%_, _^_, _≤_, _<_};
 ghost use lib.ListN.{length, getD};
-ghost use Rattle.network.specs.RowRule.{lifted};
 ghost use Rattle.build_index.specs.Inner.{valueAt, Indexed};
-ghost use Rattle.build_left_rows.specs.Inner.{NoLeft, Sifting, InBlock};
+ghost use Rattle.build_sieve.specs.Inner.{markAt};
+ghost use Rattle.build_left_rows.specs.Inner.{NoTurn, numberFor, NoLeft, Sifting, InBlock, Telling};
 use build_index::Found;
-
-// x without its factors 2.
-fn odd_part(x: u32) -> u32
-    requires { ⌜ 0 < x ⌝ }
-    ensures { λ r. ⌜ ((s l : ℕ) → s < 32 → l % 2 ≡ 1 → x ≡ lifted s l → r ≡ l) ⌝ }
-{
-    x >> u32::trailing_zeros(x)
-}
 
 fn distance(a: u32, b: u32) -> u32
     ensures { λ r. ⌜ (r ≡ (a - b) + (b - a)) ⌝ }
@@ -22,15 +16,17 @@ fn distance(a: u32, b: u32) -> u32
     if a < b { b - a } else { a - b }
 }
 
-// The number of the row that has the value x, and m where there is none below m.
+// The turn in which x is 2^s·left, and m where there is none below m.
 fn lower(table: &[u32], heads: &[u16], links: &[u16], n: usize, m: usize, x: u32) -> usize
-    requires { ⌜ Indexed (now table) (now heads) (now links) n × (m ≤ n) ⌝ }
-    ensures { λ r. ⌜ (r ≤ m) × ((i : ℕ) → i < r → valueAt (now (table .entry)) i ≡ x → ⊥) ⌝ }
+    requires { ⌜ Indexed (now table) (now heads) (now links) n × (m ≤ 32 * n) × ((i : ℕ) → i < n → valueAt (now table) i % 2 ≡ 1) × (0 < x) ⌝ }
+    ensures { λ r. ⌜ (r ≤ m) × NoTurn (now (table .entry)) r x ⌝ }
 {
-    match build_index::find(table, heads, links, n, x) {
+    let shift = u32::trailing_zeros(x);
+    match build_index::find(table, heads, links, n, x >> shift) {
         Found::At(k) => {
-            if k < m {
-                return k;
+            let turn = 32 * k + word::index(shift);
+            if turn < m {
+                return turn;
             }
             m
         }
@@ -38,28 +34,8 @@ fn lower(table: &[u32], heads: &[u16], links: &[u16], n: usize, m: usize, x: u32
     }
 }
 
-// No left row below the result makes v with a right row of value r: it would have the odd part of
-// v + r or of |v - r| for its value.
-fn lower_left(
-    table: &[u32],
-    heads: &[u16],
-    links: &[u16],
-    n: usize,
-    m: usize,
-    v: u32,
-    r: u32,
-) -> usize
-    requires { ⌜ Indexed (now table) (now heads) (now links) n × (m ≤ n) × ((i : ℕ) → i < n → valueAt (now table) i % 2 ≡ 1) ⌝ }
-    requires { ⌜ (v < 2 ^ 31) × (r < 2 ^ 31) × (0 < v) × (r ≡ v → ⊥) ⌝ }
-    ensures { λ a. ⌜ (a ≤ m) × NoLeft (now (table .entry)) a v r ⌝ }
-{
-    let sum = odd_part(v + r);
-    let difference = odd_part(distance(v, r));
-    let a = lower(table, heads, links, n, m, sum);
-    lower(table, heads, links, n, a, difference)
-}
-
-// The same for each right row that a mask of eight names, the first of them at a place.
+// No turn below the result goes with one of the right rows that a mask of eight names, the first of
+// them at a place, where they make v by their sum with it, or by their difference.
 fn lower_named(
     table: &[u32],
     heads: &[u16],
@@ -70,11 +46,12 @@ fn lower_named(
     v: u32,
     at: usize,
     mask: u32,
+    sum: bool,
 ) -> usize
-    requires { ⌜ Indexed (now table) (now heads) (now links) n × (m ≤ n) × ((i : ℕ) → i < n → valueAt (now table) i % 2 ≡ 1) ⌝ }
+    requires { ⌜ Indexed (now table) (now heads) (now links) n × (m ≤ 32 * n) × ((i : ℕ) → i < n → valueAt (now table) i % 2 ≡ 1) ⌝ }
     requires { ⌜ (v < 2 ^ 31) × (0 < v) × ((i : ℕ) → getD (now values) i 0 < 2 ^ 31) × ((i : ℕ) → getD (now values) i 0 ≡ v → ⊥) ⌝ }
     requires { ⌜ (mask < 2 ^ 8) × (at + 8 ≤ length (now values)) ⌝ }
-    ensures { λ a. ⌜ (a ≤ m) × ((i : ℕ) → mask / 2 ^ i % 2 ≡ 1 → NoLeft (now (table .entry)) a v (getD (now (values .entry)) (at + i) 0)) ⌝ }
+    ensures { λ a. ⌜ (a ≤ m) × ((i : ℕ) → mask / 2 ^ i % 2 ≡ 1 → NoTurn (now (table .entry)) a (numberFor sum v (getD (now (values .entry)) (at + i) 0))) ⌝ }
 {
     let mut low = m;
     let mut rest = mask;
@@ -82,14 +59,45 @@ fn lower_named(
     while rest != 0 {
         let zeros = u32::trailing_zeros(rest);
         j += word::index(zeros);
-        low = lower_left(table, heads, links, n, low, v, values[j]);
+        let r = values[j];
+        let x = word::choose(sum, v + r, distance(v, r));
+        low = lower(table, heads, links, n, low, x);
         rest = (rest >> zeros) / 2;
         j += 1;
     }
     low
 }
 
-// The same for eight right rows, from one on; most often no cell of theirs has a mark that counts.
+// The same for eight right rows, from one on, by the marks of their cells; `all` has these in one. Most
+// often none of them counts.
+fn lower_marked(
+    table: &[u32],
+    heads: &[u16],
+    links: &[u16],
+    values: &[u32],
+    marks: &[u8],
+    n: usize,
+    m: usize,
+    v: u32,
+    at: usize,
+    cells: &[u32; 32],
+    k: usize,
+    all: u8,
+    sum: bool,
+) -> usize
+    requires { ⌜ Sifting (now table) (now heads) (now links) (now values) (now marks) n v × (m ≤ 32 * n) × (at + (k + 8) ≤ length (now values)) ⌝ }
+    requires { ⌜ Telling (now table) (now marks) (now cells) at (k + 8) n v sum × ((i : ℕ) → i < 8 → markAt (now marks) (now cells) (k + i) ≤ all) ⌝ }
+    ensures { λ a. ⌜ (a ≤ m) × ((i : ℕ) → i < 8 → at + (k + i) < n → NoTurn (now (table .entry)) a (numberFor sum v (valueAt (now (table .entry)) (at + (k + i))))) ⌝ }
+{
+    let rows = (m + 31) / 32;
+    if !build_sieve::may_be_below(rows, all) {
+        return m;
+    }
+    let mask = build_sieve::marked(marks, cells, k, rows);
+    lower_named(table, heads, links, values, n, m, v, at + k, mask, sum)
+}
+
+// No turn below the result makes v with one of eight right rows, from one on.
 fn lower_eight(
     table: &[u32],
     heads: &[u16],
@@ -104,15 +112,45 @@ fn lower_eight(
     differences: &[u32; 32],
     k: usize,
 ) -> usize
-    requires { ⌜ Sifting (now table) (now heads) (now links) (now values) (now marks) n v × (m ≤ n) ⌝ }
+    requires { ⌜ Sifting (now table) (now heads) (now links) (now values) (now marks) n v × (m ≤ 32 * n) ⌝ }
     requires { ⌜ InBlock (now values) (now marks) at (k + 8) v (now sums) (now differences) ⌝ }
     ensures { λ a. ⌜ (a ≤ m) × ((i : ℕ) → i < 8 → at + (k + i) < n → NoLeft (now (table .entry)) a v (valueAt (now (table .entry)) (at + (k + i)))) ⌝ }
 {
-    if !build_sieve::any_marked(marks, sums, differences, k, m) {
+    let sum = build_sieve::joined(marks, sums, k);
+    let difference = build_sieve::joined(marks, differences, k);
+    if !build_sieve::may_be_below((m + 31) / 32, sum | difference) {
         return m;
     }
-    let mask = build_sieve::marked(marks, sums, differences, k, m);
-    lower_named(table, heads, links, values, n, m, v, at + k, mask)
+    let a = lower_marked(
+        table,
+        heads,
+        links,
+        values,
+        marks,
+        n,
+        m,
+        v,
+        at,
+        sums,
+        k,
+        sum,
+        true,
+    );
+    lower_marked(
+        table,
+        heads,
+        links,
+        values,
+        marks,
+        n,
+        a,
+        v,
+        at,
+        differences,
+        k,
+        difference,
+        false,
+    )
 }
 
 // The same for a stretch of right rows, eight by eight.
@@ -130,7 +168,7 @@ fn lower_block(
     sums: &[u32; 32],
     differences: &[u32; 32],
 ) -> usize
-    requires { ⌜ Sifting (now table) (now heads) (now links) (now values) (now marks) n v × (m ≤ n) ⌝ }
+    requires { ⌜ Sifting (now table) (now heads) (now links) (now values) (now marks) n v × (m ≤ 32 * n) ⌝ }
     requires { ⌜ InBlock (now values) (now marks) at count v (now sums) (now differences) × (count % 8 ≡ 0) ⌝ }
     ensures { λ a. ⌜ (a ≤ m) × ((i : ℕ) → i < count → at + i < n → NoLeft (now (table .entry)) a v (valueAt (now (table .entry)) (at + i))) ⌝ }
 {
@@ -167,9 +205,9 @@ fn stretch(rows: usize) -> usize
     (rows + 7) / 8 * 8
 }
 
-// No left row below the result makes v with any right row. The pass is cut short, with 0, where a low left
-// row may fit: then the search itself comes there sooner.
-pub fn lowest_left(
+// No turn below the result makes v with any right row. The pass is cut short, with 0, where an early
+// turn may: then the search itself comes there sooner.
+pub fn first_turn(
     table: &[u32],
     heads: &[u16],
     links: &[u16],
@@ -179,12 +217,12 @@ pub fn lowest_left(
     v: u32,
 ) -> usize
     requires { ⌜ Sifting (now table) (now heads) (now links) (now values) (now marks) n v ⌝ }
-    ensures { λ a. ⌜ (a ≤ n) × ((k : ℕ) → k < n → NoLeft (now (table .entry)) a v (valueAt (now (table .entry)) k)) ⌝ }
+    ensures { λ a. ⌜ (a ≤ 32 * n) × ((k : ℕ) → k < n → NoLeft (now (table .entry)) a v (valueAt (now (table .entry)) k)) ⌝ }
 {
     let shift = build_sieve::shift_for(marks.len());
     let mut sums = [0u32; 32];
     let mut differences = [0u32; 32];
-    let mut low = n;
+    let mut low = 32 * n;
     let mut j: usize = 0;
     while j < n {
         let count = stretch(n - j);
@@ -203,7 +241,7 @@ pub fn lowest_left(
             &sums,
             &differences,
         );
-        if low <= (n - j) / 32 {
+        if low < (n - j) / 2 {
             return 0;
         }
         j += 32;

@@ -1,7 +1,7 @@
--- The left rows that no right row goes with. Assumes nothing.
+-- The turns that no right row goes with. Assumes nothing.
 use mathlib.Core.Path.{_≡_, refl, sym}
 use mathlib.Core.List.{List}
-use Prim.Native.Nat.{ℕ, suc, _-_, _≤_, _<_}
+use Prim.Native.Nat.{ℕ, suc, _+_, _*_, _-_, _<_}
 use native.Mathlib.Omega.{arith}
 use Rattle.network.specs.Rows.{rowsOf}
 use Rattle.network.specs.RowRule.{lifted}
@@ -27,17 +27,17 @@ sifting t heads links values marks n most v s w = record {
   new = row-missing t n v (s .new);
 }
 
--- where no right row goes with a left row, nothing fits with it
-module _ (t : List ℕ) (n m v : ℕ) (h : m ≤ n) (none : (k : ℕ) → k < n → NoLeft t m v (valueAt t k)) where
-  shift-none : (i s : ℕ) → i < m → s < 32 → fitAtShift (rowsOf t n) v i s ≡ none-fits
+-- where no right row goes with a turn, nothing fits in it
+module _ (t : List ℕ) (n m v : ℕ) (none : (k : ℕ) → k < n → NoLeft t m v (valueAt t k)) where
+  pub turn-none : (i s : ℕ) → i < n → s < 32 → 32 * i + s < m → fitAtShift (rowsOf t n) v i s ≡ none-fits
   unfolding orElse
-  shift-none i s l b =
+  turn-none i s w b l =
       let a = lifted s (valueAt t i) in
       three-signs (rowsOf t n) v i s none-fits none-fits none-fits
-      (plus-none t n v i s a (omega arith) refl (λ k w e. none k w .no-plus s i b l e))
-      (minus-none t n v i s a (omega arith) refl (λ k w e. none k w .no-minus s i b l (sym e)))
-      (reversed-none t n v i s a (omega arith) refl (λ k w e. none k w .no-reversed s i b l (sym e)))
+      (plus-none t n v i s a w refl (λ k h e. none k h .no-difference s i b l (omega (arith, e))))
+      (minus-none t n v i s a w refl (λ k h e. none k h .no-sum s i b l (sym e)))
+      (reversed-none t n v i s a w refl (λ k h e. none k h .no-difference s i b l (omega (arith, e))))
 
-  pub left-fits-none : (i : ℕ) → i < m → fitAtLeft (rowsOf t n) v i ≡ none-fits
+  pub left-turns-none : (i : ℕ) → i < n → 32 * i + 31 < m → fitAtLeft (rowsOf t n) v i ≡ none-fits
   unfolding fitAtLeft
-  left-fits-none i l = over-none (λ (shift : ℕ). fitAtShift (rowsOf t n) v i shift) suc 31 (λ k b. shift-none i (suc k) l (omega arith))
+  left-turns-none i w l = over-none (λ (shift : ℕ). fitAtShift (rowsOf t n) v i shift) suc 31 (λ k b. turn-none i (suc k) w (omega arith) (omega arith))

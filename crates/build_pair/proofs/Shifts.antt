@@ -2,12 +2,12 @@
 use mathlib.Core.Path.{_≡_, refl, ap, _∙_}
 use mathlib.Core.List.{List}
 use mathlib.Core.Logic.{⊎-elim}
-use Prim.Native.Nat.{ℕ, suc, _+_, _-_, _*_, _^_, _≤_, _<_}
-use native.Mathlib.Nat.{eq-or-lt-of-le, mul-assoc, pow-succ', le-mul-of-pos-right, mul-le-mul-right}
+use Prim.Native.Nat.{ℕ, suc, _+_, _-_, _*_, _%_, _^_, _≤_, _<_}
+use native.Mathlib.Nat.{eq-or-lt-of-le, mul-assoc, mul-comm, pow-succ', le-mul-of-pos-right, mul-le-mul-right}
 use native.Mathlib.Numerals.{add-one}
 use native.Mathlib.Omega.{arith}
 use lib.ListN.{length}
-use lib.Pow.{pow-mono}
+use lib.Pow.{pow-mono, shl-exact}
 use Rattle.network.specs.declared.Row.{Row}
 use Rattle.network.specs.Rows.{rowsOf}
 use Rattle.network.specs.RowRule.{lifted}
@@ -32,16 +32,16 @@ lifted-more s l a e = ap (λ (x : ℕ). x * 2) e ∙ omega (arith, lifted-next s
 lifted-up : (s k l : ℕ) → s ≤ k → lifted s l ≤ lifted k l
 lifted-up s k l h = mul-le-mul-right l (pow-mono h)
 
+-- a word shifted by the machine, which loses nothing
+pub lifted-at : (s x l : ℕ) → x < 2 ^ 32 → s ≤ 32 → x ≡ l → x * 2 ^ s % 2 ^ 64 ≡ lifted s l
+lifted-at s x l h b e = shl-exact 32 s 64 h (omega arith) ∙ ap (λ (y : ℕ). y * 2 ^ s) e ∙ mul-comm l (2 ^ s)
+
 -- the shifts of a left row below z have been tried, and a is 2^z·left
 pub record Trying (t : List ℕ) (n v left z a : ℕ) : Type 0 where
   pub from : 1 ≤ z
   pub to : z ≤ 32
   pub is-lifted : a ≡ lifted z (valueAt t left)
   pub tried-below : (k : ℕ) → suc k < z → fitAtShift (rowsOf t n) v left (suc k) ≡ none-fits
-
--- none has been tried yet
-pub try-first : (t : List ℕ) (n v left a : ℕ) → a ≡ 2 * valueAt t left → Trying t n v left 1 a
-try-first t n v left a e = record { from = omega arith; to = omega arith; is-lifted = e; tried-below = λ k l. absurd (omega arith) }
 
 module _ (t heads links : List ℕ) (n most v : ℕ) (s : Searchable t heads links n most v) where
   -- ---- the limit

@@ -15,7 +15,7 @@ use lib.Seq.{getD-set-same, getD-set-other}
 use Rattle.build_index.specs.Inner.{valueAt}
 use Rattle.build_index.proofs.Empty.{read-clear}
 use Rattle.build_index.proofs.Compare.{eq-or-ne}
-use Rattle.build_sieve.specs.Inner.{cellOf, shiftFor, cellIn, Sieve, Cells, NoMarkOver, Unmarked}
+use Rattle.build_sieve.specs.Inner.{cellOf, shiftFor, cellIn, Sieve, Cells}
 use Rattle.build_sieve.proofs.Cells.{cell-low}
 
 -- ---- a cell is one of the marks
@@ -46,17 +46,6 @@ cell-in m x h = let s = shift-small m in omega (arith, cell-low (shiftFor m) x (
 -- two marks in one are no less than either
 pub or-over : (a b : ℕ) → (a ≤ bitOr a b) × (b ≤ bitOr a b)
 or-over a b = (omega (arith, or-add-and a b, and-le-r a b), omega (arith, or-add-and a b, and-le-l a b))
-
-module _ (marks sums differences : List ℕ) (j : ℕ) where
-  pub higher : (x y : ℕ) → x ≤ y → NoMarkOver marks sums differences j x → NoMarkOver marks sums differences j y
-  higher x y h o = record { sum-to = omega (arith, o .sum-to); difference-to = omega (arith, o .difference-to) }
-
-  -- no mark is over x, which is no mark of a row below m
-  pub unmarked : (x m : ℕ) → x * m < 128 → NoMarkOver marks sums differences j x → Unmarked marks sums differences m j
-  unmarked x m h o = record {
-    no-sum = omega (arith, mul-le-mul-right m (o .sum-to));
-    no-difference = omega (arith, mul-le-mul-right m (o .difference-to));
-  }
 
 -- ---- a row more
 

@@ -37,17 +37,10 @@ pub record Cells (values : List ℕ) (at count v shift : ℕ) (sums differences 
   pub sums-are : (j : ℕ) → j < count → getD sums j 0 ≡ cellOf shift ((v + getD values (at + j) 0) / 2)
   pub differences-are : (j : ℕ) → j < count → getD differences j 0 ≡ cellOf shift ((v - getD values (at + j) 0) + (getD values (at + j) 0 - v))
 
--- the two cells at place j are those of marks
-pub record InMarks (marks sums differences : List ℕ) (j : ℕ) : Type 0 where
-  pub sum-in : getD sums j 0 < length marks
-  pub difference-in : getD differences j 0 < length marks
+-- the mark of the cell at place j
+abbrev pub markAt : List ℕ → List ℕ → ℕ → ℕ
+markAt marks cells j = getD marks (getD cells j 0) 0
 
--- neither of the two cells at place j has a mark over x
-pub record NoMarkOver (marks sums differences : List ℕ) (j x : ℕ) : Type 0 where
-  pub sum-to : getD marks (getD sums j 0) 0 ≤ x
-  pub difference-to : getD marks (getD differences j 0) 0 ≤ x
-
--- neither of the two cells at place j has the mark of a row below m
-pub record Unmarked (marks sums differences : List ℕ) (m j : ℕ) : Type 0 where
-  pub no-sum : getD marks (getD sums j 0) 0 * m < 128
-  pub no-difference : getD marks (getD differences j 0) 0 * m < 128
+-- the first cells, so many of them, are cells of marks
+abbrev pub InMarks : List ℕ → List ℕ → ℕ → Type 0
+InMarks marks cells count = (j : ℕ) → j < count → getD cells j 0 < length marks

@@ -2,13 +2,12 @@
 mod leading;
 
 ghost use mathlib.Core.Path.{_≡_};
-ghost use mathlib.Core.Bool.{false};
-ghost use Prim.Native.Nat.{ℕ, _+_, _*_, _/_, _%_, _^_, _≤_, _<_};
+ghost use Prim.Native.Nat.{ℕ, _+_, _*_, _/_, _%_, _^_, _≤_, _<_, max};
 ghost use lib.Dec.{leb};
 ghost use lib.ListN.{length};
 ghost use Rattle.network.specs.Rows.{rowWords};
 ghost use Rattle.build_index.specs.Inner.{valueAt};
-ghost use Rattle.build_sieve.specs.Inner.{shiftFor, Sieve, InMarks, NoMarkOver, Unmarked};
+ghost use Rattle.build_sieve.specs.Inner.{shiftFor, Sieve, markAt, InMarks};
 use leading::cell_of;
 pub use leading::fill_cells;
 
@@ -25,12 +24,18 @@ pub fn shift_for(m: usize) -> u32
     }
 }
 
-// The mark of row i: the lower the row, the higher.
+// The mark of row i: the lower the row, the higher. A cell has that of its lowest row.
 fn mark_of(i: usize) -> u8
     requires { ⌜ i < 4096 ⌝ }
     ensures { λ r. ⌜ 128 ≤ r * (i + 1) ⌝ }
 {
     (127 / (word::narrow(i) + 1) + 1) as u8
+}
+
+fn higher(a: u8, b: u8) -> u8
+    ensures { λ r. ⌜ r ≡ max a b ⌝ }
+{
+    if a < b { b } else { a }
 }
 
 // The rows from one number to below another join the sieve.
@@ -45,63 +50,44 @@ pub fn extend(table: &[u32], from: usize, to: usize, values: &mut [u32], marks: 
         let value = network::read_value(table, i);
         values[i] = value;
         let cell = word::index(cell_of(value, shift));
-        marks[cell] = marks[cell] | mark_of(i);
+        marks[cell] = higher(marks[cell], mark_of(i));
         i += 1;
     }
 }
 
-// The marks of the two cells at place j in one: no less than either.
-fn joined(marks: &[u8], sums: &[u32; 32], differences: &[u32; 32], j: usize) -> u8
-    requires { ⌜ (j < 32) × (length (now sums) ≡ 32) × (length (now differences) ≡ 32) ⌝ }
-    requires { ⌜ InMarks (now marks) (now sums) (now differences) j ⌝ }
-    ensures { λ r. ⌜ NoMarkOver (now (marks .entry)) (now (sums .entry)) (now (differences .entry)) j r ⌝ }
+// The marks of the eight cells from place k on in one: no less than any of them.
+pub fn joined(marks: &[u8], cells: &[u32; 32], k: usize) -> u8
+    requires { ⌜ (k + 8 ≤ 32) × (length (now cells) ≡ 32) × InMarks (now marks) (now cells) (k + 8) ⌝ }
+    ensures { λ r. ⌜ ((i : ℕ) → i < 8 → markAt (now (marks .entry)) (now (cells .entry)) (k + i) ≤ r) ⌝ }
 {
-    let sum = marks[word::index(sums[j])];
-    let difference = marks[word::index(differences[j])];
-    sum | difference
+    let mut all: u8 = 0;
+    let mut i: usize = 0;
+    while i < 8 {
+        all = all | marks[word::index(cells[k + i])];
+        i += 1;
+    }
+    all
 }
 
 // Whether a mark may be that of a row below m.
-fn may_be_below(m: usize, mark: u8) -> bool
+pub fn may_be_below(m: usize, mark: u8) -> bool
     requires { ⌜ m ≤ 4096 ⌝ }
     ensures { λ r. ⌜ r ≡ leb 128 (mark * m) ⌝ }
 {
     word::index(word::byte_32(mark)) * m >= 128
 }
 
-// Whether some of the eight pairs of cells from place k on may have the mark of a row below m.
-pub fn any_marked(
-    marks: &[u8],
-    sums: &[u32; 32],
-    differences: &[u32; 32],
-    k: usize,
-    m: usize,
-) -> bool
-    requires { ⌜ (k + 8 ≤ 32) × (length (now sums) ≡ 32) × (length (now differences) ≡ 32) × (m ≤ 4096) ⌝ }
-    requires { ⌜ ((j : ℕ) → j < k + 8 → InMarks (now marks) (now sums) (now differences) j) ⌝ }
-    ensures { λ r. ⌜ (r ≡ false → (i : ℕ) → i < 8 → Unmarked (now (marks .entry)) (now (sums .entry)) (now (differences .entry)) m (k + i)) ⌝ }
-{
-    let mut all: u8 = 0;
-    let mut i: usize = 0;
-    while i < 8 {
-        all = all | joined(marks, sums, differences, k + i);
-        i += 1;
-    }
-    may_be_below(m, all)
-}
-
-// The eight pairs of cells from place k on as a mask: digit i is 1 where pair k + i may have the mark of
-// a row below m.
-pub fn marked(marks: &[u8], sums: &[u32; 32], differences: &[u32; 32], k: usize, m: usize) -> u32
-    requires { ⌜ (k + 8 ≤ 32) × (length (now sums) ≡ 32) × (length (now differences) ≡ 32) × (m ≤ 4096) ⌝ }
-    requires { ⌜ ((j : ℕ) → j < k + 8 → InMarks (now marks) (now sums) (now differences) j) ⌝ }
-    ensures { λ r. ⌜ (r < 2 ^ 8) × ((i : ℕ) → i < 8 → r / 2 ^ i % 2 ≡ 0 → Unmarked (now (marks .entry)) (now (sums .entry)) (now (differences .entry)) m (k + i)) ⌝ }
+// The eight cells from place k on as a mask: digit i is 1 where cell k + i may have the mark of a row
+// below m.
+pub fn marked(marks: &[u8], cells: &[u32; 32], k: usize, m: usize) -> u32
+    requires { ⌜ (k + 8 ≤ 32) × (length (now cells) ≡ 32) × InMarks (now marks) (now cells) (k + 8) × (m ≤ 4096) ⌝ }
+    ensures { λ r. ⌜ (r < 2 ^ 8) × ((i : ℕ) → i < 8 → r / 2 ^ i % 2 ≡ 0 → markAt (now (marks .entry)) (now (cells .entry)) (k + i) * m < 128) ⌝ }
 {
     let mut mask: u32 = 0;
     let mut i: usize = 8;
     while i > 0 {
         i -= 1;
-        let mark = joined(marks, sums, differences, k + i);
+        let mark = marks[word::index(cells[k + i])];
         mask = 2 * mask + word::choose(may_be_below(m, mark), 1, 0);
     }
     mask

@@ -17,7 +17,7 @@ pub struct Family {
 
 /// How many coefficients a random set has, and one with another pattern.
 const RANDOM_COUNTS: [usize; 14] = [1, 2, 4, 8, 16, 24, 32, 48, 64, 65, 96, 128, 192, MOST_TAPS];
-const COUNTS: [usize; 2] = [64, MOST_TAPS];
+const COUNTS: [usize; 3] = [8, 64, MOST_TAPS];
 
 /// The front of a sequence, once for each count.
 fn fronts(what: &str, counts: &[usize], next: impl FnMut(i64) -> i64) -> Vec<Set> {
@@ -65,6 +65,8 @@ fn arithmetic() -> Family {
         }),
         pattern("1 + 1617102 k", |k| 1 + 1_617_102 * k),
         pattern("1 + 7335618 k", |k| 1 + 7_335_618 * k),
+        pattern("1287032245 + 946 k", |k| 1_287_032_245 + 946 * k),
+        pattern("1563379189 + 316 k", |k| 1_563_379_189 + 316 * k),
     ];
     family(
         "arithmetic progressions",

@@ -1,4 +1,4 @@
--- `build_left_rows::lower_block` meets its contract. The invariant of its loop: no left row below `low` goes with one of the first k right rows. `low`
+-- `build_left_rows::lower_block` meets its contract. The invariant of its loop: no turn below `low` goes with one of the first k right rows. `low`
 -- only falls. The measure is the number of right rows still to pass. Assumes nothing.
 use Prim.Native.Nat.{ℕ, _+_, _-_, _%_, _≤_, _<_}
 use mathlib.Core.Path.{_≡_, subst}
@@ -7,7 +7,7 @@ use native.Mathlib.Omega.{arith}
 use Rattle.word.proofs.Order.{lt-or-le}
 use Rattle.build_index.specs.Inner.{valueAt}
 use Rattle.build_left_rows.specs.Inner.{NoLeft}
-use Rattle.build_left_rows.proofs.Lefts.{fewer-lefts}
+use Rattle.build_left_rows.proofs.Turns.{fewer-lefts}
 use Rattle.build_left_rows.proofs.Sifted.{first-cells}
 use Rattle.build_left_rows.proofs.lower_block.Statement.{statement}
 use Rattle.build_left_rows.proofs.lower_block.Tie as tie

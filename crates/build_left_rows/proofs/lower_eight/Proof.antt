@@ -1,90 +1,104 @@
--- `build_left_rows::lower_eight` meets its contract. A right row of which neither cell has the mark of a row below m goes with no left row below m;
--- the mask names the others. Assumes nothing.
+-- `build_left_rows::lower_eight` meets its contract: a turn that makes v with a right row has their sum or their difference for 2^s·left. Assumes nothing.
 use borrow.Author.Needs.{needs}
-use borrow.Author.Tests.{not-true}
-use mathlib.Core.Path.{_≡_, ap, subst, _∙_}
-use mathlib.Core.Logic.{⊎-elim}
-use Prim.Native.Nat.{ℕ, _+_, _/_, _%_, _^_, _≤_, _<_}
+use borrow.Author.Tests.{leb-false, not-true}
+use mathlib.Core.Path.{sym, _∙_}
+use mathlib.Core.Bool.{Bool, true, false}
+use mathlib.Core.List.{List}
+use Prim.Native.Nat.{ℕ, _+_, _*_, _/_, _≤_, _<_}
+use native.Mathlib.Nat.{le-trans}
 use native.Mathlib.Omega.{arith}
-use lib.ListN.{getD}
-use Rattle.word.proofs.Order.{lt-or-le}
+use lib.Bits.{bitOr}
 use Rattle.build_index.specs.Inner.{valueAt}
-use Rattle.build_sieve.specs.Inner.{Unmarked, InMarks}
-use Rattle.build_left_rows.specs.Inner.{NoLeft}
-use Rattle.build_left_rows.proofs.Lefts.{fewer-lefts}
-use Rattle.build_left_rows.proofs.Sifted.{values-small, values-new, in-marks, unmarked-none}
+use Rattle.build_sieve.specs.Inner.{markAt}
+use Rattle.build_sieve.proofs.Sieves.{or-over}
+use Rattle.build_left_rows.specs.Inner.{NoTurn, numberFor, Telling}
+use Rattle.build_left_rows.proofs.Sifted.{sums-tell, differences-tell, low-mark, no-turn-told}
+use Rattle.build_left_rows.proofs.Turns.{fewer-turns}
 use Rattle.build_left_rows.proofs.lower_eight.Statement.{statement}
 use Rattle.build_left_rows.proofs.lower_eight.Tie as tie
 
--- the cells are those of marks
-cells-in : (c : tie.Start) → (j : ℕ) → j < c .args .k + 8 → InMarks (c .args .marks .now) (c .args .sums .now) (c .args .differences .now) j
-cells-in c =
+-- what the cells tell
+by-sums : (c : tie.Start) → Telling (c .args .table .now) (c .args .marks .now) (c .args .sums .now) (c .args .at) (c .args .k + 8) (c .args .n) (c .args .v) true
+by-sums c =
     let args = c .args in
-    in-marks (args .table .now) (args .heads .now) (args .links .now) (args .values .now) (args .marks .now) (args .n) (args .v) (c .pre .0 .0) (args .at) (args .k + 8) (args .sums .now) (args .differences .now) (c .pre .1)
+    sums-tell (args .table .now) (args .heads .now) (args .links .now) (args .values .now) (args .marks .now) (args .n) (args .v) (c .pre .0 .0) (args .at) (args .k + 8) (args .sums .now) (args .differences .now) (c .pre .1)
 
--- a right row without the mark of a row below m
-unmarked : (c : tie.Start) (i : ℕ) → i < 8 → c .args .at + (c .args .k + i) < c .args .n → Unmarked (c .args .marks .now) (c .args .sums .now) (c .args .differences .now) (c .args .m) (c .args .k + i)
-    → NoLeft (c .args .table .now) (c .args .m) (c .args .v) (valueAt (c .args .table .now) (c .args .at + (c .args .k + i)))
-unmarked c i l w u =
+by-differences : (c : tie.Start) → Telling (c .args .table .now) (c .args .marks .now) (c .args .differences .now) (c .args .at) (c .args .k + 8) (c .args .n) (c .args .v) false
+by-differences c =
     let args = c .args in
-    unmarked-none (args .table .now) (args .heads .now) (args .links .now) (args .values .now) (args .marks .now) (args .n) (args .v) (c .pre .0 .0) (args .at) (args .k + 8) (args .sums .now) (args .differences .now) (c .pre .1) (args .m) (args .k + i) (c .pre .0 .1) (omega arith) w u
+    differences-tell (args .table .now) (args .heads .now) (args .links .now) (args .values .now) (args .marks .now) (args .n) (args .v) (c .pre .0 .0) (args .at) (args .k + 8) (args .sums .now) (args .differences .now) (c .pre .1)
 
-any-marked-requires : tie.Need-any-marked-requires
-any-marked-requires c κs =
-    let at-start = c .before .before .before .before .before in
-    ((at-start .pre .1 .few, at-start .pre .1 .sums-long, at-start .pre .1 .differences-long, omega (arith, at-start .pre .0 .0 .index .few, at-start .pre .0 .1)), cells-in at-start)
+-- no cell of the eight has a mark that counts
+unmarked : (c : tie.Start) (cells : List ℕ) (sum : Bool) (all : ℕ) → Telling (c .args .table .now) (c .args .marks .now) cells (c .args .at) (c .args .k + 8) (c .args .n) (c .args .v) sum
+    → ((i : ℕ) → i < 8 → markAt (c .args .marks .now) cells (c .args .k + i) ≤ all) → all * ((c .args .m + 31) / 32) < 128
+    → (i : ℕ) → i < 8 → c .args .at + (c .args .k + i) < c .args .n → NoTurn (c .args .table .now) (c .args .m) (numberFor sum (c .args .v) (valueAt (c .args .table .now) (c .args .at + (c .args .k + i))))
+unmarked c cells sum all t below u i l w =
+    let args = c .args in
+    no-turn-told (args .table .now) (args .marks .now) cells (args .at) (args .k + 8) (args .n) (args .v) sum t (args .m) (args .k + i) (c .pre .0 .1) (omega arith) w
+    (low-mark (markAt (args .marks .now) cells (args .k + i)) all ((args .m + 31) / 32) (below i l) u)
+
+joined-requires : tie.Need-joined-requires
+joined-requires c κs = let t = by-sums (c .before .before .before .before .before) in (t .few, t .long, t .in-marks)
+
+joined-requires-2 : tie.Need-joined-requires-2
+joined-requires-2 c κs = let t = by-differences (c .before .before .before .before .before .before) in (t .few, t .long, t .in-marks)
+
+add-may-be-below : tie.Need-add-may-be-below
+add-may-be-below c = search needs
+
+may-be-below-requires : tie.Need-may-be-below-requires
+may-be-below-requires c κs = search needs
 
 returns : tie.Need-returns
 returns c =
-    let after-any-marked = c .before in
-    let at-start = after-any-marked .before .before .before .before .before .before in
-    (omega arith, λ i l w. unmarked at-start i l w (after-any-marked .any-marked .ensures (not-true _ (c .if1 .taken)) i l))
-
-marked-requires : tie.Need-marked-requires
-marked-requires c κs =
-    let at-start = c .before .before .before .before .before .before .before in
-    ((at-start .pre .1 .few, at-start .pre .1 .sums-long, at-start .pre .1 .differences-long, omega (arith, at-start .pre .0 .0 .index .few, at-start .pre .0 .1)), cells-in at-start)
-
-add-lower-named : tie.Need-add-lower-named
-add-lower-named c = search needs
-
-lower-named-requires : tie.Need-lower-named-requires
-lower-named-requires c κs =
-    let at-start = c .before .before .before .before .before .before .before .before in
+    let test = c .before .may-be-below in
+    let difference = c .before .before .joined2 in
+    let sum = c .before .before .before .joined in
+    let at-start = c .before .before .before .before .before .before .before .before .before in
     let args = at-start .args in
-    let s = at-start .pre .0 .0 in (
-      (s .index, at-start .pre .0 .1, s .odd),
-      (
-        (s .new-small, omega (arith, s .new-odd), values-small (args .table .now) (args .heads .now) (args .links .now) (args .values .now) (args .marks .now) (args .n) (args .v) s, values-new (args .table .now) (args .heads .now) (args .links .now) (args .values .now) (args .marks .now) (args .n) (args .v) s),
-        (c .marked .ensures .0, omega (arith, at-start .pre .1 .within)),
-      ),
+    let all = bitOr (sum .result) (difference .result) in
+    let over = or-over (sum .result) (difference .result) in
+    let low : all * ((args .m + 31) / 32) < 128 = leb-false 128 _ (sym (test .ensures) ∙ not-true _ (c .if1 .taken)) in (
+      omega arith,
+      λ i l w. record {
+        no-sum = unmarked at-start (args .sums .now) true all (by-sums at-start) (λ j b. le-trans (sum .ensures j b) (over .0)) low i l w;
+        no-difference = unmarked at-start (args .differences .now) false all (by-differences at-start) (λ j b. le-trans (difference .ensures j b) (over .1)) low i l w;
+      },
     )
+
+lower-marked-requires : tie.Need-lower-marked-requires
+lower-marked-requires c κs =
+    let sum = c .before .before .before .joined in
+    let at-start = c .before .before .before .before .before .before .before .before .before in
+    ((at-start .pre .0 .0, at-start .pre .0 .1, at-start .pre .1 .within), (by-sums at-start, sum .ensures))
+
+lower-marked-requires-2 : tie.Need-lower-marked-requires-2
+lower-marked-requires-2 c κs =
+    let difference = c .before .before .before .joined2 in
+    let at-start = c .before .before .before .before .before .before .before .before .before .before in
+    ((at-start .pre .0 .0, omega (arith, c .lower-marked .ensures .0, at-start .pre .0 .1), at-start .pre .1 .within), (by-differences at-start, difference .ensures))
 
 returns-2 : tie.Need-returns-2
 returns-2 c =
-    let after-marked = c .before in
-    let at-start = after-marked .before .before .before .before .before .before .before .before in
-    let args = at-start .args in
-    let s = at-start .pre .0 .0 in
-    let low = c .lower-named in
-    let mask = after-marked .marked in (
-      low .ensures .0,
-      λ i l w.
-          ⊎-elim (λ (none : mask .result / 2 ^ i % 2 < 1). fewer-lefts (low .result) (low .ensures .0) (unmarked at-start i l w (mask .ensures .1 i l (omega arith))))
-          (λ (some : 1 ≤ mask .result / 2 ^ i % 2).
-          let e : args .at + args .k + i ≡ args .at + (args .k + i) = omega arith in
-          let q : getD (args .values .now) (args .at + args .k + i) 0 ≡ valueAt (args .table .now) (args .at + (args .k + i)) = ap (λ (j : ℕ). getD (args .values .now) j 0) e ∙ s .sieve .values-are (args .at + (args .k + i)) w in
-          subst (λ (r : ℕ). NoLeft (args .table .now) (low .result) (args .v) r) q (low .ensures .1 i (omega arith)))
-          (lt-or-le (mask .result / 2 ^ i % 2) 1),
+    let sum = c .before .lower-marked in
+    let difference = c .lower-marked2 in
+    let args = c .before .before .before .before .before .before .before .before .before .before .before .args in (
+      omega (arith, sum .ensures .0, difference .ensures .0),
+      λ i l w. record {
+        no-sum = fewer-turns (args .table .now) (sum .result) (difference .result) (args .v + valueAt (args .table .now) (args .at + (args .k + i))) (difference .ensures .0) (sum .ensures .1 i l w);
+        no-difference = difference .ensures .1 i l w;
+      },
     )
 
 pub lower-eight-spec : {M : Type 1} → statement M
 lower-eight-spec =
     tie.close
     (tie.spec
-    any-marked-requires
+    joined-requires
+    joined-requires-2
+    add-may-be-below
+    may-be-below-requires
     returns
-    marked-requires
-    add-lower-named
-    lower-named-requires
+    lower-marked-requires
+    lower-marked-requires-2
     returns-2)

@@ -5,10 +5,9 @@ use mathlib.Core.Path.{_≡_, refl, sym, ap, subst, _∙_}
 use native.Mathlib.Nat.{le-trans, mul-le-mul-right}
 use native.Mathlib.Omega.{arith}
 use borrow.Author.Needs.{needs}
-use lib.Bits.{bitOr}
 use lib.ListN.{length, getD, length-set, set}
 use Rattle.build_sieve.specs.Inner.{cellOf, shiftFor, cellIn, Sieve}
-use Rattle.build_sieve.proofs.Sieves.{shift-small, cell-in, or-over, sieve-next}
+use Rattle.build_sieve.proofs.Sieves.{shift-small, cell-in, sieve-next}
 use Rattle.build_sieve.proofs.extend.Statement.{statement}
 use Rattle.build_sieve.proofs.extend.Tie as tie
 
@@ -68,8 +67,8 @@ in-marks c =
     let loop = c .before .before .before .before .loop in
     omega (arith, in-own c, cell-in (length (loop .marks)) (c .before .before .read-value .result) (loop .inv .3 .cells))
 
-slice-read-marks : tie.Need-slice-read-marks Inv-loop μ-loop
-slice-read-marks c = in-marks (c .before)
+slice-read-higher : tie.Need-slice-read-higher Inv-loop μ-loop
+slice-read-higher c = in-marks (c .before)
 
 mark-of-requires : tie.Need-mark-of-requires Inv-loop μ-loop
 mark-of-requires c κs =
@@ -77,8 +76,11 @@ mark-of-requires c κs =
     let at-start = in-loop .before .before .before .before .before .before in
     omega (arith, in-loop .loop-test .taken, at-start .pre .0 .4)
 
+higher-requires : tie.Need-higher-requires Inv-loop μ-loop
+higher-requires c κs = search needs
+
 slice-write-marks : tie.Need-slice-write-marks Inv-loop μ-loop
-slice-write-marks c = in-marks (c .before .before)
+slice-write-marks c = in-marks (c .before .before .before)
 
 add-i : tie.Need-add-i Inv-loop μ-loop
 add-i c = search needs
@@ -88,22 +90,23 @@ loop-less c = omega arith
 
 loop-again : tie.Need-loop-again Inv-loop μ-loop
 loop-again c =
-    let after-index = c .before .before in
+    let mark = c .before .mark-of in
+    let after-index = c .before .before .before in
     let after-read-value = after-index .before .before in
     let at-loop = after-read-value .before .before in
     let at-start = at-loop .before .before .before .before .before in
     let loop = at-loop .loop in
     let value = after-read-value .read-value in
     let own = in-own after-index in
-    let old = getD (loop .marks) (after-index .index .result) 0 in
-    let over = or-over old (c .mark-of .result) in
-    let new = bitOr old (c .mark-of .result) in (
+    let new = c .higher .result in
+    let kept : getD (loop .marks) (after-index .index .result) 0 ≤ new = omega (arith, c .higher .ensures) in
+    let high : mark .result ≤ new = omega (arith, c .higher .ensures) in (
       omega arith,
       simp length-set (loop .inv .1),
       simp length-set (loop .inv .2),
       subst (λ (k : ℕ). Sieve (at-start .args .table .now) (set (loop .values) (loop .i) (value .result)) (set (loop .marks) k new) (loop .i + 1)) (sym own)
           (sieve-next (at-start .args .table .now) (loop .values) (loop .marks) (loop .i) (value .result) new (loop .inv .3) (omega (arith, at-start .pre .0 .2, loop .inv .1)) (value .ensures)
-          (subst (λ (k : ℕ). getD (loop .marks) k 0 ≤ new) own (over .0)) (le-trans (c .mark-of .ensures) (mul-le-mul-right (loop .i + 1) (over .1)))),
+          (subst (λ (k : ℕ). getD (loop .marks) k 0 ≤ new) own kept) (le-trans (mark .ensures) (mul-le-mul-right (loop .i + 1) high))),
     )
 
 same-length : tie.Need-same-length Inv-loop μ-loop
@@ -133,8 +136,9 @@ extend-spec =
     slice-write-values
     cell-of-requires
     index-requires
-    slice-read-marks
+    slice-read-higher
     mark-of-requires
+    higher-requires
     slice-write-marks
     add-i
     loop-less

@@ -1,7 +1,7 @@
--- `build_left_rows::lowest_left` meets its contract. The invariant of its loop: no left row below `low` goes with a right row that was passed, at any
+-- `build_left_rows::first_turn` meets its contract. The invariant of its loop: no turn below `low` goes with a right row that was passed, at any
 -- shift and sign. `low` only falls, so that what was said of earlier right rows stays true. The measure is the number of right rows still to pass.
--- Below 0 there is no left row. Assumes nothing.
-use Prim.Native.Nat.{ℕ, _+_, _-_, _≤_, _<_}
+-- Below 0 there is no turn. Assumes nothing.
+use Prim.Native.Nat.{ℕ, _+_, _*_, _-_, _≤_, _<_}
 use mathlib.Core.Path.{_≡_, refl, subst}
 use mathlib.Core.Logic.{⊎-elim}
 use native.Mathlib.Omega.{arith}
@@ -12,14 +12,14 @@ use Rattle.build_index.specs.Inner.{valueAt}
 use Rattle.build_sieve.specs.Inner.{Cells}
 use Rattle.build_sieve.proofs.Sieves.{shift-small}
 use Rattle.build_left_rows.specs.Inner.{NoLeft}
-use Rattle.build_left_rows.proofs.Lefts.{fewer-lefts, no-row-below-0}
+use Rattle.build_left_rows.proofs.Turns.{fewer-lefts, no-left-below-0}
 use Rattle.build_left_rows.proofs.Sifted.{values-small}
-use Rattle.build_left_rows.proofs.lowest_left.Statement.{statement}
-use Rattle.build_left_rows.proofs.lowest_left.Tie as tie
+use Rattle.build_left_rows.proofs.first_turn.Statement.{statement}
+use Rattle.build_left_rows.proofs.first_turn.Tie as tie
 
 abbrev Inv-loop : tie.InvT-loop
 Inv-loop table heads links values marks n v shift sums₀ differences₀ low₀ j₀ sums differences low j =
-    (low ≤ n) × (length sums ≡ 32) × (length differences ≡ 32) × ((k : ℕ) → k < j → k < n → NoLeft table low v (valueAt table k))
+    (low ≤ 32 * n) × (length sums ≡ 32) × (length differences ≡ 32) × ((k : ℕ) → k < j → k < n → NoLeft table low v (valueAt table k))
 
 abbrev μ-loop : tie.MeasureT-loop
 μ-loop table heads links values marks n v shift sums₀ differences₀ low₀ j₀ sums differences low j = n - j
@@ -30,6 +30,9 @@ start c = c .before .before .before .before .before .before .before
 
 shift-for-requires : tie.Need-shift-for-requires Inv-loop μ-loop
 shift-for-requires c κs = search needs
+
+mul-low : tie.Need-mul-low Inv-loop μ-loop
+mul-low c = let at-start = c .before .before .before .before .before .before in omega (arith, at-start .pre .index .few)
 
 loop-holds : tie.Need-loop-holds Inv-loop μ-loop
 loop-holds c = (omega arith, refl, refl, λ k l. absurd (omega arith))
@@ -86,7 +89,7 @@ returns : tie.Need-returns Inv-loop μ-loop
 returns c =
     let at-loop = c .before .before .before .before .before .before .before .before .before in
     let args = start at-loop .args in
-    (omega arith, λ k l. no-row-below-0 (args .table .now) (args .v) (valueAt (args .table .now) k))
+    (omega arith, λ k l. no-left-below-0 (args .table .now) (args .v) (valueAt (args .table .now) k))
 
 add-j : tie.Need-add-j Inv-loop μ-loop
 add-j c =
@@ -127,13 +130,14 @@ returns-2 c =
     let at-loop = c .before in
     (at-loop .loop .inv .0, λ k l. at-loop .loop .inv .3 k (omega (arith, c .loop-test .left)) l)
 
-pub lowest-left-spec : {M : Type 1} → statement M
-lowest-left-spec =
+pub first-turn-spec : {M : Type 1} → statement M
+first-turn-spec =
     tie.close
     (tie.spec
     Inv-loop
     μ-loop
     shift-for-requires
+    mul-low
     loop-holds
     sub-stretch
     stretch-requires
