@@ -8,7 +8,7 @@ use Rattle.refusal.specs.Answer.{at-place}
 use Rattle.word.proofs.LowZeros.{zeros-below}
 use Rattle.network.specs.Rows.{rowsOf}
 use Rattle.build_steps.specs.Search.{rowWith}
-use Rattle.build_index.specs.Inner.{valueAt, foundAt}
+use Rattle.build_index.specs.Inner.{foundAt}
 use Rattle.build_index.proofs.Values.{row-found, row-missing}
 use Rattle.build_left_rows.specs.Inner.{NoTurn}
 use Rattle.build_left_rows.proofs.Turns.{no-turn}

@@ -5,9 +5,9 @@
 -- order. Where a passes v + most, no sign can make v with a row's value, at this shift or a larger one (`shift-past`), so that the left row has no
 -- fit (`left-none`). The measures are the rows still to be tried, n - i, and the shifts, 33 - s: while a is below 2^32, s is below 32, for no row's
 -- value is 0. Assumes nothing.
-use mathlib.Core.Path.{_≡_, sym, ap, subst, _∙_}
+use mathlib.Core.Path.{_≡_, sym, ap, _∙_}
 use mathlib.Core.Logic.{⊎-elim}
-use Prim.Native.Nat.{ℕ, suc, _+_, _-_, _*_, _/_, _%_, _^_, _≤_, _<_}
+use Prim.Native.Nat.{ℕ, suc, _-_, _/_, _^_, _≤_, _<_}
 use native.Mathlib.Omega.{arith}
 use borrow.Author.Count.{below-more}
 use borrow.Author.Needs.{needs}

@@ -1,7 +1,7 @@
 -- `build_sieve::joined` meets its contract. The invariant of its loop: no mark of a cell that was passed is over `all`. The measure is the number of
 -- cells still to pass. Assumes nothing.
 use Prim.Native.Nat.{ℕ, _+_, _-_, _≤_, _<_}
-use mathlib.Core.Path.{_≡_, sym, ap, subst}
+use mathlib.Core.Path.{subst}
 use native.Mathlib.Nat.{le-trans}
 use native.Mathlib.Omega.{arith}
 use borrow.Author.Count.{below-more}
