@@ -66,14 +66,11 @@ module _ (table heads links values marks : List ℕ) (n v : ℕ) (s : Sifting ta
           (subst (λ (r : ℕ). None m ((v - r) + (r - v))) (s .sieve .values-are (at + j) w) (subst (λ (c : ℕ). getD marks c 0 * m < 128) (b .cells .differences-are j l) u));
     }
 
--- a mark that is no higher than one that is of no row below m
-pub low-mark : (x y m : ℕ) → x ≤ y → y * m < 128 → x * m < 128
-low-mark x y m h l = omega (arith, mul-le-mul-right m h)
-
--- a cell without a mark of the rows that have a turn below m
-pub no-turn-told : (table marks cells : List ℕ) (at count n v : ℕ) (sum : Bool) → Telling table marks cells at count n v sum → (m j : ℕ) → m ≤ 32 * n → j < count → at + j < n
-    → markAt marks cells j * ((m + 31) / 32) < 128 → NoTurn table m (numberFor sum v (valueAt table (at + j)))
-no-turn-told table marks cells at count n v sum w m j h l b u s i k e = w .tells j ((m + 31) / 32) l b (omega arith) u s i k (omega arith)
+-- a cell whose mark is not over x, which is no mark of the rows that have a turn below m
+pub no-turn-told : (table marks cells : List ℕ) (at count n v : ℕ) (sum : Bool) → Telling table marks cells at count n v sum → (m j x : ℕ) → m ≤ 32 * n → j < count → at + j < n
+    → markAt marks cells j ≤ x → x * ((m + 31) / 32) < 128 → NoTurn table m (numberFor sum v (valueAt table (at + j)))
+no-turn-told table marks cells at count n v sum w m j x h l b o u s i k e =
+    w .tells j ((m + 31) / 32) l b (omega arith) (omega (arith, mul-le-mul-right ((m + 31) / 32) o, u)) s i k (omega arith)
 
 -- fewer of them
 pub first-cells : (values marks : List ℕ) (at count v : ℕ) (sums differences : List ℕ) (k : ℕ) → k ≤ count → InBlock values marks at count v sums differences → InBlock values marks at k v sums differences

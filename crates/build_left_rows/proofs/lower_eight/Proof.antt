@@ -12,7 +12,7 @@ use Rattle.build_index.specs.Inner.{valueAt}
 use Rattle.build_sieve.specs.Inner.{markAt}
 use Rattle.build_sieve.proofs.Sieves.{or-over}
 use Rattle.build_left_rows.specs.Inner.{NoTurn, numberFor, Telling}
-use Rattle.build_left_rows.proofs.Sifted.{sums-tell, differences-tell, low-mark, no-turn-told}
+use Rattle.build_left_rows.proofs.Sifted.{sums-tell, differences-tell, no-turn-told}
 use Rattle.build_left_rows.proofs.Turns.{fewer-turns}
 use Rattle.build_left_rows.proofs.lower_eight.Statement.{statement}
 use Rattle.build_left_rows.proofs.lower_eight.Tie as tie
@@ -34,8 +34,7 @@ unmarked : (c : tie.Start) (cells : List ℕ) (sum : Bool) (all : ℕ) → Telli
     → (i : ℕ) → i < 8 → c .args .at + (c .args .k + i) < c .args .n → NoTurn (c .args .table .now) (c .args .m) (numberFor sum (c .args .v) (valueAt (c .args .table .now) (c .args .at + (c .args .k + i))))
 unmarked c cells sum all t below u i l w =
     let args = c .args in
-    no-turn-told (args .table .now) (args .marks .now) cells (args .at) (args .k + 8) (args .n) (args .v) sum t (args .m) (args .k + i) (c .pre .0 .1) (omega arith) w
-    (low-mark (markAt (args .marks .now) cells (args .k + i)) all ((args .m + 31) / 32) (below i l) u)
+    no-turn-told (args .table .now) (args .marks .now) cells (args .at) (args .k + 8) (args .n) (args .v) sum t (args .m) (args .k + i) all (c .pre .0 .1) (omega arith) w (below i l) u
 
 joined-requires : tie.Need-joined-requires
 joined-requires c κs = let t = by-sums (c .before .before .before .before .before) in (t .few, t .long, t .in-marks)

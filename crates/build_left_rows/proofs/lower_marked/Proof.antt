@@ -11,17 +11,17 @@ use Rattle.word.proofs.Order.{lt-or-le}
 use Rattle.build_index.specs.Inner.{valueAt}
 use Rattle.build_sieve.specs.Inner.{markAt}
 use Rattle.build_left_rows.specs.Inner.{NoTurn, numberFor}
-use Rattle.build_left_rows.proofs.Sifted.{values-small, values-new, low-mark, no-turn-told}
+use Rattle.build_left_rows.proofs.Sifted.{values-small, values-new, no-turn-told}
 use Rattle.build_left_rows.proofs.Turns.{fewer-turns}
 use Rattle.build_left_rows.proofs.lower_marked.Statement.{statement}
 use Rattle.build_left_rows.proofs.lower_marked.Tie as tie
 
--- a right row whose cell has no mark that counts
-unmarked : (c : tie.Start) (i : ℕ) → i < 8 → c .args .at + (c .args .k + i) < c .args .n → markAt (c .args .marks .now) (c .args .cells .now) (c .args .k + i) * ((c .args .m + 31) / 32) < 128
+-- a right row whose cell has no mark over x, none of which counts
+unmarked : (c : tie.Start) (i x : ℕ) → i < 8 → c .args .at + (c .args .k + i) < c .args .n → markAt (c .args .marks .now) (c .args .cells .now) (c .args .k + i) ≤ x → x * ((c .args .m + 31) / 32) < 128
     → NoTurn (c .args .table .now) (c .args .m) (numberFor (c .args .sum) (c .args .v) (valueAt (c .args .table .now) (c .args .at + (c .args .k + i))))
-unmarked c i l w u =
+unmarked c i x l w =
     let args = c .args in
-    no-turn-told (args .table .now) (args .marks .now) (args .cells .now) (args .at) (args .k + 8) (args .n) (args .v) (args .sum) (c .pre .1 .0) (args .m) (args .k + i) (c .pre .0 .1) (omega arith) w u
+    no-turn-told (args .table .now) (args .marks .now) (args .cells .now) (args .at) (args .k + 8) (args .n) (args .v) (args .sum) (c .pre .1 .0) (args .m) (args .k + i) x (c .pre .0 .1) (omega arith) w
 
 add-rows : tie.Need-add-rows
 add-rows c = search needs
@@ -35,9 +35,7 @@ returns c =
     let at-start = c .before .before .before .before .before .before .before in
     let args = at-start .args in (
       omega arith,
-      λ i l w.
-          unmarked at-start i l w
-          (low-mark (markAt (args .marks .now) (args .cells .now) (args .k + i)) (args .all) ((args .m + 31) / 32) (at-start .pre .1 .1 i l) (leb-false 128 _ (sym (test .ensures) ∙ not-true _ (c .if1 .taken)))),
+      λ i l w. unmarked at-start i (args .all) l w (at-start .pre .1 .1 i l) (leb-false 128 _ (sym (test .ensures) ∙ not-true _ (c .if1 .taken))),
     )
 
 marked-requires : tie.Need-marked-requires
@@ -68,7 +66,7 @@ returns-2 c =
       low .ensures .0,
       λ i l w.
           let x = numberFor (args .sum) (args .v) (valueAt (args .table .now) (args .at + (args .k + i))) in
-          ⊎-elim (λ (none : mask .result / 2 ^ i % 2 < 1). fewer-turns (args .table .now) (args .m) (low .result) x (low .ensures .0) (unmarked at-start i l w (mask .ensures .1 i l (omega arith))))
+          ⊎-elim (λ (none : mask .result / 2 ^ i % 2 < 1). fewer-turns (args .table .now) (args .m) (low .result) x (low .ensures .0) (unmarked at-start i (markAt (args .marks .now) (args .cells .now) (args .k + i)) l w (omega arith) (mask .ensures .1 i l (omega arith))))
           (λ (some : 1 ≤ mask .result / 2 ^ i % 2).
           let e : args .at + args .k + i ≡ args .at + (args .k + i) = omega arith in
           let q : getD (args .values .now) (args .at + args .k + i) 0 ≡ valueAt (args .table .now) (args .at + (args .k + i)) = ap (λ (j : ℕ). getD (args .values .now) j 0) e ∙ s .sieve .values-are (args .at + (args .k + i)) w in
