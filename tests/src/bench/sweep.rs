@@ -5,7 +5,7 @@ use super::{best_of, time};
 use fir_tests::building::sets::{families, Family, Set};
 use fir_tests::building::{core, fast};
 
-pub const REPETITIONS: usize = 40;
+pub const REPETITIONS: usize = 120;
 /// Nanoseconds that a timing should take, and its calls at most.
 const TIMING: f64 = 300_000.0;
 const MOST_CALLS: usize = 2000;
