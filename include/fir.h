@@ -1,19 +1,13 @@
-/* The proved core for multiplierless FIR filters, for C. Link libfir.a.
+/* The proved core for multiplierless FIR filters, for C. Link libfir.a, or libfir.so; see ./library.
  *
  * Every bit pattern is legal input. Memory that is lent must not overlap other memory of the same
- * call, and a pointer is not null even where its length is 0. A length counts elements.
+ * call, and a pointer is not null even where its length is 0. A length counts elements. Functions
+ * keep no state: any number of threads may call them at once, each on memory of its own.
  *
- * A call answers one 64-bit number. Its upper half is the refusal number, 0 for none:
- *   1 no taps                        5 a tap is infinite or not a number
- *   2 more than 256 taps             6 a coefficient is outside -2^31 to 2^31 - 1
- *   3 a lent table is too short      7 the sum is zero, infinite or not a number (place 0),
- *   4 more than 31 fraction bits       or a quotient is infinite
- *   8 the masks of a form overlap (place: the lowest digit that is in both)
- *   9 a choice is not below the number of forms
- *  10 a row breaks the row rule, or there are none or more than 4096 rows (place 0)
- *  11 a tap row breaks the tap row rule
- * Where nothing else is said, the lower half is the place of the refusal, counted from 0, and 0
- * where the call is accepted. A call that is turned down changes no memory.
+ * The core asks of the machine: x86-64; binary64 arithmetic that rounds to nearest and keeps
+ * subnormal numbers (neither FTZ nor DAZ), with exceptions masked, all of which a C program starts
+ * with; and the stack below. fir_round_tap and fir_round_taps give other results in another rounding
+ * mode, or without subnormal numbers; the other functions do not depend on it.
  *
  * A call needs at most so many bytes of stack, accepted or turned down, its arguments and return
  * address included (measured on x86-64; what memcpy and memset need of their own comes on top):
@@ -40,9 +34,51 @@
 extern "C" {
 #endif
 
+/* The first number changes where a program has to be compiled again. */
+#define FIR_VERSION "1.0"
+#define FIR_VERSION_MAJOR 1
+#define FIR_VERSION_MINOR 0
+
+/* A call answers one 64-bit number. Its upper half is the refusal number, 0 for none. Where nothing
+ * else is said, the lower half is the place of the refusal, counted from 0, and 0 where the call is
+ * accepted. A call that is turned down changes no memory. Of several refusals the first in the order
+ * that a function lists is answered, at the lowest place that it applies to. */
+enum fir_refusal_number {
+    FIR_NO_TAPS = 1,          /* no taps; place 0 */
+    FIR_TOO_MANY_TAPS = 2,    /* more than 256 taps; place 0 */
+    FIR_SHORT_TABLE = 3,      /* a lent table is under its length; place 0 */
+    FIR_FRACTION_BITS = 4,    /* more than 31 fraction bits; place 0 */
+    FIR_TAP_NOT_FINITE = 5,   /* a tap is infinite or not a number; place: the tap */
+    FIR_OUT_OF_BOUNDS = 6,    /* a coefficient is outside -2^31 to 2^31 - 1; place: the tap */
+    FIR_NOT_NORMALISABLE = 7, /* the sum is zero, infinite or not a number: place 0; or a quotient is
+                                 infinite: place: the tap */
+    FIR_MASKS_OVERLAP = 8,    /* the masks of a form overlap; place: the lowest digit in both */
+    FIR_NO_SUCH_FORM = 9,     /* a choice is not below the number of forms; place: the tap */
+    FIR_ROW_RULE = 10,        /* a row breaks the row rule; place: the row. No rows, or more than
+                                 4096: place 0 */
+    FIR_TAP_ROW_RULE = 11,    /* a tap row breaks the tap row rule; place: the tap */
+    FIR_CUT_TAP = 12          /* programs only: the input ends inside a tap; place 0 */
+};
+
+static inline uint32_t fir_refusal(uint64_t answer) { return (uint32_t)(answer >> 32); }
+static inline uint32_t fir_place(uint64_t answer) { return (uint32_t)(answer & 0xffffffffu); }
+
+/* Bounds, and the lengths of tables. */
+enum {
+    FIR_MOST_TAPS = 256,
+    FIR_MOST_FRACTION_BITS = 31,
+    FIR_MOST_ROWS = 4096,
+    FIR_FORMS_LENGTH = 1597, /* each table of masks, the most forms of one coefficient */
+    FIR_ROW_WORDS = 5,
+    FIR_ROWS_LENGTH = FIR_MOST_ROWS * FIR_ROW_WORDS, /* 20480 words */
+    FIR_TAP_ROW_WORDS = 3,
+    FIR_TAP_ROWS_LENGTH = FIR_MOST_TAPS * FIR_TAP_ROW_WORDS, /* 768 words */
+    FIR_REGISTERS_LENGTH = 256
+};
+
 /* One tap, given as the 64 bits of a binary64 number: the whole number N nearest to
  * tap * 2^fraction_bits, an exact half away from zero. The lower half of the answer is N's 32-bit
- * pattern, and 0 when turned down, with 4, 5 or 6. */
+ * pattern, and 0 when turned down: the place, always 0, is not sent. Turned down with 4, 5 or 6. */
 uint64_t fir_round_tap(uint64_t bits, uint32_t fraction_bits);
 
 /* A set of taps. Where normalised is not 0, the taps are added in order and each is divided by the
@@ -52,7 +88,10 @@ uint64_t fir_round_tap(uint64_t bits, uint32_t fraction_bits);
  *                                    may be longer, and is then untouched past them
  *   divisor                          the sum, or 1 where nothing was normalised
  *   leftover                         the largest tap * 2^fraction_bits - N by magnitude, with its
- *                                    sign; the earliest of equals, and +0 where all are exact */
+ *                                    sign; the earliest of equals, and +0 where all are exact
+ * Turned down with 1, 2, 3 (coefficient_count is under tap_count), 4, 5, 7 or 6; each of 5, 7 and 6 is
+ * tried over all taps before the next. 7 only where normalised is not 0: of the sum, then of each
+ * quotient; 6 is then of the quotients. */
 uint64_t fir_round_taps(const double *taps, size_t tap_count, uint32_t fraction_bits,
                         uint32_t normalised, int32_t *coefficients, size_t coefficient_count,
                         double *divisor, double *leftover);
@@ -78,7 +117,8 @@ uint64_t fir_canonical(int32_t n, uint32_t *plus, uint32_t *minus);
 /* Every minimal form of n, of which no string of digits with the value n has fewer that are not 0:
  * the masks of form i at plus[i] and minus[i]. Of two forms the earlier is the one that is not 0 at
  * the highest place where they differ, so the canonical form is first. *count is how many there are,
- * at most 1597; both tables must have room for 1597 (else 3) and are untouched past the count. */
+ * at most 1597; both tables have at least FIR_FORMS_LENGTH elements and are untouched past the count.
+ * Turned down with 3 (a table of masks is shorter). */
 uint64_t fir_minimal_forms(int32_t n, uint32_t *plus, size_t plus_count, uint32_t *minus,
                            size_t minus_count, uint32_t *count);
 
@@ -92,8 +132,8 @@ uint64_t fir_form_count(int32_t n, uint32_t *count);
  * 2^31 - 1, and 2^s * left is at most 2^32. A tap row is three words: sign, row and shift; tap row j
  * starts at taps[3 * j]. It is 0, 0, 0 for a coefficient of 0, or '+' or '-', a row of the network
  * and a shift from 0 to 31, and its coefficient is sign * value * 2^shift, from -2^31 to 2^31 - 1.
- *   rows[rows_length]  at least 20480 words, of which row_count rows are the network's
- *   taps[taps_length]  at least 768 words, of which tap_count tap rows are the network's
+ *   rows[rows_length]  at least FIR_ROWS_LENGTH words, of which row_count rows are the network's
+ *   taps[taps_length]  at least FIR_TAP_ROWS_LENGTH words, of which tap_count tap rows are the network's
  * What lies past them in the tables does not matter. */
 
 /* Builds the network of coefficients[coefficient_count], one tap row for each. choices[choice_count]
@@ -101,18 +141,20 @@ uint64_t fir_form_count(int32_t n, uint32_t *count);
  * fir_minimal_forms, and 0 for a coefficient of 0; of equal odd parts the earliest choice is used. The
  * rows and tap rows are written from the start of the tables, which are untouched past them, and
  * *row_count is the number of rows, at most 3841; one less is the number of adders. Turned down with
- * 1, 2, 3 (also where there are fewer choices than coefficients) or 9. */
+ * 1, 2 (by coefficient_count), 3 (choice_count is under coefficient_count, or rows or taps are short)
+ * or 9. */
 uint64_t fir_build(const int32_t *coefficients, size_t coefficient_count, const uint32_t *choices,
                    size_t choice_count, uint32_t *rows, size_t rows_length, uint32_t *taps,
                    size_t taps_length, size_t *row_count);
 
-/* Whether the tables hold a network that keeps the rules. Turned down with 1, 2, 3, 10 or 11. */
+/* Whether the tables hold a network that keeps the rules. Turned down with 1, 2 (by tap_count), 3 (rows
+ * or taps are short), 10 or 11. */
 uint64_t fir_check(const uint32_t *rows, size_t rows_length, size_t row_count,
                    const uint32_t *taps, size_t taps_length, size_t tap_count);
 
 /* The coefficients of such a network: tap_count of them are written, from the start of
- * coefficients[coefficient_count], which is untouched past them. Turned down with 1, 2, 3, 10 or
- * 11. */
+ * coefficients[coefficient_count], which is untouched past them. Turned down with 1, 2, 3 (rows or taps
+ * are short, or coefficient_count is under tap_count), 10 or 11. */
 uint64_t fir_coefficients(const uint32_t *rows, size_t rows_length, size_t row_count,
                           const uint32_t *taps, size_t taps_length, size_t tap_count,
                           int32_t *coefficients, size_t coefficient_count);
@@ -124,9 +166,10 @@ uint64_t fir_coefficients(const uint32_t *rows, size_t rows_length, size_t row_c
  * accepted so far, where each accepted call has the same network; calls that are turned down in
  * between change nothing.
  *   samples[sample_count]      the samples; none are accepted too
- *   registers[register_count]  at least 256, of which the first 256 move on
+ *   registers[register_count]  at least FIR_REGISTERS_LENGTH, of which the first 256 move on
  *   outputs[output_count]      sample_count outputs are written, from the start; untouched past them
- * Turned down with 1, 2, 3, 10 or 11. */
+ * Turned down with 1, 2, 3 (rows or taps are short, register_count is under 256, or output_count under
+ * sample_count), 10 or 11. */
 uint64_t fir_run(const uint32_t *rows, size_t rows_length, size_t row_count, const uint32_t *taps,
                  size_t taps_length, size_t tap_count, const int16_t *samples, size_t sample_count,
                  uint64_t *registers, size_t register_count, int64_t *outputs, size_t output_count);

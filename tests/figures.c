@@ -40,6 +40,7 @@ void answer(const char *what, uint32_t refusal, int32_t lower, uint64_t got)
 
 int main(void)
 {
+    names();
     taps();
     coefficients();
     forms();

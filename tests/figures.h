@@ -18,6 +18,7 @@ void real(const char *what, double wanted, double got);
 void answer(const char *what, uint32_t refusal, int32_t lower, uint64_t got);
 
 /* The figures. */
+void names(void);
 void taps(void);
 void coefficients(void);
 void forms(void);

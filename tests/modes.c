@@ -1,0 +1,89 @@
+/* What fir.h says of floating-point modes: forms, building, checking and running are the same in every
+ * rounding mode, with subnormal numbers kept or not. A mode is set around the call alone. */
+#include <fenv.h>
+#include <stdio.h>
+#include <stdlib.h>
+#include <string.h>
+#include <xmmintrin.h>
+
+#include "fir.h"
+
+enum { SETS = 300, SAMPLES = 40, FLUSH = 0x8040 };
+
+static const int modes[] = {FE_TONEAREST, FE_DOWNWARD, FE_UPWARD, FE_TOWARDZERO};
+
+/* All that the calls leave. */
+struct results {
+    uint64_t answers[6];
+    uint32_t rows[FIR_ROWS_LENGTH], taps[FIR_TAP_ROWS_LENGTH];
+    uint32_t plus[FIR_FORMS_LENGTH], minus[FIR_FORMS_LENGTH], count, weight;
+    size_t row_count;
+    int32_t coefficients[FIR_MOST_TAPS];
+    uint64_t registers[FIR_REGISTERS_LENGTH];
+    int64_t outputs[SAMPLES];
+};
+
+struct set {
+    size_t count;
+    int32_t coefficients[FIR_MOST_TAPS];
+    uint32_t choices[FIR_MOST_TAPS];
+    int16_t samples[SAMPLES];
+};
+
+static uint64_t state = 88172645463325252u;
+
+static uint32_t next(void) {
+    state ^= state << 13;
+    state ^= state >> 7;
+    state ^= state << 17;
+    return (uint32_t)(state >> 16);
+}
+
+static void draw_set(struct set *set) {
+    unsigned bits = next() % 31 + 1;
+    set->count = next() % FIR_MOST_TAPS + 1;
+    for (size_t i = 0; i < set->count; i++) set->coefficients[i] = (int32_t)next() >> (32 - bits);
+    for (int i = 0; i < SAMPLES; i++) set->samples[i] = (int16_t)next();
+}
+
+static void run(const struct set *set, struct results *r) {
+    size_t count = set->count;
+    memset(r, 0, sizeof *r);
+    r->answers[0] = fir_build(set->coefficients, count, set->choices, count, r->rows, FIR_ROWS_LENGTH, r->taps,
+                              FIR_TAP_ROWS_LENGTH, &r->row_count);
+    r->answers[1] = fir_check(r->rows, FIR_ROWS_LENGTH, r->row_count, r->taps, FIR_TAP_ROWS_LENGTH, count);
+    r->answers[2] = fir_coefficients(r->rows, FIR_ROWS_LENGTH, r->row_count, r->taps, FIR_TAP_ROWS_LENGTH, count,
+                                     r->coefficients, FIR_MOST_TAPS);
+    r->answers[3] = fir_run(r->rows, FIR_ROWS_LENGTH, r->row_count, r->taps, FIR_TAP_ROWS_LENGTH, count, set->samples,
+                            SAMPLES, r->registers, FIR_REGISTERS_LENGTH, r->outputs, SAMPLES);
+    r->answers[4] = fir_minimal_forms(set->coefficients[0], r->plus, FIR_FORMS_LENGTH, r->minus, FIR_FORMS_LENGTH,
+                                      &r->count);
+    r->answers[5] = fir_form_weight(r->plus[0], r->minus[0], &r->weight);
+}
+
+static void run_in(int mode, int flushed, const struct set *set, struct results *results) {
+    unsigned before = _mm_getcsr();
+    fesetround(mode);
+    if (flushed) _mm_setcsr(_mm_getcsr() | FLUSH);
+    run(set, results);
+    _mm_setcsr(before);
+    fesetround(FE_TONEAREST);
+}
+
+int main(void) {
+    static struct set set;
+    static struct results wanted, found;
+    for (int i = 0; i < SETS; i++) {
+        draw_set(&set);
+        run(&set, &wanted);
+        for (int k = 0; k < 6; k++) {
+            if (wanted.answers[k] != 0) return puts("modes: a call is turned down"), 1;
+        }
+        for (size_t m = 0; m < 8; m++) {
+            run_in(modes[m % 4], m >= 4, &set, &found);
+            if (memcmp(&wanted, &found, sizeof found) != 0) return printf("modes: set %d, mode %zu\n", i, m), 1;
+        }
+    }
+    printf("modes: %d sets are the same in 8 modes\n", SETS);
+    return 0;
+}
