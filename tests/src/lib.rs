@@ -4,6 +4,7 @@
 pub mod answer;
 pub mod building;
 pub mod coefficients;
+pub mod commands;
 pub mod forms;
 pub mod network;
 pub mod random;

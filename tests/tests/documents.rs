@@ -1,7 +1,8 @@
-//! What the documents name is there: files, folders and functions.
+//! What the documents name is there: files, folders and functions; and what they show is printed.
 
-use fir_tests::sheet::program::root;
+use fir_tests::sheet::program::{root, run, Delivery};
 use std::fs::{read_dir, read_to_string};
+use std::process::Command;
 
 const PAGES: [&str; 4] = [
     "README.md",
@@ -103,4 +104,23 @@ fn names_that_follow_a_file() {
         }
     }
     assert!(checked > 12, "{checked}");
+}
+
+/// README's commands print what stands below them.
+#[test]
+fn shown_output() {
+    let page = read_to_string(root().join("README.md")).unwrap();
+    let mut shown = 0;
+    for part in page.split("\n    $ ").skip(1) {
+        let (line, rest) = part.split_once('\n').unwrap();
+        let below = rest.lines().take_while(|line| line.starts_with("    "));
+        let wanted: Vec<&str> = below.map(|line| &line[4..]).collect();
+        let mut shell = Command::new("bash");
+        shell.args(["-c", line]).current_dir(root());
+        let ended = run(&mut shell, b"", Delivery::AtOnce);
+        let printed = String::from_utf8(ended.out).unwrap();
+        assert_eq!(printed.lines().collect::<Vec<_>>(), wanted, "{line}");
+        shown += 1;
+    }
+    assert_eq!(shown, 2);
 }

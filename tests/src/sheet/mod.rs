@@ -1,6 +1,5 @@
 //! The sheet program: running it, a literal version of what it prints, and what it is handed.
 
-pub mod command;
 pub mod input;
 pub mod literal;
 pub mod mixture;

@@ -1,0 +1,76 @@
+/* What the commands of ./fir share. The script ./fir has taken the arguments apart by the usage that
+ * stands on top of a command's file, and standard input is the file that was named. */
+#ifndef COMMAND_H
+#define COMMAND_H
+
+#include <stddef.h>
+#include <stdint.h>
+
+/* Exit statuses. */
+enum { DONE = 0, TURNED_DOWN = 1, FAILED = 2 };
+
+enum { MOST_TAPS = 256 };
+
+struct arguments {
+    int option_count, count;
+    char **options, **words;
+};
+
+int has_option(const struct arguments *arguments, const char *option);
+
+/* The commands, each in a file of its own name. */
+int run_draw(const struct arguments *arguments);
+int run_forms(const struct arguments *arguments);
+int run_round(const struct arguments *arguments);
+int run_sheet(const struct arguments *arguments);
+int run_taps(const struct arguments *arguments);
+
+/* Words on standard error, behind the command's name. */
+void say(const char *format, ...) __attribute__((format(printf, 1, 2)));
+
+/* The same, and the status of what is neither done nor turned down. */
+int failed(const char *format, ...) __attribute__((format(printf, 1, 2)));
+
+/* The refusal of an answer in words, and its status. */
+int turned_down(uint64_t answer);
+
+uint64_t refused(unsigned number, unsigned place);
+
+/* A tap from standard input: 1, or 0 at the end. FAILED where the input cannot be read, which is then
+ * said; PIECE where 8-byte taps end inside one. */
+enum { PIECE = 3 };
+struct reader {
+    int bytes;
+    unsigned long line;
+};
+int next_tap(struct reader *reader, double *tap);
+
+/* All taps, but at most one more than are accepted, and whether there is a piece of one after them. */
+struct tap_set {
+    size_t count;
+    int piece;
+    double taps[MOST_TAPS + 1];
+};
+int read_taps(const struct arguments *arguments, struct tap_set *set);
+
+/* F by document 01: the digits of a decimal number up to 31, leading zeros allowed. Anything else is
+ * 32, which every function turns down in its turn. */
+uint32_t fraction_bits(const char *text);
+
+/* Taps from standard input, rounded at the F that is the first word. */
+struct rounded_set {
+    struct tap_set given;
+    uint32_t fraction_bits;
+    int32_t coefficients[MOST_TAPS];
+    double divisor, leftover;
+};
+int read_rounded(const struct arguments *arguments, int normalised, struct rounded_set *set);
+
+/* The fewest decimal digits that are read as the same number. */
+enum { NUMBER_TEXT = 32 };
+const char *number_text(double number, char text[NUMBER_TEXT]);
+
+/* Runs a program on these bytes; all that it writes is a text of its own, to be freed. */
+int run_program(char *const words[], const void *input, size_t length, char **output);
+
+#endif

@@ -1,0 +1,63 @@
+/* taps [-b] [--hex] [FILE]
+ * taps from text to 8 bytes each, as ./sheet reads them, and back
+ *
+ * Without an option text becomes bytes: binary64 numbers of 8 bytes each, low byte first. The text holds
+ * decimal numbers (-0.125, 1e-3) or hexadecimal ones (0x1.8p-4), with blanks or line ends between; #
+ * starts a comment. A number that binary64 does not hold is rounded to the nearest. inf and nan stand
+ * for themselves. Nothing is written unless the whole text is right.
+ *   -b     bytes become text: decimal, with the fewest digits that give the same number
+ *   --hex  the text that is written is hexadecimal; with -b */
+#include <math.h>
+#include <stdio.h>
+#include <stdlib.h>
+#include <string.h>
+
+#include "fir.h"
+
+#include "shared/command.h"
+
+struct list {
+    double *taps;
+    size_t count, room;
+};
+
+static int add(struct list *list, double tap) {
+    if (list->count == list->room) {
+        size_t room = 2 * list->room + MOST_TAPS;
+        double *taps = realloc(list->taps, room * sizeof *taps);
+        if (taps == NULL) return failed("no room for more than %zu taps", list->count);
+        list->taps = taps;
+        list->room = room;
+    }
+    list->taps[list->count++] = tap;
+    return DONE;
+}
+
+static void put_bytes(double tap) {
+    uint64_t bits;
+    memcpy(&bits, &tap, sizeof bits);
+    for (int i = 0; i < 8; i++) putchar((int)(bits >> (8 * i) & 255));
+}
+
+static void put_text(double tap, int hexadecimal) {
+    char text[NUMBER_TEXT];
+    if (hexadecimal && !isnan(tap)) printf("%a\n", tap);
+    else puts(number_text(tap, text));
+}
+
+int run_taps(const struct arguments *arguments) {
+    struct reader reader = {has_option(arguments, "-b"), 1};
+    struct list list = {NULL, 0, 0};
+    double tap;
+    int found, status = DONE;
+    if (has_option(arguments, "--hex") && !reader.bytes) return failed("--hex goes with -b");
+    while (status == DONE && (found = next_tap(&reader, &tap)) == 1) status = add(&list, tap);
+    if (status != DONE || found == FAILED) return FAILED;
+    if (found == PIECE) return turned_down(refused(FIR_CUT_TAP, 0));
+    for (size_t i = 0; i < list.count; i++) {
+        if (reader.bytes) put_text(list.taps[i], has_option(arguments, "--hex"));
+        else put_bytes(list.taps[i]);
+    }
+    free(list.taps);
+    return DONE;
+}

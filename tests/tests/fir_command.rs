@@ -1,0 +1,220 @@
+//! The command ./fir: help, usage before anything is built, statuses, and streams that fail.
+
+use fir_tests::commands::clone::Clone;
+use fir_tests::commands::{ends_with, fir, printed};
+use fir_tests::sheet::program::{root, run, Delivery, Ended};
+use std::fs::read_dir;
+use std::process::Command;
+
+const COMMANDS: [&str; 5] = ["draw", "forms", "round", "sheet", "taps"];
+
+fn text(ended: Ended) -> String {
+    assert_eq!((ended.status, ended.errors.as_str()), (Some(0), ""));
+    String::from_utf8(ended.out).unwrap()
+}
+
+/// On a fresh clone, and `rt` is not called.
+#[test]
+fn help() {
+    let clone = Clone::fresh();
+    let list = text(clone.run(&["fir"], b""));
+    for arguments in [&["fir", "help"], &["fir", "-h"], &["fir", "--help"]] {
+        assert_eq!(text(clone.run(arguments, b"")), list);
+    }
+    let lines: Vec<&str> = list.lines().collect();
+    assert_eq!(lines.len(), 2 + COMMANDS.len());
+    for (line, name) in lines[1..].iter().zip(COMMANDS) {
+        assert!(
+            line.starts_with(&format!("  {name} ")) && line.len() <= 100,
+            "{line}"
+        );
+        let help = text(clone.run(&["fir", "help", name], b""));
+        let usage = help.lines().next().unwrap();
+        let (start, summary) = line.trim().split_once("  ").unwrap();
+        assert_eq!(usage, format!("usage: fir {start}"));
+        assert_eq!(help.lines().nth(1), Some(summary.trim()));
+        assert!(help.lines().count() > 5 && help.lines().all(|line| line.len() <= 110));
+        assert!(!help.contains("*/") && !help.contains("#include"), "{help}");
+    }
+    assert!(clone.calls().is_empty());
+    let files = read_dir(root().join("commands")).unwrap();
+    let sources = files
+        .map(|file| file.unwrap().path())
+        .filter(|path| path.is_file());
+    assert_eq!(sources.count(), COMMANDS.len());
+}
+
+/// On a fresh clone, and `rt` is not called.
+#[test]
+fn usage() {
+    let clone = Clone::fresh();
+    let round = "fir: usage: fir round F [-n] [-b] [FILE]\n";
+    let forms = "fir: usage: fir forms N\n";
+    for (arguments, words) in [
+        (
+            &["nosuch"][..],
+            "there is no command nosuch; fir help lists those that there are\n".into(),
+        ),
+        (
+            &[""],
+            "there is no command ; fir help lists those that there are\n".into(),
+        ),
+        (
+            &["shared/main"],
+            "there is no command shared/main; fir help lists those that there are\n".into(),
+        ),
+        (
+            &["help", "nosuch"],
+            "there is no command nosuch; fir help lists those that there are\n".into(),
+        ),
+        (
+            &["help", "forms", "x"],
+            "usage: fir help [COMMAND]\n".into(),
+        ),
+        (&["round"], format!("round: too few arguments\n{round}")),
+        (
+            &["round", "1", "2", "3"],
+            format!("round: too many arguments\n{round}"),
+        ),
+        (
+            &["round", "-x", "1"],
+            format!("round has no option -x\n{round}"),
+        ),
+        (
+            &["round", "1", "--normalised"],
+            format!("round has no option --normalised\n{round}"),
+        ),
+        (
+            &["round", "1", "/no/such/file"],
+            "cannot read /no/such/file\n".into(),
+        ),
+        (&["round", "1", "/"], "cannot read /\n".into()),
+        (&["forms"], format!("forms: too few arguments\n{forms}")),
+        (
+            &["forms", "1", "2"],
+            format!("forms: too many arguments\n{forms}"),
+        ),
+    ] {
+        let words = format!("fir: {words}");
+        let ended = clone.run(&[&["fir"], arguments].concat(), b"");
+        assert_eq!(ended.errors, words, "{arguments:?}");
+        assert_eq!((ended.status, ended.out.len()), (Some(2), 0));
+    }
+    for number in [
+        "",
+        "x",
+        "1x",
+        "+1",
+        "--1",
+        "1 ",
+        " 1",
+        "0x1",
+        "1e1",
+        "2147483648",
+        "-2147483649",
+        "99999999999",
+        "*",
+        "1.0",
+        "-",
+    ] {
+        let ended = clone.run(&["fir", "forms", "--", number], b"");
+        let words = format!("{number} is no whole number from -2147483648 to 2147483647");
+        assert_eq!(ended.errors, format!("fir: {words}\n{forms}"));
+        assert_eq!((ended.status, ended.out.len()), (Some(2), 0));
+    }
+    assert!(clone.calls().is_empty());
+}
+
+/// Options stand anywhere behind the command, and a file's name behind -- may begin with one's mark.
+#[test]
+fn arguments() {
+    let taps = b"1 2 1";
+    let wanted = printed(&["round", "-n", "15"], taps);
+    for arguments in [
+        &["round", "15", "-n"][..],
+        &["round", "15", "-n", "-"],
+        &["round", "-n", "--", "15"],
+        &["round", "-n", "-n", "00015", "/dev/stdin"],
+    ] {
+        assert_eq!(printed(arguments, taps), wanted);
+    }
+    let clone = Clone::fresh();
+    clone.write("-b", "1 2 1");
+    let mut command = Command::new(root().join("fir"));
+    command
+        .current_dir(clone.path("."))
+        .args(["round", "-n", "15", "--", "-b"]);
+    assert_eq!(run(&mut command, b"", Delivery::AtOnce).out, wanted);
+}
+
+fn through(line: &str, bytes: &[u8]) -> Ended {
+    let mut shell = Command::new("bash");
+    shell.args(["-c", line]).arg(root().join("fir"));
+    run(&mut shell, bytes, Delivery::AtOnce)
+}
+
+/// Each command, with what it reads.
+fn calls() -> [(&'static str, Vec<u8>); 7] {
+    let sheet = printed(&["sheet", "0"], b"3 -6 45 0");
+    [
+        ("forms 45", vec![]),
+        ("round 15", b"0.1".to_vec()),
+        ("sheet 15", b"0.1".to_vec()),
+        ("taps", b"0.1".to_vec()),
+        ("draw", sheet.clone()),
+        ("draw --dot", sheet),
+        ("help", vec![]),
+    ]
+}
+
+#[test]
+fn output_that_cannot_be_written() {
+    for (words, bytes) in calls() {
+        assert_eq!(
+            through(&format!("exec \"$0\" {words}"), &bytes).status,
+            Some(0)
+        );
+        for end in [">/dev/full", ">&-"] {
+            let ended = through(&format!("exec \"$0\" {words} {end}"), &bytes);
+            assert_eq!(ended.status, Some(2), "{words} {end}: {}", ended.errors);
+            assert!(ended.errors.contains("fir"), "{}", ended.errors);
+        }
+        // Standard error closed: the status tells.
+        let ended = through(&format!("exec \"$0\" {words} 2>&-"), &bytes);
+        assert_eq!(ended.status, Some(0), "{words}");
+        let ended = through(&format!("exec \"$0\" {words} >&- 2>&-"), &bytes);
+        assert_eq!(ended.status, Some(2), "{words}");
+    }
+    // Where the reader has gone, the command ends and says nothing.
+    let ended = through("\"$0\" forms 858993459 | head -n 1", b"");
+    assert_eq!(ended.errors, "");
+}
+
+/// A closed standard input is an empty one.
+#[test]
+fn no_input() {
+    for words in ["round 15", "sheet 15"] {
+        let ended = through(&format!("exec \"$0\" {words} <&-"), b"");
+        assert_eq!(ended.status, Some(1), "{}", ended.errors);
+        assert!(ended.errors.ends_with("there are no taps (refusal 1)\n"));
+    }
+    let words = "fir draw: the first line is not a sheet's header\n";
+    assert_eq!(through("exec \"$0\" draw <&-", b"").errors, words);
+}
+
+#[test]
+fn other_statuses() {
+    ends_with(
+        2,
+        &["round", "15"],
+        b"1 x",
+        "fir round: line 1: not a number: x\n",
+    );
+    ends_with(
+        1,
+        &["round", "15"],
+        b"",
+        "fir round: there are no taps (refusal 1)\n",
+    );
+    assert_eq!(fir(&["round", "15"], b"1").status, Some(0));
+}
