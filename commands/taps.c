@@ -45,19 +45,25 @@ static void put_text(double tap, int hexadecimal) {
     else puts(number_text(tap, text));
 }
 
+/* All taps, or none where the input is not right to its end. */
+static int read_list(struct reader *reader, struct list *list) {
+    double tap;
+    int found, status = DONE;
+    while (status == DONE && (found = next_tap(reader, &tap)) == 1) status = add(list, tap);
+    if (status != DONE || found == FAILED) return FAILED;
+    return found == PIECE ? turned_down(refused(FIR_CUT_TAP, 0)) : DONE;
+}
+
 int run_taps(const struct arguments *arguments) {
     struct reader reader = {has_option(arguments, "-b"), 1};
     struct list list = {NULL, 0, 0};
-    double tap;
-    int found, status = DONE;
-    if (has_option(arguments, "--hex") && !reader.bytes) return failed("--hex goes with -b");
-    while (status == DONE && (found = next_tap(&reader, &tap)) == 1) status = add(&list, tap);
-    if (status != DONE || found == FAILED) return FAILED;
-    if (found == PIECE) return turned_down(refused(FIR_CUT_TAP, 0));
-    for (size_t i = 0; i < list.count; i++) {
-        if (reader.bytes) put_text(list.taps[i], has_option(arguments, "--hex"));
+    int hexadecimal = has_option(arguments, "--hex");
+    if (hexadecimal && !reader.bytes) return failed("--hex goes with -b");
+    int status = read_list(&reader, &list);
+    for (size_t i = 0; status == DONE && i < list.count; i++) {
+        if (reader.bytes) put_text(list.taps[i], hexadecimal);
         else put_bytes(list.taps[i]);
     }
     free(list.taps);
-    return DONE;
+    return status;
 }

@@ -3,7 +3,7 @@
 
 #include "drawing.h"
 
-enum { NAME = 24, TERM = 40 };
+enum { NAME = 32, TERM = 48 };
 
 /* What a row or tap takes from a row: row 0 is the sample. */
 static const char *source(uint32_t row, char text[NAME]) {

@@ -94,7 +94,8 @@ reached() { # CRATE..
 # Tells how far a proof is; a terminal has it in one line.
 tell() { # COUNT TOTAL
     if [ -t 2 ]; then
-        printf '\r%s: %d of %d crates proved%s' "$name" "$1" "$2" "$([ "$1" -lt "$2" ] || echo $'\n')" >&2
+        printf '\r%s: %d of %d crates proved' "$name" "$1" "$2" >&2
+        [ "$1" -lt "$2" ] || echo >&2
     else
         say "$1 of $2 crates proved"
     fi

@@ -43,7 +43,7 @@ static int unfit(unsigned long line, const char *what, const char *word, size_t 
     size_t i;
     for (i = 0; i < length && i < SHOWN; i++) {
         unsigned char c = (unsigned char)word[i];
-        plain = plain && c >= ' ' && c != 127;
+        plain = plain && c >= ' ' && c < 127;
         shown[i] = c >= ' ' && c != 127 ? (char)c : '?';
     }
     strcpy(shown + i, length > SHOWN ? ".." : "");

@@ -218,3 +218,16 @@ fn other_statuses() {
     );
     assert_eq!(fir(&["round", "15"], b"1").status, Some(0));
 }
+
+/// No compiler has anything to say of the commands' C, at any level.
+#[test]
+fn compiled_without_a_warning() {
+    for level in ["-O0", "-O1", "-O2", "-O3"] {
+        let line = "for file in commands/*.c commands/*/*.c; do cc -std=c99 -D_POSIX_C_SOURCE=200809L \
+            -Wall -Wextra -Wpedantic -Wshadow -Werror -Iinclude \"$0\" -c \"$file\" -o /dev/null || exit 1; done";
+        let mut shell = Command::new("bash");
+        shell.args(["-c", line, level]).current_dir(root());
+        let ended = run(&mut shell, b"", Delivery::AtOnce);
+        assert_eq!((ended.status, ended.errors.as_str()), (Some(0), ""));
+    }
+}
