@@ -98,7 +98,12 @@ fn by_the_program() {
     copy("/bin/true", clone.path("target/commands/sheet")).unwrap();
     assert_eq!(proofs(&clone), 1, "another program");
     remove_file(clone.path("target/commands/sheet.proof")).unwrap();
-    assert_eq!(proofs(&clone), 1, "no record");
+    copy("/bin/true", clone.path("target/bin/sheet")).unwrap();
+    assert_eq!(
+        proofs(&clone),
+        1,
+        "no record, and another program where rt has put its own"
+    );
     remove_dir_all(clone.path("target")).unwrap();
     assert_eq!(proofs(&clone), 1, "nothing at all, as rt ci leaves it");
     // What another rt leaves is not what the record speaks of.

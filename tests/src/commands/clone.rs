@@ -13,7 +13,8 @@ use std::process::Command;
 
 pub const KIT: &str = "kit of the tests";
 
-/// `bin/fails` makes the gate turn the program down that it leaves, `bin/rest` makes it slow.
+/// Like the real one it links no program again that has a stamp. `bin/fails` makes the gate turn the
+/// program down that it leaves, `bin/rest` makes it slow.
 const STAND_IN: &str = r#"#!/bin/sh
 here=$(dirname "$0")
 [ "$1" != version ] || exec cat "$here/kit"
@@ -23,6 +24,7 @@ mkdir -p target/bin target/staticlib target/stamp
 case $* in
 "check sheet")
     for crate in $(sed -n 's/^\([a-z_]*\):.*/\1/p' crates.txt); do echo "rt: $crate proved (0 s)"; done
+    [ ! -f target/stamp/sheet ] || exit 0
     if [ -f "$here/fails" ]; then
         printf '#!/bin/sh\necho kind\n' >target/bin/sheet
         chmod 755 target/bin/sheet
@@ -30,6 +32,7 @@ case $* in
         exit 1
     fi
     cp "$SHEET" target/bin/sheet
+    echo proved >target/stamp/sheet
     ;;
 check*) ;;
 staticlib*) cp "$MADE/target/staticlib/lib$2.a" target/staticlib ;;
