@@ -1,5 +1,5 @@
-/* What fir.h says of floating-point modes: forms, building, checking and running are the same in every
- * rounding mode, with subnormal numbers kept or not. A mode is set around the call alone. */
+/* What fir.h says of floating-point modes: all but the two functions for taps are the same in every
+ * rounding mode, with subnormal numbers kept or not. A mode is set around the calls alone. */
 #include <fenv.h>
 #include <stdio.h>
 #include <stdlib.h>
@@ -8,16 +8,18 @@
 
 #include "fir.h"
 
-enum { SETS = 300, SAMPLES = 40, FLUSH = 0x8040 };
+enum { SETS = 300, SAMPLES = 40, CALLS = 11, FLUSH = 0x8040 };
 
 static const int modes[] = {FE_TONEAREST, FE_DOWNWARD, FE_UPWARD, FE_TOWARDZERO};
 
 /* All that the calls leave. */
 struct results {
-    uint64_t answers[6];
+    uint64_t answers[CALLS];
     uint32_t rows[FIR_ROWS_LENGTH], taps[FIR_TAP_ROWS_LENGTH];
     uint32_t plus[FIR_FORMS_LENGTH], minus[FIR_FORMS_LENGTH], count, weight;
-    size_t row_count;
+    uint32_t form_count, negative, odd_part, shift, canonical_plus, canonical_minus;
+    size_t row_count, start, end;
+    int64_t value;
     int32_t coefficients[FIR_MOST_TAPS];
     uint64_t registers[FIR_REGISTERS_LENGTH];
     int64_t outputs[SAMPLES];
@@ -46,6 +48,17 @@ static void draw_set(struct set *set) {
     for (int i = 0; i < SAMPLES; i++) set->samples[i] = (int16_t)next();
 }
 
+static void run_forms(const struct set *set, struct results *r) {
+    int32_t n = set->coefficients[0];
+    r->answers[4] = fir_minimal_forms(n, r->plus, FIR_FORMS_LENGTH, r->minus, FIR_FORMS_LENGTH, &r->count);
+    r->answers[5] = fir_form_weight(r->plus[0], r->minus[0], &r->weight);
+    r->answers[6] = fir_form_value(r->plus[0], r->minus[0], &r->value);
+    r->answers[7] = fir_form_count(n, &r->form_count);
+    r->answers[8] = fir_canonical(n, &r->canonical_plus, &r->canonical_minus);
+    r->answers[9] = fir_reduce(n, &r->negative, &r->odd_part, &r->shift);
+    r->answers[10] = fir_trimmed(set->coefficients, set->count, &r->start, &r->end);
+}
+
 static void run(const struct set *set, struct results *r) {
     size_t count = set->count;
     memset(r, 0, sizeof *r);
@@ -56,9 +69,7 @@ static void run(const struct set *set, struct results *r) {
                                      r->coefficients, FIR_MOST_TAPS);
     r->answers[3] = fir_run(r->rows, FIR_ROWS_LENGTH, r->row_count, r->taps, FIR_TAP_ROWS_LENGTH, count, set->samples,
                             SAMPLES, r->registers, FIR_REGISTERS_LENGTH, r->outputs, SAMPLES);
-    r->answers[4] = fir_minimal_forms(set->coefficients[0], r->plus, FIR_FORMS_LENGTH, r->minus, FIR_FORMS_LENGTH,
-                                      &r->count);
-    r->answers[5] = fir_form_weight(r->plus[0], r->minus[0], &r->weight);
+    run_forms(set, r);
 }
 
 static void run_in(int mode, int flushed, const struct set *set, struct results *results) {
@@ -76,7 +87,7 @@ int main(void) {
     for (int i = 0; i < SETS; i++) {
         draw_set(&set);
         run(&set, &wanted);
-        for (int k = 0; k < 6; k++) {
+        for (int k = 0; k < CALLS; k++) {
             if (wanted.answers[k] != 0) return puts("modes: a call is turned down"), 1;
         }
         for (size_t m = 0; m < 8; m++) {

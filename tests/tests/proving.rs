@@ -4,8 +4,10 @@ use fir_tests::commands::clone::{Clone, KIT};
 use fir_tests::sheet::input::{packed, Input};
 use fir_tests::sheet::literal;
 use fir_tests::sheet::program::{run, Delivery, Ended};
-use std::fs::{copy, read, remove_dir_all, remove_file, rename, write, File};
-use std::os::unix::fs::symlink;
+use std::fs::{
+    copy, read, remove_dir_all, remove_file, rename, set_permissions, write, File, Permissions,
+};
+use std::os::unix::fs::{symlink, PermissionsExt};
 use std::process::{Command, Stdio};
 use std::thread;
 use std::time::{Duration, SystemTime};
@@ -163,6 +165,22 @@ fn beside_another() {
     prints_the_sheet(&ended);
     let words = "sheet: waiting for another command that proves here\n";
     assert!(ended.errors.starts_with(words), "{}", ended.errors);
+}
+
+/// While rt ci runs, ./test holds that lock; where it fails, the lock is free again.
+#[test]
+fn beside_the_tests() {
+    let clone = Clone::built();
+    for tool in ["believed", "families"] {
+        clone.write(&format!("tools/{tool}"), "#!/bin/sh\n");
+        let path = clone.path("tools").join(tool);
+        set_permissions(path, Permissions::from_mode(0o755)).unwrap();
+    }
+    let ended = clone.run(&["test"], b"");
+    let out = String::from_utf8(ended.out).unwrap();
+    assert_eq!(ended.status, Some(1), "{out}");
+    assert!(out.contains("(rt ci)\nlocked\n"), "{out}");
+    assert_eq!(proofs(&clone), 0);
 }
 
 #[test]

@@ -34,7 +34,11 @@ case $* in
     cp "$SHEET" target/bin/sheet
     echo proved >target/stamp/sheet
     ;;
-check*) ;;
+check* | fmt*) ;;
+ci)
+    flock -n crates true && echo "free" || echo "locked"
+    exit 1
+    ;;
 staticlib*) cp "$MADE/target/staticlib/lib$2.a" target/staticlib ;;
 *) exit 9 ;;
 esac
@@ -65,7 +69,7 @@ impl Clone {
     /// Nothing is built.
     pub fn fresh() -> Self {
         let clone = Clone(Folder::new());
-        for name in ["sheet", "fir", "library"] {
+        for name in ["sheet", "fir", "library", "test"] {
             copy(program::root().join(name), clone.path(name)).unwrap();
         }
         for name in ["commands", "include"] {
