@@ -17,11 +17,7 @@
 /* The taps as the program reads them, with the piece that the input ends with. */
 static size_t packed(const struct tap_set *set, unsigned char *bytes) {
     size_t length = 8 * set->count;
-    for (size_t i = 0; i < set->count; i++) {
-        uint64_t bits;
-        memcpy(&bits, &set->taps[i], sizeof bits);
-        for (int k = 0; k < 8; k++) bytes[8 * i + (size_t)k] = (unsigned char)(bits >> (8 * k) & 255);
-    }
+    for (size_t i = 0; i < set->count; i++) tap_bytes(set->taps[i], bytes + 8 * i);
     if (set->piece) bytes[length++] = 0;
     return length;
 }

@@ -10,7 +10,6 @@
 #include <math.h>
 #include <stdio.h>
 #include <stdlib.h>
-#include <string.h>
 
 #include "fir.h"
 
@@ -34,9 +33,9 @@ static int add(struct list *list, double tap) {
 }
 
 static void put_bytes(double tap) {
-    uint64_t bits;
-    memcpy(&bits, &tap, sizeof bits);
-    for (int i = 0; i < 8; i++) putchar((int)(bits >> (8 * i) & 255));
+    unsigned char bytes[8];
+    tap_bytes(tap, bytes);
+    fwrite(bytes, 1, sizeof bytes, stdout);
 }
 
 static void put_text(double tap, int hexadecimal) {

@@ -45,6 +45,9 @@ struct reader {
 };
 int next_tap(struct reader *reader, double *tap);
 
+/* A tap as 8 bytes, low byte first. */
+void tap_bytes(double tap, unsigned char bytes[8]);
+
 /* All taps, but at most one more than are accepted, and whether there is a piece of one after them. */
 struct tap_set {
     size_t count;

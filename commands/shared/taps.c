@@ -1,4 +1,4 @@
-/* Taps from standard input: text, or 8 bytes each. */
+/* Taps as text, or as 8 bytes each. */
 #include <ctype.h>
 #include <errno.h>
 #include <math.h>
@@ -73,6 +73,12 @@ static int byte_tap(double *tap) {
     for (int i = 7; i >= 0; i--) bits = bits << 8 | bytes[i];
     memcpy(tap, &bits, sizeof bits);
     return 1;
+}
+
+void tap_bytes(double tap, unsigned char bytes[8]) {
+    uint64_t bits;
+    memcpy(&bits, &tap, sizeof bits);
+    for (int i = 0; i < 8; i++) bytes[i] = (unsigned char)(bits >> (8 * i) & 255);
 }
 
 int next_tap(struct reader *reader, double *tap) {
