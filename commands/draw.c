@@ -1,4 +1,4 @@
-/* draw [--svg] [--dot] [SHEET]
+/* draw [--svg|--dot] [SHEET]
  * the network of a sheet, drawn: as text, or as SVG by Graphviz
  *
  * SHEET is a sheet that ./sheet or ./fir sheet has printed. It is checked first: every row by the row
@@ -15,8 +15,30 @@
 #include "drawing/drawing.h"
 #include "shared/command.h"
 
-/* Graphviz places up to so many rows and taps itself, which takes it seconds at most. */
-enum { MOST_PLACED = 200 };
+/* Graphviz finds places itself for up to so many rows and taps, whose lines pass so many columns. */
+enum { MOST_VERTICES = 200, MOST_COLUMNS = 1000 };
+
+static uint32_t passed_to_rows(const struct network *network) {
+    uint32_t passed = 0;
+    for (size_t i = 1; i < network->row_count; i++) {
+        const struct row *row = &network->rows[i];
+        passed += 2 * network->depths[i] - network->depths[row->left] - network->depths[row->right];
+    }
+    return passed;
+}
+
+static uint32_t passed_to_taps(const struct network *network) {
+    uint32_t passed = 0;
+    for (size_t i = 0; i < network->tap_count; i++) {
+        passed += network->deepest + 1 - network->depths[network->taps[i].row];
+    }
+    return passed;
+}
+
+static int is_large(const struct network *network) {
+    return network->row_count + network->tap_count > MOST_VERTICES ||
+           passed_to_rows(network) + passed_to_taps(network) > MOST_COLUMNS;
+}
 
 /* The text that Graphviz reads, to be freed. */
 static char *dot_text(const struct network *network, int placed, size_t *length) {
@@ -31,7 +53,7 @@ static char *dot_text(const struct network *network, int placed, size_t *length)
 
 static int draw_svg(const struct network *network) {
     static char *by_dot[] = {"dot", "-Tsvg", NULL}, *as_placed[] = {"dot", "-Kneato", "-n2", "-Tsvg", NULL};
-    int placed = network->row_count + network->tap_count > MOST_PLACED;
+    int placed = is_large(network);
     char *picture;
     size_t length;
     char *text = dot_text(network, placed, &length);
@@ -46,12 +68,10 @@ static int draw_svg(const struct network *network) {
 
 int run_draw(const struct arguments *arguments) {
     static struct network network;
-    int svg = has_option(arguments, "--svg"), dot = has_option(arguments, "--dot");
-    if (svg && dot) return failed("--svg and --dot are two drawings");
     int status = read_sheet(&network);
     if (status != DONE) return status;
-    if (svg) return draw_svg(&network);
-    if (dot) write_dot(&network, 0, stdout);
+    if (has_option(arguments, "--svg")) return draw_svg(&network);
+    if (has_option(arguments, "--dot")) write_dot(&network, 0, stdout);
     else write_text(&network, stdout);
     return DONE;
 }

@@ -43,20 +43,27 @@ static void write_terms(uint32_t plus, uint32_t minus, char text[TERMS_TEXT]) {
     }
 }
 
-/* The columns stand below each other. */
-static void print_listing(const struct listing *listing, uint32_t weight) {
-    char digits[PLACES + 1], terms[TERMS_TEXT];
-    int digits_width = 0, terms_width = 0;
+/* The listing as text, and the widths of its columns. */
+struct listing_text {
+    char digits[FIR_FORMS_LENGTH][PLACES + 1], terms[FIR_FORMS_LENGTH][TERMS_TEXT];
+    int digits_width, terms_width;
+};
+
+static void write_listing(const struct listing *listing, struct listing_text *text) {
     for (uint32_t i = 0; i < listing->count; i++) {
-        write_digits(listing->plus[i], listing->minus[i], digits);
-        write_terms(listing->plus[i], listing->minus[i], terms);
-        if ((int)strlen(digits) > digits_width) digits_width = (int)strlen(digits);
-        if ((int)strlen(terms) > terms_width) terms_width = (int)strlen(terms);
+        write_digits(listing->plus[i], listing->minus[i], text->digits[i]);
+        write_terms(listing->plus[i], listing->minus[i], text->terms[i]);
+        text->digits_width = wider(text->digits_width, text->digits[i]);
+        text->terms_width = wider(text->terms_width, text->terms[i]);
     }
+}
+
+static void print_listing(const struct listing *listing, uint32_t weight) {
+    static struct listing_text text;
+    write_listing(listing, &text);
     for (uint32_t i = 0; i < listing->count; i++) {
-        write_digits(listing->plus[i], listing->minus[i], digits);
-        write_terms(listing->plus[i], listing->minus[i], terms);
-        printf("%4" PRIu32 "  %*s  %-*s  %2" PRIu32 "\n", i, digits_width, digits, terms_width, terms, weight);
+        printf("%4" PRIu32 "  %*s  %-*s  %2" PRIu32 "\n", i, text.digits_width, text.digits[i], text.terms_width,
+               text.terms[i], weight);
     }
 }
 

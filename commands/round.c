@@ -28,24 +28,33 @@ static int leftover_of(const struct rounded_set *set, size_t tap, double *leftov
     return DONE;
 }
 
-static int longer(int width, const char *text) {
-    int length = (int)strlen(text);
-    return length > width ? length : width;
-}
+/* Taps and leftovers as text, and the widths of their columns. */
+struct set_text {
+    char taps[MOST_TAPS][NUMBER_TEXT], leftovers[MOST_TAPS][NUMBER_TEXT];
+    int taps_width, leftovers_width;
+};
 
-static int print_taps(const struct rounded_set *set) {
-    static char given[MOST_TAPS][NUMBER_TEXT], left[MOST_TAPS][NUMBER_TEXT];
-    int given_width = (int)strlen("tap"), left_width = (int)strlen("leftover");
+static int write_set(const struct rounded_set *set, struct set_text *text) {
+    text->taps_width = wider(0, "tap");
+    text->leftovers_width = wider(0, "leftover");
     for (size_t i = 0; i < set->given.count; i++) {
         double leftover;
         int status = leftover_of(set, i, &leftover);
         if (status != DONE) return status;
-        given_width = longer(given_width, number_text(set->given.taps[i], given[i]));
-        left_width = longer(left_width, number_text(leftover, left[i]));
+        text->taps_width = wider(text->taps_width, number_text(set->given.taps[i], text->taps[i]));
+        text->leftovers_width = wider(text->leftovers_width, number_text(leftover, text->leftovers[i]));
     }
-    printf("number  %*s  coefficient  %*s\n", given_width, "tap", left_width, "leftover");
+    return DONE;
+}
+
+static int print_taps(const struct rounded_set *set) {
+    static struct set_text text;
+    int status = write_set(set, &text);
+    if (status != DONE) return status;
+    printf("number  %*s  coefficient  %*s\n", text.taps_width, "tap", text.leftovers_width, "leftover");
     for (size_t i = 0; i < set->given.count; i++) {
-        printf("%6zu  %*s  %11" PRId32 "  %*s\n", i, given_width, given[i], set->coefficients[i], left_width, left[i]);
+        printf("%6zu  %*s  %11" PRId32 "  %*s\n", i, text.taps_width, text.taps[i], set->coefficients[i],
+               text.leftovers_width, text.leftovers[i]);
     }
     return DONE;
 }

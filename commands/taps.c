@@ -1,4 +1,4 @@
-/* taps [-b] [--hex] [FILE]
+/* taps [-b|--hex] [FILE]
  * taps from text to 8 bytes each, as ./sheet reads them, and back
  *
  * Without an option text becomes bytes: binary64 numbers of 8 bytes each, low byte first. The text holds
@@ -6,7 +6,7 @@
  * starts a comment. A number that binary64 does not hold is rounded to the nearest. inf and nan stand
  * for themselves. Nothing is written unless the whole text is right.
  *   -b     bytes become text: decimal, with the fewest digits that give the same number
- *   --hex  the text that is written is hexadecimal; with -b */
+ *   --hex  bytes become hexadecimal text */
 #include <math.h>
 #include <stdio.h>
 #include <stdlib.h>
@@ -54,10 +54,9 @@ static int read_list(struct reader *reader, struct list *list) {
 }
 
 int run_taps(const struct arguments *arguments) {
-    struct reader reader = {has_option(arguments, "-b"), 1};
-    struct list list = {NULL, 0, 0};
     int hexadecimal = has_option(arguments, "--hex");
-    if (hexadecimal && !reader.bytes) return failed("--hex goes with -b");
+    struct reader reader = {hexadecimal || has_option(arguments, "-b"), 0, 0};
+    struct list list = {NULL, 0, 0};
     int status = read_list(&reader, &list);
     for (size_t i = 0; status == DONE && i < list.count; i++) {
         if (reader.bytes) put_text(list.taps[i], hexadecimal);

@@ -21,7 +21,7 @@ struct network {
     struct row rows[FIR_MOST_ROWS];
     struct tap_row taps[FIR_MOST_TAPS];
     int32_t coefficients[FIR_MOST_TAPS];
-    uint32_t depths[FIR_MOST_ROWS], deepest;
+    uint32_t depths[FIR_MOST_ROWS], deepest, total;
 };
 
 /* The network of the sheet on standard input. */

@@ -17,12 +17,8 @@ struct line {
     char *fields[COLUMNS];
 };
 
-static int unfit(const struct line *line, const char *what) {
-    return failed("line %lu %s", line->number, what);
-}
-
 static int no_line(const struct line *line) {
-    return unfit(line, "is no line of a sheet");
+    return failed("line %lu is no line of a sheet", line->number);
 }
 
 /* 1, or 0 at the end of the input, or FAILED. The line end is CR LF, or LF. */
@@ -49,11 +45,13 @@ static int split(struct line *line) {
     return 1;
 }
 
-/* Decimal digits, and a sign where there may be one. */
+/* A decimal number as a sheet has it: no zeros in front, and no sign but a minus before what is not 0. */
 static int is_number(const char *text, int64_t least, int64_t most, int64_t *value) {
-    size_t digits = strspn(text + (*text == '-'), "0123456789");
+    const char *first = text + (*text == '-');
+    size_t digits = strspn(first, "0123456789");
     *value = strtoll(text, NULL, 10);
-    return digits > 0 && digits < 11 && text[digits + (*text == '-')] == '\0' && *value >= least && *value <= most;
+    if (digits == 0 || digits > 10 || first[digits] != '\0') return 0;
+    return (*first != '0' || strcmp(text, "0") == 0) && *value >= least && *value <= most;
 }
 
 static int word(const struct line *line, int column, uint32_t *value) {
@@ -78,7 +76,7 @@ static int sign_of(const struct line *line, uint32_t *sign) {
 
 /* The first row has nothing but its value. */
 static int read_row(const struct line *line, struct network *network) {
-    if (network->tap_count > 0 || network->row_count == FIR_MOST_ROWS) return 0;
+    if (network->tap_count > 0) return 0;
     struct row *row = &network->rows[network->row_count];
     if (network->row_count++ == 0) {
         row->sign = '+';
@@ -90,7 +88,7 @@ static int read_row(const struct line *line, struct network *network) {
 
 static int read_tap(const struct line *line, struct network *network) {
     int64_t value;
-    if (network->tap_count == FIR_MOST_TAPS || !is_number(line->fields[VALUE], INT32_MIN, INT32_MAX, &value)) return 0;
+    if (!is_number(line->fields[VALUE], INT32_MIN, INT32_MAX, &value)) return 0;
     network->coefficients[network->tap_count] = (int32_t)value;
     struct tap_row *tap = &network->taps[network->tap_count++];
     if (holds(line, "....")) return value == 0;
@@ -98,13 +96,35 @@ static int read_tap(const struct line *line, struct network *network) {
            sign_of(line, &tap->sign);
 }
 
+/* Nothing follows the last line. */
+static int ends(struct line *line) {
+    int found = next_line(line);
+    return found == 1 ? no_line(line) : found == FAILED ? FAILED : DONE;
+}
+
 /* The refused line: number and place. */
-static int refused_sheet(const struct line *line) {
+static int refused_sheet(struct line *line) {
     uint32_t number, place;
     if (!holds(line, "....") || !word(line, NUMBER, &number) || !word(line, VALUE, &place)) return no_line(line);
     if (number < FIR_NO_TAPS || number > FIR_CUT_TAP) return no_line(line);
+    int status = ends(line);
+    if (status != DONE) return status;
     say("there is nothing to draw, the sheet says refused:");
     return turned_down(refused(number, place));
+}
+
+/* The tables have no more room than a network may take. */
+static uint64_t full(const struct network *network, const char *kind) {
+    if (strcmp(kind, "node") == 0 && network->row_count == FIR_MOST_ROWS) return refused(FIR_ROW_RULE, 0);
+    if (strcmp(kind, "tap") == 0 && network->tap_count == FIR_MOST_TAPS) return refused(FIR_TOO_MANY_TAPS, 0);
+    return 0;
+}
+
+static int read_total(struct line *line, struct network *network) {
+    if (strcmp(line->fields[KIND], "total") != 0 || !holds(line, "....") || line->fields[VALUE][0] != '\0') {
+        return no_line(line);
+    }
+    return word(line, NUMBER, &network->total) ? ends(line) : no_line(line);
 }
 
 /* Rows, taps and the total, each by number. */
@@ -114,19 +134,17 @@ static int read_lines(struct line *line, struct network *network) {
     while ((found = next_line(line)) == 1) {
         if (!split(line)) return no_line(line);
         const char *kind = line->fields[KIND];
-        size_t rows = network->row_count, taps = network->tap_count;
-        if (strcmp(kind, "refused") == 0 && rows == 0) return refused_sheet(line);
+        if (strcmp(kind, "refused") == 0 && network->row_count == 0) return refused_sheet(line);
+        if (full(network, kind) != 0) return turned_down(full(network, kind));
         if (!word(line, NUMBER, &number)) return no_line(line);
-        if (strcmp(kind, "node") == 0 && number == rows && read_row(line, network)) continue;
-        if (strcmp(kind, "tap") == 0 && number == taps && read_tap(line, network)) continue;
-        if (strcmp(kind, "total") != 0 || !holds(line, "....") || line->fields[VALUE][0] != '\0') return no_line(line);
-        if (number + 1 != rows) return unfit(line, "has a total other than rows less one");
-        return DONE;
+        if (strcmp(kind, "node") == 0 && number == network->row_count && read_row(line, network)) continue;
+        if (strcmp(kind, "tap") == 0 && number == network->tap_count && read_tap(line, network)) continue;
+        return read_total(line, network);
     }
     return found == FAILED ? FAILED : failed("the sheet has no total line");
 }
 
-/* The rules are the core's; a sheet has the value of a tap beside its row. */
+/* The rules are the core's; a sheet also has the value of each tap, and the total. */
 static int check(struct network *network) {
     int32_t coefficients[FIR_MOST_TAPS];
     uint64_t answer = fir_coefficients((const uint32_t *)network->rows, FIR_ROWS_LENGTH, network->row_count,
@@ -137,7 +155,7 @@ static int check(struct network *network) {
         if (coefficients[i] == network->coefficients[i]) continue;
         return failed("tap %zu has another value than its row, shift and sign give", i);
     }
-    return DONE;
+    return network->total + 1 == network->row_count ? DONE : failed("the total is not rows less one");
 }
 
 static void find_depths(struct network *network) {
@@ -154,7 +172,6 @@ int read_sheet(struct network *network) {
     if (found == FAILED) return FAILED;
     if (found == 0 || strcmp(line.text, header) != 0) return failed("the first line is not a sheet's header");
     int status = read_lines(&line, network);
-    if (status == DONE && next_line(&line) != 0) status = no_line(&line);
     if (status == DONE) status = check(network);
     if (status == DONE) find_depths(network);
     return status;

@@ -44,12 +44,14 @@ void write_adders(const struct network *network, FILE *stream) {
     fprintf(stream, "%zu adder%s, %" PRIu32 " on the longest path", adders, adders == 1 ? "" : "s", network->deepest);
 }
 
-void write_text(const struct network *network, FILE *stream) {
-    for (uint32_t depth = 0; depth <= network->deepest; depth++) {
-        for (size_t i = 0; i < network->row_count; i++) {
-            if (network->depths[i] == depth) write_row(network, i, stream);
-        }
+static void write_depth(const struct network *network, uint32_t depth, FILE *stream) {
+    for (size_t i = 0; i < network->row_count; i++) {
+        if (network->depths[i] == depth) write_row(network, i, stream);
     }
+}
+
+void write_text(const struct network *network, FILE *stream) {
+    for (uint32_t depth = 0; depth <= network->deepest; depth++) write_depth(network, depth, stream);
     for (size_t i = 0; i < network->tap_count; i++) write_tap(network, i, stream);
     write_adders(network, stream);
     fputc('\n', stream);

@@ -41,7 +41,8 @@ uint64_t refused(unsigned number, unsigned place);
 enum { PIECE = 3 };
 struct reader {
     int bytes;
-    unsigned long line;
+    unsigned long line; /* from 1 on; 0 before the first word */
+    int held;           /* the character behind the last word, where there is one */
 };
 int next_tap(struct reader *reader, double *tap);
 
@@ -69,11 +70,15 @@ struct rounded_set {
 };
 int read_rounded(const struct arguments *arguments, int normalised, struct rounded_set *set);
 
+/* The width of a column that also holds this text. */
+int wider(int width, const char *text);
+
 /* The fewest decimal digits that are read as the same number. */
 enum { NUMBER_TEXT = 32 };
 const char *number_text(double number, char text[NUMBER_TEXT]);
 
-/* Runs a program on these bytes; all that it writes is a text of its own, to be freed. */
+/* Runs a program on these bytes. It has to write something and to end well; what it writes is to be
+ * freed. */
 int run_program(char *const words[], const void *input, size_t length, char **output);
 
 #endif

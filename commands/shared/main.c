@@ -1,6 +1,7 @@
 /* One program for the commands of ./fir, which calls it as: fir COMMAND OPTION.. -- WORD.. */
 #include <errno.h>
 #include <fcntl.h>
+#include <signal.h>
 #include <stdarg.h>
 #include <stdio.h>
 #include <string.h>
@@ -63,18 +64,26 @@ static int streams_open(void) {
     return 1;
 }
 
+/* What a caller has left ignored or set would turn failures into something else. */
+static void reset_signals(void) {
+    signal(SIGCHLD, SIG_DFL);
+    signal(SIGXFSZ, SIG_IGN);
+}
+
+static int run_command(const struct arguments *arguments) {
+    for (size_t i = 0; i < sizeof commands / sizeof *commands; i++) {
+        if (strcmp(command, commands[i].name) == 0) return commands[i].run(arguments);
+    }
+    return failed("there is no such command");
+}
+
 int main(int argc, char **argv) {
-    struct arguments arguments = {0, 0, argv + 2, NULL};
+    int next = 2;
     if (argc < 3) return FAILED;
     command = argv[1];
     if (!streams_open()) return failed("standard output is closed");
-    int next = 2;
-    while (next < argc && strcmp(argv[next], "--") != 0) next++;
-    arguments.option_count = next - 2;
-    arguments.words = argv + next + 1;
-    arguments.count = next < argc ? argc - next - 1 : 0;
-    for (size_t i = 0; i < sizeof commands / sizeof *commands; i++) {
-        if (strcmp(command, commands[i].name) == 0) return ended(commands[i].run(&arguments));
-    }
-    return failed("there is no such command");
+    reset_signals();
+    while (next < argc - 1 && strcmp(argv[next], "--") != 0) next++;
+    struct arguments arguments = {next - 2, argc - next - 1, argv + 2, argv + next + 1};
+    return ended(run_command(&arguments));
 }

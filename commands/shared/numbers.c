@@ -1,4 +1,4 @@
-/* Numbers in text: F, and binary64 numbers as people read them. */
+/* Numbers in text: F, binary64 numbers as people read them, and columns of them. */
 #include <stdio.h>
 #include <stdlib.h>
 #include <string.h>
@@ -14,6 +14,11 @@ uint32_t fraction_bits(const char *text) {
         if (value > 31) value = 32;
     }
     return value;
+}
+
+int wider(int width, const char *text) {
+    int length = (int)strlen(text);
+    return length > width ? length : width;
 }
 
 const char *number_text(double number, char text[NUMBER_TEXT]) {

@@ -59,8 +59,8 @@ static int start(char *const words[], int input, pid_t *child) {
 }
 
 int run_program(char *const words[], const void *input, size_t length, char **output) {
-    pid_t child;
-    int status = 0;
+    pid_t child, ended;
+    int status;
     FILE *file = file_of(input, length);
     if (file == NULL) return failed("no room for what %s reads: %s", words[0], strerror(errno));
     int from = start(words, fileno(file), &child);
@@ -68,9 +68,10 @@ int run_program(char *const words[], const void *input, size_t length, char **ou
     if (from == -1) return failed("cannot run %s: %s", words[0], strerror(errno));
     *output = read_all(from);
     close(from);
-    while (waitpid(child, &status, 0) == -1 && errno == EINTR) continue;
+    do ended = waitpid(child, &status, 0);
+    while (ended == -1 && errno == EINTR);
     if (*output == NULL) return failed("no room for what %s writes", words[0]);
-    if (WIFEXITED(status) && WEXITSTATUS(status) == 0) return DONE;
+    if (ended == child && WIFEXITED(status) && WEXITSTATUS(status) == 0 && **output != '\0') return DONE;
     free(*output);
     return failed("%s did not end well", words[0]);
 }

@@ -1,6 +1,8 @@
 # shellcheck shell=bash disable=SC2015,SC2154
 # What ./fir, ./sheet, ./library and ./test share: words, one prover at a time, and what was proved.
 # The caller has set root, the repository's folder, and name, its own.
+unset CDPATH
+set +f
 
 say() {
     echo "$name: $1" >&2
@@ -36,7 +38,7 @@ sources() {
     (
         cd "$root" || exit
         kit
-        find crates -type f \( -path 'crates/*/src/*.rt' -o -path 'crates/*/specs/*.antt' \
+        find -L crates -type f \( -path 'crates/*/src/*.rt' -o -path 'crates/*/specs/*.antt' \
             -o -path 'crates/*/proofs/*.antt' -o -path 'crates/*/data/*' \
             -o -name stdin -o -name stdout -o -name args \) -print0 |
             LC_ALL=C sort -z | xargs -0 sha256sum crates.txt "$@"
@@ -118,7 +120,7 @@ progress() { # TOTAL
 # Runs rt in the root, tells how far it is of so many crates, if any, and keeps what it prints. Where
 # it fails, the words on all that is not proved come out.
 run_rt() { # TOTAL WORD..
-    local log=$root/target/$name.log
+    local log=$root/target/${name%% *}.log
     mkdir -p "$root/target" || fail "no room in $root/target"
     (cd "$root" && rt "${@:2}") 2>&1 </dev/null | progress "$1" >"$log"
     [ "${PIPESTATUS[0]}" -eq 0 ] && return
@@ -152,8 +154,9 @@ open_input() {
     { true 3<&0; } 2>/dev/null || exec </dev/null
 }
 
-# Standard input from a file.
+# Standard input from a file; - is standard input as it is.
 take_input() { # FILE
+    [ "$1" != - ] || return 0
     [ -r "$1" ] && [ ! -d "$1" ] || fail "cannot read $1"
     exec <"$1" || exit 2
 }

@@ -8,35 +8,43 @@
 
 #include "command.h"
 
-/* No number needs a longer word. */
 enum { LONGEST = 2000, SHOWN = 40 };
 
-/* The next character; a comment counts as the line end that closes it. */
-static int next_character(void) {
-    int c = getchar();
-    if (c != '#') return c;
-    while (c != EOF && c != '\n') c = getchar();
+/* The next character; CR LF and CR are line ends as LF is. */
+static int next_character(struct reader *reader) {
+    int c = reader->held != 0 ? reader->held : getchar();
+    reader->held = 0;
+    if (c != '\r') return c;
+    c = getchar();
+    if (c != '\n' && c != EOF) ungetc(c, stdin);
+    return '\n';
+}
+
+/* The first character of the next word, behind blanks, line ends and comments. */
+static int first_character(struct reader *reader) {
+    int c = next_character(reader), comment = c == '#';
+    while (c != EOF && (comment || isspace(c))) {
+        reader->line += c == '\n';
+        c = next_character(reader);
+        comment = c == '#' || (comment && c != '\n');
+    }
     return c;
 }
 
 /* The length of the next word, 0 at the end. */
-static size_t next_word(char word[LONGEST + 1], unsigned long *line) {
+static size_t next_word(struct reader *reader, char word[LONGEST + 1]) {
     size_t length = 0;
-    int c = next_character();
-    while (c != EOF && isspace(c)) {
-        *line += c == '\n';
-        c = next_character();
-    }
-    while (c != EOF && !isspace(c) && length < LONGEST) {
+    int c = first_character(reader);
+    while (c != EOF && c != '#' && !isspace(c) && length < LONGEST) {
         word[length++] = (char)c;
-        c = next_character();
+        c = next_character(reader);
     }
-    if (c != EOF) ungetc(c, stdin);
+    if (c != EOF) reader->held = c;
     word[length] = '\0';
     return length;
 }
 
-/* A word as far as a terminal can show it. */
+/* Says a word, without control characters. */
 static int unfit(unsigned long line, const char *what, const char *word, size_t length) {
     char shown[SHOWN + 4];
     int plain = 1;
@@ -51,14 +59,26 @@ static int unfit(unsigned long line, const char *what, const char *word, size_t 
     return failed("line %lu: %s: %s; taps of 8 bytes are read with -b", line, what, shown);
 }
 
+/* A mark at the start says that the text is UTF-8; it is no part of the first word. */
+static size_t drop_mark(char *word, size_t length) {
+    if (strncmp(word, "\xef\xbb\xbf", 3) != 0) return length;
+    memmove(word, word + 3, length - 2);
+    return length - 3;
+}
+
 static int text_tap(struct reader *reader, double *tap) {
     static char word[LONGEST + 1];
     char *end;
-    size_t length = next_word(word, &reader->line);
+    int first = reader->line == 0;
+    if (first) reader->line = 1;
+    size_t length = next_word(reader, word);
+    if (first) length = drop_mark(word, length);
+    if (first && length == 0) length = next_word(reader, word);
     if (length == 0) return 0;
     errno = 0;
     *tap = strtod(word, &end);
-    if (end != word + length || length == LONGEST) return unfit(reader->line, "not a number", word, length);
+    if (length == LONGEST) return unfit(reader->line, "too long for a number", word, length);
+    if (end != word + length) return unfit(reader->line, "not a number", word, length);
     if (errno == ERANGE && isinf(*tap)) {
         return unfit(reader->line, "past the range of binary64", word, length);
     }
@@ -88,7 +108,7 @@ int next_tap(struct reader *reader, double *tap) {
 }
 
 int read_taps(const struct arguments *arguments, struct tap_set *set) {
-    struct reader reader = {has_option(arguments, "-b"), 1};
+    struct reader reader = {has_option(arguments, "-b"), 0, 0};
     int found = 1;
     set->count = 0;
     while (set->count <= MOST_TAPS && (found = next_tap(&reader, &set->taps[set->count])) == 1) set->count++;

@@ -1,9 +1,10 @@
 //! The command ./fir: help, usage before anything is built, statuses, and streams that fail.
 
 use fir_tests::commands::clone::Clone;
-use fir_tests::commands::{ends_with, fir, printed};
+use fir_tests::commands::{ends_with, fir, printed, Folder};
 use fir_tests::sheet::program::{root, run, Delivery, Ended};
-use std::fs::read_dir;
+use std::fs::{read_dir, set_permissions, Permissions};
+use std::os::unix::fs::PermissionsExt;
 use std::process::Command;
 
 const COMMANDS: [&str; 5] = ["draw", "forms", "round", "sheet", "taps"];
@@ -44,58 +45,66 @@ fn help() {
     assert_eq!(sources.count(), COMMANDS.len());
 }
 
+fn said(command: &str, words: &[&str]) -> String {
+    words
+        .iter()
+        .map(|words| format!("fir {command}: {words}\n"))
+        .collect()
+}
+
 /// On a fresh clone, and `rt` is not called.
 #[test]
 fn usage() {
     let clone = Clone::fresh();
-    let round = "fir: usage: fir round F [-n] [-b] [FILE]\n";
-    let forms = "fir: usage: fir forms N\n";
+    let none = "there is no command";
+    let list = "fir help lists those that there are";
+    let round = "usage: fir round F [-n] [-b] [FILE]";
+    let draw = "usage: fir draw [--svg|--dot] [SHEET]";
+    let forms = "usage: fir forms N";
     for (arguments, words) in [
-        (
-            &["nosuch"][..],
-            "there is no command nosuch; fir help lists those that there are\n".into(),
-        ),
-        (
-            &[""],
-            "there is no command ; fir help lists those that there are\n".into(),
-        ),
+        (&["nosuch"][..], format!("fir: {none} nosuch; {list}\n")),
+        (&[""], format!("fir: {none} ; {list}\n")),
         (
             &["shared/main"],
-            "there is no command shared/main; fir help lists those that there are\n".into(),
+            format!("fir: {none} shared/main; {list}\n"),
         ),
-        (
-            &["help", "nosuch"],
-            "there is no command nosuch; fir help lists those that there are\n".into(),
-        ),
+        (&["help", "nosuch"], format!("fir: {none} nosuch; {list}\n")),
         (
             &["help", "forms", "x"],
-            "usage: fir help [COMMAND]\n".into(),
+            "fir: usage: fir help [COMMAND]\n".into(),
         ),
-        (&["round"], format!("round: too few arguments\n{round}")),
+        (&["round"], said("round", &["too few arguments", round])),
         (
             &["round", "1", "2", "3"],
-            format!("round: too many arguments\n{round}"),
+            said("round", &["too many arguments", round]),
         ),
         (
             &["round", "-x", "1"],
-            format!("round has no option -x\n{round}"),
+            said("round", &["there is no option -x", round]),
         ),
         (
-            &["round", "1", "--normalised"],
-            format!("round has no option --normalised\n{round}"),
+            &["round", "1", "--hex"],
+            said("round", &["there is no option --hex", round]),
+        ),
+        (
+            &["round", "1", "-*"],
+            said("round", &["there is no option -*", round]),
         ),
         (
             &["round", "1", "/no/such/file"],
-            "cannot read /no/such/file\n".into(),
+            said("round", &["cannot read /no/such/file"]),
         ),
-        (&["round", "1", "/"], "cannot read /\n".into()),
-        (&["forms"], format!("forms: too few arguments\n{forms}")),
+        (&["round", "1", "/"], said("round", &["cannot read /"])),
+        (
+            &["draw", "--svg", "--dot"],
+            said("draw", &["--svg and --dot exclude each other", draw]),
+        ),
+        (&["forms"], said("forms", &["too few arguments", forms])),
         (
             &["forms", "1", "2"],
-            format!("forms: too many arguments\n{forms}"),
+            said("forms", &["too many arguments", forms]),
         ),
     ] {
-        let words = format!("fir: {words}");
         let ended = clone.run(&[&["fir"], arguments].concat(), b"");
         assert_eq!(ended.errors, words, "{arguments:?}");
         assert_eq!((ended.status, ended.out.len()), (Some(2), 0));
@@ -119,7 +128,7 @@ fn usage() {
     ] {
         let ended = clone.run(&["fir", "forms", "--", number], b"");
         let words = format!("{number} is no whole number from -2147483648 to 2147483647");
-        assert_eq!(ended.errors, format!("fir: {words}\n{forms}"));
+        assert_eq!(ended.errors, said("forms", &[&words, forms]));
         assert_eq!((ended.status, ended.out.len()), (Some(2), 0));
     }
     assert!(clone.calls().is_empty());
@@ -200,6 +209,33 @@ fn no_input() {
     }
     let words = "fir draw: the first line is not a sheet's header\n";
     assert_eq!(through("exec \"$0\" draw <&-", b"").errors, words);
+}
+
+/// Signals that the caller ignores, and a limit on the size of files.
+#[test]
+fn signals_and_limits() {
+    let sheet = printed(&["sheet", "0"], b"3 -6 45 0");
+    let folder = Folder::new();
+    std::fs::write(folder.join("dot"), "#!/bin/sh\necho half\nexit 1\n").unwrap();
+    set_permissions(folder.join("dot"), Permissions::from_mode(0o755)).unwrap();
+    let path = format!("PATH='{}':$PATH", folder.path().display());
+    let line = format!("trap '' CHLD PIPE; {path} exec \"$0\" draw --svg");
+    let ended = through(&line, &sheet);
+    assert_eq!(
+        (ended.status, ended.out.len()),
+        (Some(2), 0),
+        "{}",
+        ended.errors
+    );
+    let ended = through("trap '' CHLD; exec \"$0\" sheet 0", b"3 -6 45 0");
+    assert_eq!((ended.status, ended.out), (Some(0), sheet));
+    let ended = through("ulimit -f 0; exec \"$0\" sheet 0", b"3 -6 45 0");
+    assert_eq!(
+        (ended.status, ended.out.len()),
+        (Some(2), 0),
+        "{}",
+        ended.errors
+    );
 }
 
 #[test]

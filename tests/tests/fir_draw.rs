@@ -93,7 +93,7 @@ fn for_graphviz() {
         "    node2 [label=\"node 2\\n45\", shape=box];\n",
         "    tap3 [label=\"tap 3\\n0\", shape=ellipse];\n",
         "    { rank=same; node1; }\n",
-        "    { rank=sink; tap0 -> tap1 -> tap2 -> tap3 [style=invis]; }\n",
+        "    { rank=sink; edge [style=invis]; tap0 -> tap1 -> tap2 -> tap3; }\n",
         "    node1 -> node2 [label=\"+ << 4\"];\n",
         "    node1 -> node2 [label=\"-\", style=dashed];\n",
         "    node1 -> tap1 [label=\"- << 1\", style=dashed];\n",
@@ -151,19 +151,14 @@ fn never_one_for_the_other() {
     assert_eq!((ended.status, ended.errors.as_str()), (Some(0), ""));
     for dot in [
         None,
+        Some("#!/bin/sh\n"),
         Some("#!/bin/sh\necho half\nexit 1\n"),
-        Some("#!/bin/sh\nkill $$\n"),
+        Some("#!/bin/sh\necho half\nkill $$\n"),
     ] {
         let ended = with_dot(dot, &["--svg"], sheet.as_bytes());
         assert_eq!((ended.status, ended.out.len()), (Some(2), 0));
         assert!(ended.errors.contains("Graphviz"), "{}", ended.errors);
     }
-    ends_with(
-        2,
-        &["draw", "--svg", "--dot"],
-        b"",
-        "fir draw: --svg and --dot are two drawings\n",
-    );
 }
 
 /// A large network goes to Graphviz with a place for everything.
@@ -181,6 +176,34 @@ fn large_networks_are_placed() {
     let rows = lines.matches("\nnode,").count();
     assert!(rows > 1500);
     assert_eq!(text.matches(", pos=\"").count(), rows + 256);
+}
+
+/// One row and one tap, which no line joins to another.
+#[test]
+fn one_tap() {
+    let sheet = literal::sheet(&Input::new(&[0.5], "15"));
+    let text = String::from_utf8(printed(&["draw", "--dot"], &sheet)).unwrap();
+    assert!(
+        text.contains("    { rank=sink; edge [style=invis]; tap0; }\n"),
+        "{text}"
+    );
+    assert_eq!(text.matches("invis").count(), 1);
+}
+
+/// A deep network of few rows, over which dot would take minutes.
+#[test]
+fn deep_networks_are_placed() {
+    let mut sheet = "kind,number,left,shift,sign,right,value\r\nnode,0,,,,,1\r\n".to_string();
+    for i in 1..100 {
+        sheet += &format!("node,{i},{},1,-,0,1\r\n", i - 1);
+    }
+    sheet += "tap,0,99,0,+,,1\r\ntotal,99,,,,,\r\n";
+    let ended = with_dot(
+        Some("#!/bin/sh\necho \"$@\"\n"),
+        &["--svg"],
+        sheet.as_bytes(),
+    );
+    assert_eq!(ended.out, b"-Kneato -n2 -Tsvg\n");
 }
 
 /// With the real Graphviz, where it is installed.
@@ -275,7 +298,7 @@ fn broken_sheets() {
             value,
         );
     }
-    let total = "fir draw: line 9 has a total other than rows less one\n";
+    let total = "fir draw: the total is not rows less one\n";
     for new in ["total,3,,,,,", "total,1,,,,,"] {
         ends_with(
             2,
@@ -284,6 +307,10 @@ fn broken_sheets() {
             total,
         );
     }
+}
+
+fn taps(numbers: std::ops::Range<usize>) -> String {
+    numbers.map(|i| format!("tap,{i},,,,,0\r\n")).collect()
 }
 
 #[test]
@@ -339,6 +366,15 @@ fn what_is_no_sheet() {
             "line 3 is no line of a sheet",
         ),
         (
+            sheet.replace("node,1,0,1,+,0,3", "node,1,0,01,+,0,3"),
+            "line 3 is no line of a sheet",
+        ),
+        (
+            sheet.replace("tap,3,,,,,0", "tap,3,,,,,-0"),
+            "line 8 is no line of a sheet",
+        ),
+        (sheet.clone() + "x", "line 10 is no line of a sheet"),
+        (
             sheet.replace("node,0,,,,,1", "node,0,0,,,,1"),
             "line 2 is no line of a sheet",
         ),
@@ -379,6 +415,27 @@ fn what_is_no_sheet() {
             ends_with(2, option, text.as_bytes(), &format!("fir draw: {words}\n"));
         }
     }
+    let followed = refused + "\r\n";
+    ends_with(
+        2,
+        &["draw"],
+        followed.as_bytes(),
+        "fir draw: line 3 is no line of a sheet\n",
+    );
+    let many = sheet.replace("tap,3,,,,,0\r\n", &taps(3..257));
+    ends_with(
+        1,
+        &["draw"],
+        many.as_bytes(),
+        "fir draw: there are more than 256 taps (refusal 2)\n",
+    );
+    let rows = "fir draw: row 0 breaks the row rule, or there are no rows or more than 4096 (refusal 10)\n";
+    let row = |i: usize| format!("node,{i},0,1,+,0,3\r\n");
+    let many = sheet.replace(
+        "node,2,1,4,-,1,45\r\n",
+        &(2..4097).map(row).collect::<String>(),
+    );
+    ends_with(1, &["draw"], many.as_bytes(), rows);
     let none = "fir draw: there are no taps (refusal 1)\n";
     let start = "kind,number,left,shift,sign,right,value\r\nnode,0,,,,,1\r\ntotal,0,,,,,\r\n";
     ends_with(1, &["draw"], start.as_bytes(), none);

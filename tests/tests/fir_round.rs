@@ -137,15 +137,15 @@ fn a_file_for_f() {
     let folder = Folder::new();
     let path = folder.join("taps.txt").display().to_string();
     write(&path, "1").unwrap();
-    let hint = format!("fir: {path} is a file, and F comes before the file\n");
-    let words = format!("{hint}fir round: F is not a decimal number from 0 to 31 (refusal 4)\n");
+    let hint = |name| format!("fir {name}: {path} is a file, and F comes before the file\n");
+    let words = hint("round") + "fir round: F is not a decimal number from 0 to 31 (refusal 4)\n";
     ends_with(1, &["round", &path, &path], b"", &words);
     let ended = fir(&["sheet", &path], b"1");
     assert_eq!(
         (ended.status, ended.out),
         (Some(1), literal::sheet(&Input::new(&[1.0], "x")))
     );
-    assert!(ended.errors.starts_with(&hint), "{}", ended.errors);
+    assert!(ended.errors.starts_with(&hint("sheet")), "{}", ended.errors);
 }
 
 /// Unreadable text is said with its line, and nothing is printed.

@@ -17,8 +17,45 @@ fn taps_from_text() {
     assert!(f64::from_le_bytes(nan.try_into().unwrap()).is_nan());
     let text = printed(&["taps", "-b"], &packed(&[0.1, -0.0, 1e300, f64::NAN]));
     assert_eq!(text, b"0.1\n-0\n1e+300\nnan\n");
-    let text = printed(&["taps", "-b", "--hex"], &packed(&[0.1, -1.0, f64::NAN]));
+    let text = printed(&["taps", "--hex"], &packed(&[0.1, -1.0, f64::NAN]));
     assert_eq!(text, b"0x1.999999999999ap-4\n-0x1p+0\nnan\n");
+}
+
+/// Line ends of every kind close a comment and count; a mark of UTF-8 at the start is none of the text.
+#[test]
+fn line_ends_and_marks() {
+    for end in ["\n", "\r\n", "\r"] {
+        let text = format!("0.5 # first{end}0.25{end}#{end}##{end}-1#x");
+        assert_eq!(
+            printed(&["taps"], text.as_bytes()),
+            packed(&[0.5, 0.25, -1.0]),
+            "{end:?}"
+        );
+        let wrong = format!("#{end}1 # 2{end}{end}\t1 x");
+        ends_with(
+            2,
+            &["taps"],
+            wrong.as_bytes(),
+            "fir taps: line 4: not a number: x\n",
+        );
+    }
+    for text in [
+        "\u{feff}0.5",
+        "\u{feff} 0.5",
+        "\u{feff}\n0.5\n",
+        "\u{feff}#\n0.5",
+    ] {
+        assert_eq!(
+            printed(&["taps"], text.as_bytes()),
+            packed(&[0.5]),
+            "{text:?}"
+        );
+    }
+    assert_eq!(printed(&["taps"], "\u{feff}".as_bytes()), b"");
+    assert_eq!(
+        printed(&["taps"], format!("0.5{}", "0".repeat(1996)).as_bytes()),
+        packed(&[0.5])
+    );
 }
 
 #[test]
@@ -41,16 +78,13 @@ fn text_that_is_no_taps() {
         );
     }
     let long = "0.".to_string() + &"0".repeat(5000) + "1";
-    let shown = format!("fir taps: line 1: not a number: 0.{}..\n", "0".repeat(38));
+    let shown = format!(
+        "fir taps: line 1: too long for a number: 0.{}..\n",
+        "0".repeat(38)
+    );
     ends_with(2, &["taps"], long.as_bytes(), &shown);
     let cut = "fir taps: the input ends inside a tap of 8 bytes (refusal 12)\n";
     ends_with(1, &["taps", "-b"], &packed(&[1.0, 2.0])[..15], cut);
-    ends_with(
-        2,
-        &["taps", "--hex"],
-        b"1",
-        "fir taps: --hex goes with -b\n",
-    );
 }
 
 /// Random taps to both kinds of text and back; and decimal text beside Rust's own reading of it.
@@ -62,7 +96,7 @@ fn random_taps() {
         .map(bits)
         .filter(|tap| !tap.is_nan())
         .collect();
-    for options in [&["taps", "-b"][..], &["taps", "-b", "--hex"]] {
+    for options in [&["taps", "-b"][..], &["taps", "--hex"]] {
         let text = printed(options, &packed(&taps));
         assert!(printed(&["taps"], &text) == packed(&taps), "{options:?}");
     }

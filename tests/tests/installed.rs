@@ -98,7 +98,15 @@ fn nowhere() {
         "{}",
         ended.errors
     );
-    for arguments in [&["-x"][..], &["a", "b"]] {
+    for name in ["include/fir.h", "lib/libfir.so"] {
+        let prefix = folder.join("taken");
+        std::fs::create_dir_all(prefix.join(name).join("x")).unwrap();
+        let ended = library(&prefix.display().to_string());
+        assert_eq!(ended.status, Some(2), "{name}");
+        assert!(ended.errors.contains("cannot write"), "{}", ended.errors);
+        std::fs::remove_dir_all(prefix).unwrap();
+    }
+    for arguments in [&["-x"][..], &["a", "b"], &[""]] {
         let mut command = Command::new(root().join("library"));
         let ended = run(command.args(arguments), b"", Delivery::AtOnce);
         assert_eq!(ended.status, Some(2));

@@ -113,6 +113,37 @@ fn by_the_program() {
     assert_eq!(proofs(&clone), 0);
 }
 
+/// A crate behind a link is a source too.
+#[test]
+fn linked_crates() {
+    let clone = Clone::fresh();
+    rename(clone.path("crates/word"), clone.path("elsewhere")).unwrap();
+    symlink("../elsewhere", clone.path("crates/word")).unwrap();
+    assert_eq!(proofs(&clone), 1);
+    assert_eq!(proofs(&clone), 0);
+    clone.write("elsewhere/src/lib.rt", "// changed\n");
+    assert_eq!(proofs(&clone), 1);
+}
+
+/// Without what decides what is trusted, nothing is.
+#[test]
+fn scripts_alone() {
+    let clone = Clone::built();
+    clone.run(&["fir", "forms", "3"], b"");
+    remove_file(clone.path("commands/shared/proof.sh")).unwrap();
+    for words in [
+        &["sheet", "0"][..],
+        &["fir"],
+        &["fir", "forms", "3"],
+        &["fir", "sheet", "0"],
+        &["library"],
+    ] {
+        let ended = clone.run(words, &packed(&EXAMPLE));
+        assert_eq!((ended.status, ended.out.len()), (Some(2), 0), "{words:?}");
+    }
+    assert_eq!(clone.run(&["test"], b"").status, Some(1));
+}
+
 #[test]
 fn no_room() {
     let clone = Clone::fresh();
@@ -224,6 +255,7 @@ fn kits() {
             "head",
             "tr",
             "mkdir",
+            "mktemp",
             "rm",
             "wc",
             "awk",

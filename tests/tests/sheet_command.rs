@@ -65,7 +65,7 @@ fn refusals_in_words() {
     let none = "there are no taps (refusal 1)";
     refused(clone, &Input::new(&[], "15"), none, USAGE);
     let many = "there are more than 256 taps (refusal 2)";
-    refused(clone, &Input::new(&[1.0; 257], "15"), many, "");
+    refused(clone, &Input::new(&[1.0; 257], "15"), many, BYTES);
     let mut piece = Input::new(&EXAMPLE, "15");
     piece.bytes.pop();
     let inside = "the input ends inside a tap of 8 bytes (refusal 12)";
@@ -87,7 +87,7 @@ fn taps_from_a_file() {
     let on = |arguments: &[&str]| {
         let mut command = clone.command("sheet");
         command.current_dir(&folder).args(arguments);
-        run(&mut command, b"not these", Delivery::AtOnce)
+        run(&mut command, b"\0not these", Delivery::AtOnce)
     };
     let ended = on(&["15", "some taps"]);
     assert_eq!(ended.out, literal::sheet(&Input::new(&EXAMPLE, "15")));
@@ -97,6 +97,8 @@ fn taps_from_a_file() {
     assert_eq!(ended.status, Some(1));
     let ended = on(&["15", "piece"]);
     let inside = "sheet: the input ends inside a tap of 8 bytes (refusal 12)\n";
+    assert_eq!(ended.errors, format!("{inside}{BYTES}"));
+    let ended = on(&["15", "-"]);
     assert_eq!(ended.errors, format!("{inside}{BYTES}"));
     let ended = on(&["some taps"]);
     assert_eq!(ended.status, Some(1));
@@ -115,14 +117,14 @@ fn text_for_bytes() {
         bytes: text.clone().into_bytes(),
         argument: Some("15".into()),
     };
-    accepted(&clone, &input, ZERO);
+    let words = format!("sheet: every coefficient is 0; {TEXT}");
+    accepted(&clone, &input, &words);
     let column = clone.path("column").display().to_string();
     let ended = clone.run(&["sheet", "15", &column], b"");
     assert_eq!(
         (ended.status, &ended.out),
         (Some(0), &literal::sheet(&input))
     );
-    let words = format!("sheet: every coefficient is 0; {TEXT}");
     assert_eq!(ended.errors, words);
     let line = clone.path("line").display().to_string();
     let ended = clone.run(&["sheet", "15", &line], b"");
@@ -133,6 +135,41 @@ fn text_for_bytes() {
     shell.arg(clone.path("sheet")).arg(&column);
     clone.prepare(&mut shell);
     assert_eq!(run(&mut shell, b"", Delivery::AtOnce).errors, words);
+    for text in ["0.5\n", "0.5 0.25\n", "1e-3 1e-3\n1e-3 1\n"] {
+        let ended = clone.run(&["sheet"], text.as_bytes());
+        assert!(ended.errors.ends_with(&format!("sheet: {TEXT}")), "{text}");
+    }
+    let many = "0.5 # Mitte der Glättung\n".repeat(100);
+    assert!(clone
+        .run(&["sheet"], many.as_bytes())
+        .errors
+        .ends_with(BYTES));
+}
+
+/// Input that ends in an error is no sheet of what came before it.
+#[test]
+fn unreadable() {
+    let clone = Clone::built();
+    for line in ["exec \"$0\" 15 </", "exec 3</; exec \"$0\" 15 <&3"] {
+        let mut shell = Command::new("sh");
+        shell.args(["-c", line]).arg(clone.path("sheet"));
+        clone.prepare(&mut shell);
+        let ended = run(&mut shell, b"", Delivery::AtOnce);
+        assert_eq!(
+            (ended.status, ended.out.len()),
+            (Some(2), 0),
+            "{}",
+            ended.errors
+        );
+        assert!(ended
+            .errors
+            .ends_with("sheet: the input could not be read\n"));
+    }
+    let mut command = clone.command("sheet");
+    command.env("TMPDIR", "/no/such/folder");
+    let ended = run(&mut command, &packed(&EXAMPLE), Delivery::AtOnce);
+    assert_eq!((ended.status, ended.out.len()), (Some(2), 0));
+    assert!(ended.errors.ends_with("sheet: no room for the input\n"));
 }
 
 #[test]
