@@ -136,7 +136,7 @@ make_sheet() {
     lock
     if ! current "$program"; then
         need_kit
-        say "proving and building the program: about five minutes, only once"
+        say "proving and building the program: up to five minutes, only once"
         made=$(sources)
         # The program is then linked and run in this proof, whatever another has left there.
         rm -f "$root/target/stamp/sheet"

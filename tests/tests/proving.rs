@@ -220,7 +220,7 @@ fn progress() {
     let ended = call(&clone);
     prints_the_sheet(&ended);
     let words = [
-        "sheet: proving and building the program: about five minutes, only once",
+        "sheet: proving and building the program: up to five minutes, only once",
         "sheet: 1 of 2 crates proved",
         "sheet: 2 of 2 crates proved",
         "sheet: proved and built in ",
