@@ -9,7 +9,7 @@ use std::env;
 use std::fs::{read, set_permissions, write, Permissions};
 use std::os::unix::fs::{symlink, PermissionsExt};
 use std::process::Command;
-use std::time::{Duration, Instant};
+use std::time::Instant;
 
 fn example() -> String {
     String::from_utf8(literal::sheet(&Input::new(&[3.0, -6.0, 45.0, 0.0], "0"))).unwrap()
@@ -219,11 +219,7 @@ fn drawn_by_graphviz() {
             assert_eq!((ended.status, ended.out.len()), (Some(2), 0));
             continue;
         }
-        assert!(
-            begun.elapsed() < Duration::from_secs(10),
-            "{:?}",
-            begun.elapsed()
-        );
+        println!("drawn in {:?}", begun.elapsed());
         assert_eq!((ended.status, ended.errors.as_str()), (Some(0), ""));
         let svg = String::from_utf8(ended.out).unwrap();
         let last = String::from_utf8(text)

@@ -7,10 +7,11 @@ use fir_tests::sheet::program::{run, Delivery, Ended};
 use std::fs::{
     copy, read, remove_dir_all, remove_file, rename, set_permissions, write, File, Permissions,
 };
+use std::io::{Read, Write};
 use std::os::unix::fs::{symlink, PermissionsExt};
-use std::process::{Command, Stdio};
+use std::process::{Child, Command, Stdio};
 use std::thread;
-use std::time::{Duration, SystemTime};
+use std::time::{Duration, Instant, SystemTime};
 
 const EXAMPLE: [f64; 4] = [3.0, -6.0, 45.0, 0.0];
 
@@ -179,23 +180,54 @@ fn three_at_once() {
     assert_eq!(clone.calls().len(), 4, "{:?}", clone.calls());
 }
 
+/// Holds the lock until its standard input is closed.
+fn holder(clone: &Clone) -> Child {
+    let mut holder = Command::new("flock");
+    holder
+        .arg(clone.path("crates"))
+        .args(["sh", "-c", "echo; cat"]);
+    holder.stdin(Stdio::piped()).stdout(Stdio::piped());
+    let mut holder = holder.spawn().unwrap();
+    holder
+        .stdout
+        .as_mut()
+        .unwrap()
+        .read_exact(&mut [0])
+        .unwrap();
+    holder
+}
+
 /// Beside a command that holds the lock, as ./test does while rt ci runs and target/ is gone.
 #[test]
 fn beside_another() {
     let clone = Clone::built();
-    let mut other = Command::new("flock");
-    other
-        .arg(clone.path("crates"))
-        .args(["sh", "-c", "echo; sleep 1"]);
-    let mut other = other.stdout(Stdio::piped()).spawn().unwrap();
-    std::io::Read::read_exact(other.stdout.as_mut().unwrap(), &mut [0]).unwrap();
+    let mut holder = holder(&clone);
     assert_eq!(proofs(&clone), 0, "nothing is to be proved");
     remove_dir_all(clone.path("target")).unwrap();
-    let ended = call(&clone);
-    assert!(other.try_wait().unwrap().is_some(), "it did not wait");
-    prints_the_sheet(&ended);
+    let errors = clone.path("errors");
+    let mut command = clone.command("sheet");
+    command
+        .arg("0")
+        .stdin(Stdio::piped())
+        .stdout(Stdio::piped());
+    let mut waiting = command
+        .stderr(File::create(&errors).unwrap())
+        .spawn()
+        .unwrap();
+    let input = waiting.stdin.take().unwrap().write_all(&packed(&EXAMPLE));
+    input.unwrap();
+    let begun = Instant::now();
+    while read(&errors).unwrap().is_empty() && begun.elapsed() < Duration::from_secs(60) {
+        thread::sleep(Duration::from_millis(10));
+    }
     let words = "sheet: waiting for another command that proves here\n";
-    assert!(ended.errors.starts_with(words), "{}", ended.errors);
+    assert_eq!(String::from_utf8(read(&errors).unwrap()).unwrap(), words);
+    assert_eq!(waiting.try_wait().unwrap(), None);
+    drop(holder.stdin.take());
+    holder.wait().unwrap();
+    let output = waiting.wait_with_output().unwrap();
+    assert_eq!(output.stdout, literal::sheet(&Input::new(&EXAMPLE, "0")));
+    assert_eq!((output.status.code(), clone.calls().len()), (Some(0), 2));
 }
 
 /// While rt ci runs, ./test holds that lock; where it fails, the lock is free again.
