@@ -10,8 +10,6 @@
 #include <stdio.h>
 #include <stdlib.h>
 
-#include "fir.h"
-
 #include "drawing/drawing.h"
 #include "shared/command.h"
 
@@ -30,7 +28,8 @@ static uint32_t passed_to_rows(const struct network *network) {
 static uint32_t passed_to_taps(const struct network *network) {
     uint32_t passed = 0;
     for (size_t i = 0; i < network->tap_count; i++) {
-        passed += network->deepest + 1 - network->depths[network->taps[i].row];
+        const struct tap_row *tap = &network->taps[i];
+        if (tap->sign != 0) passed += network->deepest + 1 - network->depths[tap->row];
     }
     return passed;
 }

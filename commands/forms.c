@@ -12,8 +12,6 @@
 #include <stdlib.h>
 #include <string.h>
 
-#include "fir.h"
-
 #include "shared/command.h"
 
 /* 16 terms of at most 11 characters. */

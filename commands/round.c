@@ -14,8 +14,6 @@
 #include <stdio.h>
 #include <string.h>
 
-#include "fir.h"
-
 #include "shared/command.h"
 
 /* A tap's leftover, as the core gives it for a set of that tap alone. */
@@ -30,7 +28,7 @@ static int leftover_of(const struct rounded_set *set, size_t tap, double *leftov
 
 /* Taps and leftovers as text, and the widths of their columns. */
 struct set_text {
-    char taps[MOST_TAPS][NUMBER_TEXT], leftovers[MOST_TAPS][NUMBER_TEXT];
+    char taps[FIR_MOST_TAPS][NUMBER_TEXT], leftovers[FIR_MOST_TAPS][NUMBER_TEXT];
     int taps_width, leftovers_width;
 };
 

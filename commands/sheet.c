@@ -10,8 +10,6 @@
 #include <stdlib.h>
 #include <string.h>
 
-#include "fir.h"
-
 #include "shared/command.h"
 
 /* The taps as the program reads them, with the piece that the input ends with. */
@@ -34,7 +32,7 @@ static int some_nonzero(const char *text) {
 /* The words are those that the program is called with: its path, and F where there is one. */
 int run_sheet(const struct arguments *arguments) {
     static struct tap_set set;
-    static unsigned char bytes[8 * (MOST_TAPS + 1) + 1];
+    static unsigned char bytes[8 * (FIR_MOST_TAPS + 1) + 1];
     char *const words[3] = {arguments->words[0], arguments->count > 1 ? arguments->words[1] : NULL, NULL};
     char *text;
     unsigned number, place;

@@ -11,8 +11,6 @@
 #include <stdio.h>
 #include <stdlib.h>
 
-#include "fir.h"
-
 #include "shared/command.h"
 
 struct list {
@@ -22,7 +20,7 @@ struct list {
 
 static int add(struct list *list, double tap) {
     if (list->count == list->room) {
-        size_t room = 2 * list->room + MOST_TAPS;
+        size_t room = 2 * list->room + FIR_MOST_TAPS;
         double *taps = realloc(list->taps, room * sizeof *taps);
         if (taps == NULL) return failed("no room for more than %zu taps", list->count);
         list->taps = taps;

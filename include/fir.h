@@ -6,8 +6,8 @@
  *
  * The core asks of the machine: x86-64; binary64 arithmetic that rounds to nearest and keeps
  * subnormal numbers (neither FTZ nor DAZ), with exceptions masked, all of which a C program starts
- * with; and the stack below. fir_round_tap and fir_round_taps give other results in another rounding
- * mode, or without subnormal numbers; the other functions do not depend on it.
+ * with; and the stack below. fir_round_tap and fir_round_taps may give other results in another
+ * rounding mode, or without subnormal numbers; the other functions do not depend on it.
  *
  * A call needs at most so many bytes of stack, accepted or turned down, its arguments and return
  * address included (measured on x86-64; what memcpy and memset need of their own comes on top):

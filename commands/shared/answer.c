@@ -1,8 +1,6 @@
 /* Answers of the core, in words. */
 #include <stdio.h>
 
-#include "fir.h"
-
 #include "command.h"
 
 static const char *const words[] = {

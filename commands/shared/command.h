@@ -6,10 +6,10 @@
 #include <stddef.h>
 #include <stdint.h>
 
+#include "fir.h"
+
 /* Exit statuses. */
 enum { DONE = 0, TURNED_DOWN = 1, FAILED = 2 };
-
-enum { MOST_TAPS = 256 };
 
 struct arguments {
     int option_count, count;
@@ -53,19 +53,19 @@ void tap_bytes(double tap, unsigned char bytes[8]);
 struct tap_set {
     size_t count;
     int piece;
-    double taps[MOST_TAPS + 1];
+    double taps[FIR_MOST_TAPS + 1];
 };
 int read_taps(const struct arguments *arguments, struct tap_set *set);
 
 /* F by document 01: the digits of a decimal number up to 31, leading zeros allowed. Anything else is
- * 32, which every function turns down in its turn. */
+ * one more, which every function turns down in its turn. */
 uint32_t fraction_bits(const char *text);
 
 /* Taps from standard input, rounded at the F that is the first word. */
 struct rounded_set {
     struct tap_set given;
     uint32_t fraction_bits;
-    int32_t coefficients[MOST_TAPS];
+    int32_t coefficients[FIR_MOST_TAPS];
     double divisor, leftover;
 };
 int read_rounded(const struct arguments *arguments, int normalised, struct rounded_set *set);

@@ -6,12 +6,12 @@
 #include "command.h"
 
 uint32_t fraction_bits(const char *text) {
-    uint32_t value = 0;
-    if (*text == '\0') return 32;
+    const uint32_t none = FIR_MOST_FRACTION_BITS + 1;
+    uint32_t value = *text == '\0' ? none : 0;
     for (; *text != '\0'; text++) {
-        if (*text < '0' || *text > '9') return 32;
+        if (*text < '0' || *text > '9') return none;
         value = 10 * value + (uint32_t)(*text - '0');
-        if (value > 31) value = 32;
+        if (value > none) value = none;
     }
     return value;
 }

@@ -8,23 +8,23 @@
 
 #include "command.h"
 
-/* All that comes through a pipe, closed by a 0; NULL where there is no room. */
+/* All that comes through a pipe, closed by a 0; NULL where it cannot be read or there is no room. */
 static char *read_all(int pipe) {
     size_t length = 0, room = 1 << 16;
-    char *text = malloc(room);
+    char *text = malloc(room), *more = text;
     ssize_t got = 1;
-    while (text != NULL && got > 0) {
-        if (room - length < 2) {
-            char *more = realloc(text, room *= 2);
-            if (more == NULL) free(text);
-            text = more;
-            continue;
-        }
+    while (more != NULL && got != 0) {
         got = read(pipe, text + length, room - length - 1);
+        if (got < 0 && errno != EINTR) more = NULL;
         if (got > 0) length += (size_t)got;
-        if (got < 0 && errno == EINTR) got = 1;
+        if (more != NULL && length + 1 == room) more = realloc(text, room *= 2);
+        if (more != NULL) text = more;
     }
-    if (text != NULL) text[length] = '\0';
+    if (more == NULL) {
+        free(text);
+        return NULL;
+    }
+    text[length] = '\0';
     return text;
 }
 
@@ -70,7 +70,7 @@ int run_program(char *const words[], const void *input, size_t length, char **ou
     close(from);
     do ended = waitpid(child, &status, 0);
     while (ended == -1 && errno == EINTR);
-    if (*output == NULL) return failed("no room for what %s writes", words[0]);
+    if (*output == NULL) return failed("cannot read what %s writes, or there is no room for it", words[0]);
     if (ended == child && WIFEXITED(status) && WEXITSTATUS(status) == 0 && **output != '\0') return DONE;
     free(*output);
     return failed("%s did not end well", words[0]);

@@ -1,14 +1,12 @@
 /* Taps from standard input, rounded at the F of the command. */
-#include "fir.h"
-
 #include "command.h"
 
 /* 12 comes after 1 and 2, which count whole taps, and before what the core finds. */
 static uint64_t round_input(int normalised, struct rounded_set *set) {
     size_t count = set->given.count;
-    if (set->given.piece && count > 0 && count <= MOST_TAPS) return refused(FIR_CUT_TAP, 0);
+    if (set->given.piece && count > 0 && count <= FIR_MOST_TAPS) return refused(FIR_CUT_TAP, 0);
     return fir_round_taps(set->given.taps, count, set->fraction_bits, (uint32_t)normalised,
-                          set->coefficients, MOST_TAPS, &set->divisor, &set->leftover);
+                          set->coefficients, FIR_MOST_TAPS, &set->divisor, &set->leftover);
 }
 
 int read_rounded(const struct arguments *arguments, int normalised, struct rounded_set *set) {

@@ -111,7 +111,7 @@ int read_taps(const struct arguments *arguments, struct tap_set *set) {
     struct reader reader = {has_option(arguments, "-b"), 0, 0};
     int found = 1;
     set->count = 0;
-    while (set->count <= MOST_TAPS && (found = next_tap(&reader, &set->taps[set->count])) == 1) set->count++;
+    while (set->count <= FIR_MOST_TAPS && (found = next_tap(&reader, &set->taps[set->count])) == 1) set->count++;
     set->piece = found == PIECE;
     return found == FAILED ? FAILED : DONE;
 }

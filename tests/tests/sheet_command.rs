@@ -11,10 +11,12 @@ use std::process::Command;
 
 const EXAMPLE: [f64; 4] = [3.0 / 32768.0, -6.0 / 32768.0, 45.0 / 32768.0, 0.0];
 const USAGE: &str = "sheet: usage: sheet [F [FILE]]\n";
-const BYTES: &str = "sheet: a tap is 8 bytes here; ./fir sheet takes text\n";
-const ZERO: &str =
-    "sheet: every coefficient is 0; a tap is 8 bytes here, and ./fir sheet takes text\n";
-const TEXT: &str = "the input is text, and a tap is 8 bytes here; ./fir sheet takes text\n";
+const BYTES: &str =
+    "sheet: a tap is 8 bytes here; ./fir sheet takes text, and ./fir taps packs it\n";
+const ZERO: &str = "sheet: every coefficient is 0; \
+    a tap is 8 bytes here; ./fir sheet takes text, and ./fir taps packs it\n";
+const TEXT: &str = "the input is text, and \
+    a tap is 8 bytes here; ./fir sheet takes text, and ./fir taps packs it\n";
 
 fn run_input(clone: &Clone, input: &Input) -> Ended {
     let mut command = clone.command("sheet");
@@ -163,7 +165,7 @@ fn unreadable() {
         );
         assert!(ended
             .errors
-            .ends_with("sheet: the input could not be read\n"));
+            .ends_with("sheet: the input could not be read, or there is no room for it\n"));
     }
     let mut command = clone.command("sheet");
     command.env("TMPDIR", "/no/such/folder");
