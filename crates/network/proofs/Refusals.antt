@@ -35,6 +35,11 @@ tables-fit short rows taps m from to e =
     let t = neither (ltb (length rows) rowTable) (ltb (length taps) tapTable) (s .0) in
     record { taps-from = from; taps-to = to; rows-long = ltb-false _ _ (t .0); taps-long = ltb-false _ _ (t .1); others-long = s .1 }
 
+-- an answer whose outcome is a refusal is that refusal
+pub outcome-refused : (a : Answer (List ℤ)) (number place : ℕ) → refused number place ≡ outcome a → a ≡ refused number place
+outcome-refused (given h) number place e = absurd (let z : _≡_ {A = ℕ} 0 1 = cc in omega arith)
+outcome-refused (refused n p) number place e = cc
+
 module _ (net : Network) (from : 1 ≤ length (net .rows)) (to : length (net .rows) ≤ 4096) where
   keeps : (i : ℕ) → i < length (net .rows) → breaksRowRule (net .rows) (getD (numbers (length (net .rows))) i 0) ≡ false → RowRule (net .rows) i
   keeps i l e = row-rule (net .rows) i (not-false _ (ap (breaksRowRule (net .rows)) (sym (number-at (length (net .rows)) i l)) ∙ e))
@@ -109,8 +114,4 @@ module _ (short : Bool) (rows : List ℕ) (n : ℕ) (taps : List ℕ) (m number 
 
   -- where an entry returns no more than the outcome
   pub outcome-refusals : refused number place ≡ outcome (networkAnswer short rows n taps m) → Meant
-  outcome-refusals e = network-refusals (same (networkAnswer short rows n taps m) e)
-    where
-      same : (a : Answer (List ℤ)) → refused number place ≡ outcome a → a ≡ refused number place
-      same (given h) e = absurd (let z : _≡_ {A = ℕ} 0 1 = cc in omega arith)
-      same (refused n p) e = cc
+  outcome-refusals e = network-refusals (outcome-refused (networkAnswer short rows n taps m) number place e)

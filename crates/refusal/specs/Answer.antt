@@ -20,6 +20,11 @@ abbrev pub refuseIf : {A : Type 0} → Bool → ℕ → Answer A → Answer A
 refuseIf true number rest = refused number 0
 refuseIf false number rest = rest
 
+-- what comes after an answer that is given; a refusal stays
+abbrev pub andThen : {A B : Type 0} → Answer A → (A → Answer B) → Answer B
+andThen (given a) next = next a
+andThen (refused number place) next = refused number place
+
 -- where a rule is broken, if it is
 pub data Place : Type 0 where
   nowhere : Place

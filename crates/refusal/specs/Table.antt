@@ -1,7 +1,7 @@
--- Document 01, "Turned down": the number and the place that each case of `Refusal` stands for. Definitions only.
+-- Document 01, "Turned down", and document 02, request 1: the number and the place that each case of `Refusal` stands for. Definitions only.
 use Prim.Native.Nat.{ℕ}
 use Rattle.refusal.specs.declared.Refusal.{Refusal}
-use Rattle.refusal.specs.declared.Refusal.the-variants.{NoTaps, TooManyTaps, ShortTable, FractionBits, TapNotFinite, NotNormalisable, OutOfBounds, MasksOverlap, NoSuchForm, RowRule, TapRowRule, CutTap}
+use Rattle.refusal.specs.declared.Refusal.the-variants.{NoTaps, TooManyTaps, ShortTable, FractionBits, TapNotFinite, NotNormalisable, OutOfBounds, MasksOverlap, NoSuchForm, RowRule, TapRowRule, CutTap, TextTooLong}
 
 -- the column "Returned", its number
 abbrev pub numberOf : Refusal → ℕ
@@ -17,6 +17,7 @@ numberOf (NoSuchForm tap) = 9
 numberOf (RowRule row) = 10
 numberOf (TapRowRule tap) = 11
 numberOf CutTap = 12
+numberOf TextTooLong = 13
 
 -- the column "Returned", its place
 abbrev pub placeOf : Refusal → ℕ
@@ -32,3 +33,4 @@ placeOf (NoSuchForm tap) = tap
 placeOf (RowRule row) = row
 placeOf (TapRowRule tap) = tap
 placeOf CutTap = 0
+placeOf TextTooLong = 0

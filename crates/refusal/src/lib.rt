@@ -1,4 +1,5 @@
-// Why an entry turned its input down: one case for each number of document 01's table "Turned down".
+// Why an entry turned its input down: one case for each number of document 01's table "Turned down", and of those
+// that document 02 adds.
 ghost use mathlib.Core.Path.{_≡_};
 ghost use Rattle.refusal.specs.Table.{numberOf, placeOf};
 
@@ -16,6 +17,7 @@ pub enum Refusal {
     RowRule(u32),
     TapRowRule(u32),
     CutTap,
+    TextTooLong,
 }
 
 // The table's number.
@@ -35,6 +37,7 @@ pub fn number(refusal: Refusal) -> u32
         Refusal::RowRule(_) => 10,
         Refusal::TapRowRule(_) => 11,
         Refusal::CutTap => 12,
+        Refusal::TextTooLong => 13,
     }
 }
 
@@ -55,5 +58,6 @@ pub fn place(refusal: Refusal) -> u32
         Refusal::RowRule(row) => row,
         Refusal::TapRowRule(tap) => tap,
         Refusal::CutTap => 0,
+        Refusal::TextTooLong => 0,
     }
 }

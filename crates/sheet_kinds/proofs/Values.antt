@@ -10,7 +10,8 @@ use Rattle.network.specs.declared.Row.{Row}
 use Rattle.network.specs.declared.TapRow.{TapRow}
 use Rattle.network.specs.Rows.{rowAt, rowsOf, tapRowsOf, networkOf, noTap}
 use Rattle.network.specs.Coefficients.{coefficientOf}
-use Rattle.sheet_lines.specs.Lines.{header, nodeLine, tapLine, totalLine, linesFrom}
+use Rattle.text.specs.Lines.{linesFrom}
+use Rattle.sheet_lines.specs.Lines.{header, nodeLine, tapLine, totalLine}
 use Rattle.sheet_taps.specs.Inner.{tapLineOf}
 use Rattle.sheet_kinds.specs.Text.{tapLineIn, networkText}
 use Rattle.sheet_kinds.specs.Inner.{NetworkIn}

@@ -6,7 +6,8 @@ use Rattle.network.specs.declared.Row.{Row}
 use Rattle.network.specs.declared.TapRow.{TapRow}
 use Rattle.network.specs.Rows.{Network}
 use Rattle.network.specs.Coefficients.{coefficientOf}
-use Rattle.sheet_lines.specs.Lines.{header, nodeLine, tapLine, totalLine, refusedLine, linesFrom}
+use Rattle.text.specs.Lines.{linesFrom}
+use Rattle.sheet_lines.specs.Lines.{header, nodeLine, tapLine, totalLine, refusedLine}
 
 -- a tap's line: its value is the coefficient that its row, shift and sign give
 abbrev pub tapLineIn : List Row → ℕ → TapRow → List ℕ

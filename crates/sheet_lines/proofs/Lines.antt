@@ -1,15 +1,10 @@
 -- The lines, as the writers make them. Assumes nothing.
 use borrow.Author.Tests.{eq-eqb, ne-eqb}
-use mathlib.Core.Path.{_≡_, refl, sym, ap, _∙_}
-use mathlib.Core.List.{List, [], _∷_, _++_, append-assoc, append-nil}
+use mathlib.Core.Path.{_≡_, refl}
+use mathlib.Core.List.{List, [], _∷_, _++_, append-assoc}
 use Prim.Native.Nat.{ℕ, zero, suc, _+_}
-use native.Mathlib.Omega.{arith}
-use native.Mathlib.Numerals.{add-one}
 use lib.IntN.{ℤ}
-use lib.ListN.{length}
 use lib.Seq.{append-snoc}
-use Rattle.sequence.specs.UpTo.{upTo}
-use Rattle.sequence.proofs.UpTo.{length-upTo}
 use Rattle.network.specs.declared.Row.{Row}
 use Rattle.network.specs.declared.TapRow.{TapRow}
 use Rattle.network.specs.Rows.{none}
@@ -17,7 +12,7 @@ use Rattle.text.specs.Ascii.{ascii}
 use Rattle.text.specs.Numbers.{decimalBy, decimal, integer}
 use Rattle.text.specs.Inner.{Put}
 use Rattle.text.proofs.Puts.{then}
-use Rattle.sheet_lines.specs.Lines.{line, columns, nodeLine, laterLine, tapLine, emptyTapLine, productLine, totalLine, refusedLine, linesFrom}
+use Rattle.sheet_lines.specs.Lines.{line, columns, nodeLine, laterLine, tapLine, emptyTapLine, productLine, totalLine, refusedLine}
 use Rattle.sheet_lines.specs.Inner.{toSign, toValue, afterValue}
 
 -- ---- parts of a line
@@ -77,25 +72,3 @@ total-parts total = refl
 pub refused-parts : (number place : ℕ) → refusedLine number place ≡ ascii "refused," ++ toValue number (decimal place ++ afterValue)
 unfolding refusedLine columns line
 refused-parts number place = refl
-
--- ---- lines by number
-module _ {A : Type 0} (lineOf : ℕ → A → List ℕ) where
-  lines-more : (i : ℕ) (xs : List A) (x : A) → linesFrom lineOf i (xs ++ (x ∷ [])) ≡ linesFrom lineOf i xs ++ lineOf (i + length xs) x
-  unfolding linesFrom
-  lines-more i [] x = let e : i + 0 ≡ i = omega arith in rw e (append-nil (lineOf i x))
-  lines-more i (y ∷ xs) x =
-      let e : suc i + length xs ≡ i + suc (length xs) = omega arith in
-      ap (λ (l : List ℕ). lineOf i y ++ l) (lines-more (suc i) xs x ∙ ap (λ (k : ℕ). linesFrom lineOf (suc i) xs ++ lineOf k x) e)
-      ∙ sym (append-assoc (lineOf i y) (linesFrom lineOf (suc i) xs) (lineOf (i + suc (length xs)) x))
-
-  -- one line more
-  pub lines-next : (f : ℕ → A) (n : ℕ) → linesFrom lineOf 0 (upTo (n + 1) f) ≡ linesFrom lineOf 0 (upTo n f) ++ lineOf n (f n)
-  unfolding upTo
-  lines-next f n =
-      let e : 0 + length (upTo n f) ≡ n = omega (arith, length-upTo n f) in
-      ap (λ (k : ℕ). linesFrom lineOf 0 (upTo k f)) (add-one n) ∙ lines-more 0 (upTo n f) (f n) ∙ ap (λ (k : ℕ). linesFrom lineOf 0 (upTo n f) ++ lineOf k (f n)) e
-
--- before the first line
-pub nothing-put : {A : Type 0} (lineOf : ℕ → A → List ℕ) (f : ℕ → A) (l : List ℕ) (at : ℕ) → Put l at (linesFrom lineOf 0 (upTo 0 f)) 0 l at
-unfolding upTo linesFrom
-nothing-put lineOf f l at = record { next = omega arith; text = refl; within = omega arith }

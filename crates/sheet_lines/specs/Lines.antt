@@ -58,8 +58,3 @@ totalLine total = columns (ascii "total") (decimal total) empty empty empty empt
 -- "`refused,N,,,,,P`", "N the refusal number and P the place"
 unfoldable pub refusedLine : ℕ → ℕ → List ℕ
 refusedLine number place = columns (ascii "refused") (decimal number) empty empty empty empty (decimal place)
-
--- the lines of a list, "each by number", the first number being i
-unfoldable pub linesFrom : {A : Type 0} → (ℕ → A → List ℕ) → ℕ → List A → List ℕ
-linesFrom lineOf i [] = []
-linesFrom lineOf i (x ∷ xs) = lineOf i x ++ linesFrom lineOf (suc i) xs

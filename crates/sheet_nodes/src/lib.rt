@@ -2,8 +2,9 @@
 ghost use Prim.Native.Nat.{_+_, _*_, _≤_, _<_};
 ghost use lib.ListN.{length};
 ghost use Rattle.network.specs.Rows.{rowsOf};
+ghost use Rattle.text.specs.Lines.{linesFrom};
 ghost use Rattle.text.specs.Inner.{Put};
-ghost use Rattle.sheet_lines.specs.Lines.{laterLine, nodeLine, linesFrom};
+ghost use Rattle.sheet_lines.specs.Lines.{laterLine, nodeLine};
 ghost use Rattle.sheet_lines.specs.Inner.{nodeLineBytes};
 ghost use Rattle.sheet_nodes.specs.Inner.{RowsIn};
 use network::Row;

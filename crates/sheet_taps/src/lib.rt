@@ -2,8 +2,9 @@
 ghost use Prim.Native.Nat.{_+_, _*_, _≤_, _<_};
 ghost use lib.ListN.{length};
 ghost use Rattle.network.specs.Rows.{tapRowsOf};
+ghost use Rattle.text.specs.Lines.{linesFrom};
 ghost use Rattle.text.specs.Inner.{Put};
-ghost use Rattle.sheet_lines.specs.Lines.{emptyTapLine, productLine, tapLine, linesFrom};
+ghost use Rattle.sheet_lines.specs.Lines.{emptyTapLine, productLine, tapLine};
 ghost use Rattle.sheet_lines.specs.Inner.{tapLineBytes};
 ghost use Rattle.sheet_taps.specs.Inner.{TapsIn, tapLineOf};
 use network::TapRow;

@@ -15,7 +15,8 @@ use Rattle.build_steps.specs.TapRows.{tapRowOf, built}
 use Rattle.tap.specs.Rounding.{halfOf, toNearest, nearestWhole, leftover, split, sizeOf, outside, resultOf}
 use Rattle.tap_set.specs.Set.{largerOf, reported, reportFrom, bounded, roundedTaps}
 use Rattle.text.specs.Numbers.{decimalBy, decimal, integer}
-use Rattle.sheet_lines.specs.Lines.{line, columns, header, nodeLine, tapLine, totalLine, linesFrom}
+use Rattle.text.specs.Lines.{linesFrom}
+use Rattle.sheet_lines.specs.Lines.{line, columns, header, nodeLine, tapLine, totalLine}
 use Rattle.sheet_kinds.specs.Text.{networkText}
 use Rattle.sheet_input.specs.Taps.{lowFirst, tapAt}
 use Rattle.sheet_input.specs.Input.{inputAnswer}

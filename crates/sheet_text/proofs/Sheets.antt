@@ -8,7 +8,7 @@ use lib.Ieee.{Float}
 use lib.ListN.{length, take, drop, length-map}
 use lib.Seq.{sets-eq, length-sets, length-take-le, take-at}
 use lib.IntN.{ℤ}
-use Rattle.refusal.specs.Answer.{Answer, given, refused, filled}
+use Rattle.refusal.specs.Answer.{Answer, given, refused, andThen, filled}
 use Rattle.sequence.specs.UpTo.{upTo}
 use Rattle.sequence.specs.Inner.{front}
 use Rattle.sequence.proofs.UpTo.{length-upTo}
@@ -22,7 +22,7 @@ use Rattle.sheet_kinds.specs.Text.{networkText, refusedText}
 use Rattle.sheet_input.specs.Argument.{Argument}
 use Rattle.sheet_input.specs.Taps.{tapsOf}
 use Rattle.sheet_input.specs.Input.{inputAnswer}
-use Rattle.sheet_text.specs.Sheet.{andThen, choices, tapsAnswer, textOf, sheetOf, sheetAnswer, SheetWritten}
+use Rattle.sheet_text.specs.Sheet.{choices, tapsAnswer, textOf, sheetOf, sheetAnswer, SheetWritten}
 
 module _ (F : ℕ) (taps : List Float) where
   abbrev after : Report → Answer Network

@@ -5,7 +5,7 @@ use mathlib.Core.List.{List, _++_}
 use Prim.Native.Nat.{ℕ, _≤_}
 use lib.Ieee.{Float}
 use lib.ListN.{length, take, drop, replicate}
-use Rattle.refusal.specs.Answer.{Answer, given, refused}
+use Rattle.refusal.specs.Answer.{Answer, given, refused, andThen}
 use Rattle.tap_set.specs.declared.Report.{Report}
 use Rattle.tap_set.specs.Set.{roundedTaps, coefficientsOf}
 use Rattle.network.specs.Rows.{Network}
@@ -14,11 +14,6 @@ use Rattle.sheet_kinds.specs.Text.{networkText, refusedText}
 use Rattle.sheet_input.specs.Argument.{Argument}
 use Rattle.sheet_input.specs.Taps.{tapsOf}
 use Rattle.sheet_input.specs.Input.{inputAnswer}
-
--- what comes after an answer that is given; a refusal stays
-abbrev pub andThen : {A B : Type 0} → Answer A → (A → Answer B) → Answer B
-andThen (given a) next = next a
-andThen (refused number place) next = refused number place
 
 -- "all choices 0": one for each of 256 taps, the most that there are
 unfoldable pub choices : List ℕ

@@ -1,14 +1,13 @@
--- The digits that `io::decimal` makes are the fewest that hold the number. Assumes nothing.
+-- The decimal digits of a number, from the last one on, and how many there are. Assumes nothing.
 use borrow.Author.Tests.{lt-ltb, le-ltb}
-use mathlib.Core.Path.{_≡_, ap, _∙_}
-use mathlib.Core.List.{[], _∷_, _++_}
+use mathlib.Core.Path.{_≡_, refl, ap, _∙_}
+use mathlib.Core.List.{List, [], _∷_, _++_}
 use mathlib.Core.Logic.{⊎-elim}
 use Prim.Native.Nat.{ℕ, zero, suc, _+_, _-_, _*_, _/_, _%_, _^_, _≤_, _<_}
 use native.Mathlib.Omega.{arith}
 use native.Mathlib.Numerals.{unary-clauses}
 use lib.ListN.{length, length-append}
 use Rattle.word.proofs.Order.{lt-or-le}
-use Rattle.io.specs.Digits.{digits, Fewest, glyph}
 use Rattle.text.specs.Numbers.{decimalBy, decimal}
 
 pub pow-suc : (k : ℕ) → 10 ^ suc k ≡ 10 ^ k * 10
@@ -18,33 +17,58 @@ pub ten-pos : (k : ℕ) → 1 ≤ 10 ^ k
 ten-pos zero = omega arith
 ten-pos (suc k) = omega (arith, ten-pos k, pow-suc k)
 
-glyph-digit : (n : ℕ) → glyph (n % 10) ≡ 48 + n % 10
-glyph-digit n = rw (lt-ltb (n % 10) 10 (omega arith))
+-- ---- the digits before the last one
 
-pub digits-decimalBy : (f k n : ℕ) → n ≤ f → 1 ≤ k → n < 10 ^ k → (1 < k → 10 ^ (k - 1) ≤ n) → digits 10 k n ≡ decimalBy f n
+-- more divisions than enough change nothing
+decimalBy-any : (f g n : ℕ) → n ≤ f → n ≤ g → decimalBy f n ≡ decimalBy g n
 unfolding decimalBy
-digits-decimalBy f zero n hf h1 hk hl = absurd (omega arith)
-digits-decimalBy zero (suc zero) n hf h1 hk hl =
-    let z : n ≡ 0 = omega arith in rw z
-digits-decimalBy (suc f) (suc zero) n hf h1 hk hl =
-    let e : n % 10 ≡ n = omega arith in
-    rw (lt-ltb n 10 (omega arith)) (ap (λ x. x ∷ []) (glyph-digit n ∙ ap (λ x. 48 + x) e))
-digits-decimalBy zero (suc (suc k)) n hf h1 hk hl =
-    let e : suc (suc k) - 1 ≡ suc k = omega arith in
-    let g : 10 ^ suc k ≤ n = rw e at (hl (omega arith)) in
-    absurd (omega (arith, ten-pos (suc k)))
-digits-decimalBy (suc f) (suc (suc k)) n hf h1 hk hl =
-    let e : suc (suc k) - 1 ≡ suc k = omega arith in
-    let g : 10 ^ suc k ≤ n = rw e at (hl (omega arith)) in
-    let t : 10 ≤ n = omega (arith, ten-pos k, pow-suc k) in
-    rw (le-ltb n 10 t, glyph-digit n)
-    (ap (λ x. x ++ ((48 + n % 10) ∷ []))
-    (digits-decimalBy f (suc k) (n / 10) (omega arith) (omega arith) (omega (arith, pow-suc (suc k))) (λ h.
-    let d : suc k - 1 ≡ k = omega arith in rw d (omega (arith, pow-suc k)))))
+decimalBy-any zero zero n hf hg = refl
+decimalBy-any zero (suc g) n hf hg = rw (lt-ltb n 10 (omega arith))
+decimalBy-any (suc f) zero n hf hg = rw (lt-ltb n 10 (omega arith))
+decimalBy-any (suc f) (suc g) n hf hg =
+    ⊎-elim (λ a. rw (lt-ltb n 10 a))
+    (λ a. rw (le-ltb n 10 a) (ap (λ (l : List ℕ). l ++ ((48 + n % 10) ∷ [])) (decimalBy-any f g (n / 10) (omega arith) (omega arith))))
+    (lt-or-le n 10)
 
-pub digits-decimal : (k n : ℕ) → Fewest 10 1 n k → digits 10 k n ≡ decimal n
-unfolding decimal
-digits-decimal k n h = digits-decimalBy n k n (omega arith) (h .0) (h .1) (h .2)
+pub decimal-one : (n : ℕ) → n < 10 → decimal n ≡ (48 + n) ∷ []
+unfolding decimal decimalBy
+decimal-one zero h = refl
+decimal-one (suc n) h = rw (lt-ltb (suc n) 10 h)
+
+pub decimal-more : (n : ℕ) → 10 ≤ n → decimal n ≡ decimal (n / 10) ++ ((48 + n % 10) ∷ [])
+unfolding decimal decimalBy
+decimal-more zero h = absurd (omega arith)
+decimal-more (suc n) h = rw (le-ltb (suc n) 10 h) (ap (λ (l : List ℕ). l ++ ((48 + suc n % 10) ∷ [])) (decimalBy-any n (suc n / 10) (suc n / 10) (omega arith) (omega arith)))
+
+-- ---- how many there are
+
+pub digits-one : (n : ℕ) → n < 10 → length (decimal n) ≡ 1
+digits-one n h = ap length (decimal-one n h)
+
+pub digits-more : (n : ℕ) → 10 ≤ n → length (decimal n) ≡ suc (length (decimal (n / 10)))
+digits-more n h = ap length (decimal-more n h) ∙ length-append (decimal (n / 10)) ((48 + n % 10) ∷ []) ∙ omega arith
+
+pub digits-two : (n : ℕ) → 10 ≤ n → n < 100 → length (decimal n) ≡ 2
+digits-two n h k = omega (arith, digits-more n h, digits-one (n / 10) (omega arith))
+
+pub digits-three : (n : ℕ) → 100 ≤ n → n < 1000 → length (decimal n) ≡ 3
+digits-three n h k = omega (arith, digits-more n (omega arith), digits-two (n / 10) (omega arith) (omega arith))
+
+pub digits-four : (n : ℕ) → 1000 ≤ n → n < 10000 → length (decimal n) ≡ 4
+digits-four n h k = omega (arith, digits-more n (omega arith), digits-three (n / 10) (omega arith) (omega arith))
+
+-- four digits, and those before them
+pub digits-past-four : (n : ℕ) → 10000 ≤ n → length (decimal n) ≡ 4 + length (decimal (n / 10000))
+digits-past-four n h =
+    let e : n / 10 / 10 / 10 / 10 ≡ n / 10000 = omega arith in
+    let d = ap (λ (k : ℕ). length (decimal k)) e in
+    omega (
+      arith,
+      digits-more n (omega arith),
+      digits-more (n / 10) (omega arith),
+      digits-more (n / 10 / 10) (omega arith),
+      digits-more (n / 10 / 10 / 10) (omega arith),
+    )
 
 -- a number below 10^k has at most k digits
 decimalBy-le : (f k n : ℕ) → n ≤ f → 1 ≤ k → n < 10 ^ k → length (decimalBy f n) ≤ k

@@ -1,4 +1,5 @@
 pub mod Puts
+pub mod Lines
 pub mod Decimals
 pub mod Integers
 pub mod Readback

@@ -1,12 +1,12 @@
 -- Runs of stores, one after the other, and what is written after what. Assumes nothing.
-use mathlib.Core.Path.{_≡_, sym, ap, _∙_}
+use mathlib.Core.Path.{_≡_, sym, ap, subst, _∙_}
 use mathlib.Core.List.{List, [], _∷_, _++_}
 use Prim.Native.Nat.{ℕ, suc, _+_, _≤_, _<_}
 use native.Mathlib.Numerals.{add-one}
 use native.Mathlib.Omega.{arith}
 use lib.ListN.{length, take, getD, set, length-append}
 use lib.Seq.{sets, take-suc, length-take-le}
-use Rattle.text.specs.Inner.{Put}
+use Rattle.text.specs.Inner.{Put, PutAll}
 
 -- a run after a run is the run of both
 pub sets-append : (a b l : List ℕ) (i : ℕ) → sets (sets l i a) (i + length a) b ≡ sets l i (a ++ b)
@@ -34,3 +34,11 @@ then {l} {e} {f} {at} {r} {s} {m} {n} {a} {b} p q =
 -- a wider bound
 pub widen : {l e : List ℕ} {at r m n : ℕ} {a : List ℕ} → m ≤ n → Put l at a m e r → Put l at a n e r
 widen h p = record { next = p .next; text = p .text; within = omega (arith, p .within) }
+
+-- ---- where there is room for just the bytes
+pub then-all : {l e f : List ℕ} {at r s : ℕ} {a b : List ℕ} → PutAll l at a e r → PutAll e r b f s → PutAll l at (a ++ b) f s
+then-all {a = a} {b = b} p q = widen (omega (arith, length-append a b)) (then p q)
+
+-- the same bytes, written otherwise
+pub put-as : {l e : List ℕ} {at r : ℕ} {a b : List ℕ} → b ≡ a → PutAll l at a e r → PutAll l at b e r
+put-as {l} {e} {at} {r} h p = subst (λ (t : List ℕ). PutAll l at t e r) (sym h) p

@@ -1,4 +1,5 @@
 pub mod Ascii
 pub mod Numbers
+pub mod Lines
 pub mod Claims
 pub mod Inner

@@ -1,10 +1,11 @@
 // A writer of text into a lent area: each function puts some bytes at index `at`, and answers the index
 // past them.
+ghost use mathlib.Core.Path.{_≡_};
 ghost use mathlib.Core.List.{_∷_, []};
 ghost use Prim.Native.Nat.{_+_, _≤_};
 ghost use lib.ListN.{length};
 ghost use Rattle.text.specs.Numbers.{decimal, integer};
-ghost use Rattle.text.specs.Inner.{Put, numberBytes, integerBytes};
+ghost use Rattle.text.specs.Inner.{Put, PutAll, numberBytes, integerBytes};
 
 pub fn put(out: &mut [u8], at: usize, text: &[u8]) -> usize
     requires { ⌜ at + length (now text) ≤ length (now out) ⌝ }
@@ -26,14 +27,43 @@ pub fn put_byte(out: &mut [u8], at: usize, b: u8) -> usize
     at + 1
 }
 
+// The number of decimal digits that n has.
+pub fn digits(n: u32) -> usize
+    ensures { λ r. ⌜ (r ≡ length (decimal n)) × (r ≤ numberBytes) ⌝ }
+{
+    if n < 10 {
+        return 1;
+    }
+    if n < 100 {
+        return 2;
+    }
+    if n < 1000 {
+        return 3;
+    }
+    if n < 10000 {
+        return 4;
+    }
+    4 + digits(n / 10000)
+}
+
+// n in decimal, where there may be room for just its digits.
+pub fn put_decimal(out: &mut [u8], at: usize, n: u32) -> usize
+    requires { ⌜ at + length (decimal n) ≤ length (now out) ⌝ }
+    ensures { λ r. ⌜ PutAll (now (out .entry)) at (decimal n) (now (out .exit)) r ⌝ }
+{
+    if n < 10 {
+        return put_byte(out, at, b'0' + n as u8);
+    }
+    let a = put_decimal(out, at, n / 10);
+    put_byte(out, a, b'0' + (n % 10) as u8)
+}
+
 // n in decimal.
 pub fn put_number(out: &mut [u8], at: usize, n: u32) -> usize
     requires { ⌜ at + numberBytes ≤ length (now out) ⌝ }
     ensures { λ r. ⌜ Put (now (out .entry)) at (decimal n) numberBytes (now (out .exit)) r ⌝ }
 {
-    let mut text = [0u8; 20];
-    let k = io::decimal(n as u64, &mut text);
-    put(out, at, &text[..k])
+    put_decimal(out, at, n)
 }
 
 // n in decimal, after `-` where it is negative.

@@ -9,9 +9,10 @@ use Rattle.network.specs.declared.Row.{Row}
 use Rattle.network.specs.Rows.{rowAt, rowsOf}
 use Rattle.text.proofs.Puts.{then, widen}
 use Rattle.text.specs.Inner.{Put}
-use Rattle.sheet_lines.specs.Lines.{nodeLine, linesFrom}
+use Rattle.text.specs.Lines.{linesFrom}
+use Rattle.sheet_lines.specs.Lines.{nodeLine}
 use Rattle.sheet_lines.specs.Inner.{nodeLineBytes}
-use Rattle.sheet_lines.proofs.Lines.{lines-next, nothing-put}
+use Rattle.text.proofs.Lines.{lines-next, nothing-put}
 use Rattle.sheet_nodes.proofs.node_lines.Statement.{statement}
 use Rattle.sheet_nodes.proofs.node_lines.Tie as tie
 

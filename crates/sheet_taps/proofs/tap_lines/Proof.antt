@@ -13,9 +13,10 @@ use Rattle.network.specs.declared.TapRow.{TapRow}
 use Rattle.text.proofs.Puts.{then, widen}
 use Rattle.text.specs.Inner.{Put}
 use Rattle.sheet_taps.specs.Inner.{tapLineOf}
-use Rattle.sheet_lines.specs.Lines.{tapLine, linesFrom}
+use Rattle.text.specs.Lines.{linesFrom}
+use Rattle.sheet_lines.specs.Lines.{tapLine}
 use Rattle.sheet_lines.specs.Inner.{tapLineBytes}
-use Rattle.sheet_lines.proofs.Lines.{lines-next, nothing-put}
+use Rattle.text.proofs.Lines.{lines-next, nothing-put}
 use Rattle.sheet_taps.proofs.tap_lines.Statement.{statement}
 use Rattle.sheet_taps.proofs.tap_lines.Tie as tie
 

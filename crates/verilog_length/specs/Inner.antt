@@ -1,0 +1,11 @@
+-- The most bytes of a line, for the contracts of those that count them. Definitions only.
+use Prim.Native.Nat.{ℕ, _+_, _*_}
+use Rattle.text.specs.Inner.{numberBytes}
+
+-- the assign of a row: 25 bytes beside four numbers
+abbrev pub rowLineBytes : ℕ
+rowLineBytes = 25 + 4 * numberBytes
+
+-- the assign of a tap: 22 bytes beside three numbers
+abbrev pub tapLineBytes : ℕ
+tapLineBytes = 22 + 3 * numberBytes

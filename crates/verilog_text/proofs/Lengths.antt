@@ -1,0 +1,100 @@
+-- How long the lines of a text are, and the text. Assumes nothing.
+use borrow.Author.Tests.{eq-eqb, ne-eqb}
+use mathlib.Core.Path.{_≡_, refl, ap, _∙_}
+use mathlib.Core.Bool.{Bool, true, false}
+use mathlib.Core.List.{List, _++_}
+use Prim.Native.Nat.{ℕ, zero, suc, _+_, _*_}
+use native.Mathlib.Omega.{arith}
+use lib.Dec.{eqb}
+use lib.ListN.{length, length-append}
+use Rattle.network.specs.declared.Row.{Row}
+use Rattle.network.specs.declared.TapRow.{TapRow}
+use Rattle.network.specs.Rows.{Network, plus, minus}
+use Rattle.text.specs.Ascii.{ascii}
+use Rattle.text.specs.Numbers.{decimal}
+use Rattle.text.specs.Lines.{linesFrom, numberedFrom}
+use Rattle.verilog_text.specs.Text.{port, moduleLine, wireLine, rowRight, laterLine, rowLine, tapRight, tapLine, verilogText}
+
+-- ---- the digits of a number, and of n numbers from i on
+abbrev pub digitsOf : ℕ → ℕ
+digitsOf n = length (decimal n)
+
+abbrev pub digitsFrom : ℕ → ℕ → ℕ
+digitsFrom i n = length (numberedFrom decimal i n)
+
+-- a text of so many bytes beside its number, for n numbers
+numbered-length : (textOf : ℕ → List ℕ) (beside : ℕ) → ((i : ℕ) → length (textOf i) ≡ beside + digitsOf i)
+    → (i n : ℕ) → length (numberedFrom textOf i n) ≡ beside * n + digitsFrom i n
+unfolding numberedFrom
+numbered-length textOf beside each i zero = omega arith
+numbered-length textOf beside each i (suc n) =
+    let a = length-append (textOf i) (numberedFrom textOf (suc i) n) in
+    let b = length-append (decimal i) (numberedFrom decimal (suc i) n) in
+    let c : beside * suc n ≡ beside + beside * n = omega arith in
+    omega (arith, each i, numbered-length textOf beside each (suc i) n)
+
+port-length : (k : ℕ) → length (port k) ≡ 24 + digitsOf k
+port-length k = omega arith
+
+wire-length : (i : ℕ) → length (wireLine i) ≡ 22 + digitsOf i
+wire-length i = simp length-append (omega arith)
+
+pub ports-length : (m : ℕ) → length (numberedFrom port 0 m) ≡ 24 * m + digitsFrom 0 m
+ports-length m = numbered-length port 24 port-length 0 m
+
+pub wires-length : (n : ℕ) → length (numberedFrom wireLine 0 n) ≡ 22 * n + digitsFrom 0 n
+wires-length n = numbered-length wireLine 22 wire-length 0 n
+
+-- ---- rows: of all signs as long
+row-right : (r : Row) (p q : Bool) → length (rowRight p q r) ≡ 12 + digitsOf (r .left) + digitsOf (r .shift) + digitsOf (r .right)
+row-right r true q = simp length-append (omega arith)
+row-right r false true = simp length-append (omega arith)
+row-right r false false = simp length-append (omega arith)
+
+pub later-length : (i : ℕ) (r : Row) → length (laterLine i r) ≡ 25 + digitsOf i + digitsOf (r .left) + digitsOf (r .shift) + digitsOf (r .right)
+later-length i r = simp length-append (omega (arith, row-right r (eqb (r .sign) plus) (eqb (r .sign) minus)))
+
+pub row-later : (i : ℕ) (r : Row) → (i ≡ 0 → ⊥) → rowLine i r ≡ laterLine i r
+row-later zero r h = absurd (h refl)
+row-later (suc i) r h = refl
+
+-- ---- taps, by their signs
+tap-by : (k : ℕ) (t : TapRow) → length (tapLine k t) ≡ 13 + digitsOf k + length (tapRight (eqb (t .sign) plus) (eqb (t .sign) minus) t)
+tap-by k t = simp length-append (omega arith)
+
+pub tap-plus : (k : ℕ) (t : TapRow) → t .sign ≡ plus → length (tapLine k t) ≡ 19 + digitsOf k + digitsOf (t .row) + digitsOf (t .shift)
+tap-plus k t e = tap-by k t ∙ rw (eq-eqb (t .sign) plus e) (simp length-append (omega arith))
+
+pub tap-minus : (k : ℕ) (t : TapRow) → (t .sign ≡ plus → ⊥) → t .sign ≡ minus → length (tapLine k t) ≡ 22 + digitsOf k + digitsOf (t .row) + digitsOf (t .shift)
+tap-minus k t f e = tap-by k t ∙ rw (ne-eqb (t .sign) plus f, eq-eqb (t .sign) minus e) (simp length-append (omega arith))
+
+pub tap-none : (k : ℕ) (t : TapRow) → (t .sign ≡ plus → ⊥) → (t .sign ≡ minus → ⊥) → length (tapLine k t) ≡ 14 + digitsOf k
+tap-none k t f g = tap-by k t ∙ rw (ne-eqb (t .sign) plus f, ne-eqb (t .sign) minus g) (omega arith)
+
+-- ---- the text
+pub head-length : (m : ℕ) → length (moduleLine m) ≡ 40 + length (numberedFrom port 0 m)
+head-length m = simp length-append (omega arith)
+
+-- by its parts
+pub text-parts : (net : Network) → length (verilogText net)
+    ≡ length (moduleLine (length (net .taps)))
+    + (length (numberedFrom wireLine 0 (length (net .rows))) + (length (linesFrom rowLine 0 (net .rows)) + (length (linesFrom tapLine 0 (net .taps)) + 10)))
+unfolding verilogText
+text-parts net =
+    let m = length (net .taps) in
+    let n = length (net .rows) in
+    let taps = linesFrom tapLine 0 (net .taps) ++ ascii "endmodule\n" in
+    let rows = linesFrom rowLine 0 (net .rows) ++ taps in
+    omega (
+      arith,
+      length-append (moduleLine m) (numberedFrom wireLine 0 n ++ rows),
+      length-append (numberedFrom wireLine 0 n) rows,
+      length-append (linesFrom rowLine 0 (net .rows)) taps,
+      length-append (linesFrom tapLine 0 (net .taps)) (ascii "endmodule\n"),
+    )
+
+pub text-length : (net : Network) → length (verilogText net)
+    ≡ 50 + (24 * length (net .taps) + digitsFrom 0 (length (net .taps))) + (22 * length (net .rows) + digitsFrom 0 (length (net .rows)))
+    + length (linesFrom rowLine 0 (net .rows)) + length (linesFrom tapLine 0 (net .taps))
+text-length net =
+    omega (arith, text-parts net, head-length (length (net .taps)), ports-length (length (net .taps)), wires-length (length (net .rows)))
