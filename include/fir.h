@@ -23,7 +23,8 @@
  *   stack: fir_build           65408
  *   stack: fir_check            1216
  *   stack: fir_coefficients     1280
- *   stack: fir_run              7744 */
+ *   stack: fir_run              7744
+ *   stack: fir_verilog          1280 */
 #ifndef FIR_H
 #define FIR_H
 
@@ -35,9 +36,9 @@ extern "C" {
 #endif
 
 /* The first number changes where a program has to be compiled again. */
-#define FIR_VERSION "1.0"
+#define FIR_VERSION "1.1"
 #define FIR_VERSION_MAJOR 1
-#define FIR_VERSION_MINOR 0
+#define FIR_VERSION_MINOR 1
 
 /* A call answers one 64-bit number. Its upper half is the refusal number, 0 for none. Where nothing
  * else is said, the lower half is the place of the refusal, counted from 0, and 0 where the call is
@@ -57,7 +58,8 @@ enum fir_refusal_number {
     FIR_ROW_RULE = 10,        /* a row breaks the row rule; place: the row. No rows, or more than
                                  4096: place 0 */
     FIR_TAP_ROW_RULE = 11,    /* a tap row breaks the tap row rule; place: the tap */
-    FIR_CUT_TAP = 12          /* programs only: the input ends inside a tap; place 0 */
+    FIR_CUT_TAP = 12,         /* programs only: the input ends inside a tap; place 0 */
+    FIR_TEXT_TOO_LONG = 13    /* a text is longer than the lent area; place 0 */
 };
 
 static inline uint32_t fir_refusal(uint64_t answer) { return (uint32_t)(answer >> 32); }
@@ -75,6 +77,9 @@ enum {
     FIR_TAP_ROWS_LENGTH = FIR_MOST_TAPS * FIR_TAP_ROW_WORDS, /* 768 words */
     FIR_REGISTERS_LENGTH = 256
 };
+
+/* The most bytes of a network's Verilog text. */
+#define FIR_VERILOG_BYTES 276457
 
 /* One tap, given as the 64 bits of a binary64 number: the whole number N nearest to
  * tap * 2^fraction_bits, an exact half away from zero. The lower half of the answer is N's 32-bit
@@ -173,6 +178,16 @@ uint64_t fir_coefficients(const uint32_t *rows, size_t rows_length, size_t row_c
 uint64_t fir_run(const uint32_t *rows, size_t rows_length, size_t row_count, const uint32_t *taps,
                  size_t taps_length, size_t tap_count, const int16_t *samples, size_t sample_count,
                  uint64_t *registers, size_t register_count, int64_t *outputs, size_t output_count);
+
+/* Such a network as text of IEEE 1364-2005: one module, smoother, each line closed by LF. Its input x
+ * is the sample, signed and of 16 bits; its outputs t0, t1 and so on, one for each tap, are signed and
+ * of 64 bits, and each is the sample times the tap's coefficient. The text depends on the network alone
+ * and holds no byte of 0. It is written from the start of text[text_length], which is untouched past
+ * it, and *length is how many bytes it has, at most FIR_VERILOG_BYTES. Turned down with 1, 2, 3 (rows or
+ * taps are short), 10, 11 or 13 (the text has more than text_length bytes). */
+uint64_t fir_verilog(const uint32_t *rows, size_t rows_length, size_t row_count,
+                     const uint32_t *taps, size_t taps_length, size_t tap_count, uint8_t *text,
+                     size_t text_length, size_t *length);
 
 #ifdef __cplusplus
 }

@@ -12,3 +12,4 @@ REFUSAL(9, FIR_NO_SUCH_FORM, "the choice for tap %u is not below the number of f
 REFUSAL(10, FIR_ROW_RULE, "row %u breaks the row rule, or there are no rows or more than 4096")
 REFUSAL(11, FIR_TAP_ROW_RULE, "tap %u breaks the tap row rule")
 REFUSAL(12, FIR_CUT_TAP, "the input ends inside a tap of 8 bytes")
+REFUSAL(13, FIR_TEXT_TOO_LONG, "the text is longer than the area for it")
