@@ -43,7 +43,7 @@ int run_sheet(const struct arguments *arguments) {
     if (sscanf(text, "%*s refused,%u,,,,,%u", &number, &place) == 2) {
         status = turned_down(refused(number, place));
     } else if (!some_nonzero(text)) {
-        say("every coefficient is 0%s", has_option(arguments, "-b") ? "; with -b a tap is 8 bytes" : "");
+        say_all_zero(arguments);
     }
     free(text);
     return status;

@@ -24,3 +24,7 @@ int turned_down(uint64_t answer) {
     say("%s (refusal %u)", text, number);
     return TURNED_DOWN;
 }
+
+void say_all_zero(const struct arguments *arguments) {
+    say("every coefficient is 0%s", has_option(arguments, "-b") ? "; with -b a tap is 8 bytes" : "");
+}

@@ -24,6 +24,7 @@ int run_forms(const struct arguments *arguments);
 int run_round(const struct arguments *arguments);
 int run_sheet(const struct arguments *arguments);
 int run_taps(const struct arguments *arguments);
+int run_verilog(const struct arguments *arguments);
 
 /* Words on standard error, behind the command's name. */
 void say(const char *format, ...) __attribute__((format(printf, 1, 2)));
@@ -35,6 +36,9 @@ int failed(const char *format, ...) __attribute__((format(printf, 1, 2)));
 int turned_down(uint64_t answer);
 
 uint64_t refused(unsigned number, unsigned place);
+
+/* Says that every coefficient is 0, and what may be the reason. */
+void say_all_zero(const struct arguments *arguments);
 
 /* A tap from standard input: 1, or 0 at the end. FAILED where the input cannot be read, which is then
  * said; PIECE where 8-byte taps end inside one. */

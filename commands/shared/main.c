@@ -13,7 +13,8 @@ static const struct {
     const char *name;
     int (*run)(const struct arguments *arguments);
 } commands[] = {
-    {"draw", run_draw}, {"forms", run_forms}, {"round", run_round}, {"sheet", run_sheet}, {"taps", run_taps},
+    {"draw", run_draw},   {"forms", run_forms}, {"round", run_round},
+    {"sheet", run_sheet}, {"taps", run_taps},   {"verilog", run_verilog},
 };
 
 static const char *command = "";
