@@ -13,6 +13,7 @@ void names(void)
     number("FIR_TAP_ROW_WORDS", 3, FIR_TAP_ROW_WORDS);
     number("FIR_TAP_ROWS_LENGTH", 768, FIR_TAP_ROWS_LENGTH);
     number("FIR_REGISTERS_LENGTH", 256, FIR_REGISTERS_LENGTH);
+    number("FIR_VERILOG_BYTES", 276457, FIR_VERILOG_BYTES);
     number("the refusal of an answer", FIR_ROW_RULE, fir_refusal(both));
     number("its place", 4095, fir_place(both));
     number("the refusal of 2^64 - 1", UINT32_MAX, fir_refusal(UINT64_MAX));

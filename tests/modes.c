@@ -8,7 +8,7 @@
 
 #include "fir.h"
 
-enum { SETS = 300, SAMPLES = 40, CALLS = 11, FLUSH = 0x8040 };
+enum { SETS = 300, SAMPLES = 40, CALLS = 12, FLUSH = 0x8040 };
 
 static const int modes[] = {FE_TONEAREST, FE_DOWNWARD, FE_UPWARD, FE_TOWARDZERO};
 
@@ -23,6 +23,8 @@ struct results {
     int32_t coefficients[FIR_MOST_TAPS];
     uint64_t registers[FIR_REGISTERS_LENGTH];
     int64_t outputs[SAMPLES];
+    uint8_t text[FIR_VERILOG_BYTES];
+    size_t length;
 };
 
 struct set {
@@ -69,6 +71,8 @@ static void run(const struct set *set, struct results *r) {
                                      r->coefficients, FIR_MOST_TAPS);
     r->answers[3] = fir_run(r->rows, FIR_ROWS_LENGTH, r->row_count, r->taps, FIR_TAP_ROWS_LENGTH, count, set->samples,
                             SAMPLES, r->registers, FIR_REGISTERS_LENGTH, r->outputs, SAMPLES);
+    r->answers[11] = fir_verilog(r->rows, FIR_ROWS_LENGTH, r->row_count, r->taps, FIR_TAP_ROWS_LENGTH, count, r->text,
+                                 FIR_VERILOG_BYTES, &r->length);
     run_forms(set, r);
 }
 

@@ -95,6 +95,7 @@ int main(int count, char **arguments)
     try_forms();
     try_building();
     try_networks();
+    try_verilog();
     self_check();
     for (int i = 0; i < FUNCTIONS; i++)
         (count > 1 ? compare : print_line)(&entries[i]);

@@ -11,7 +11,8 @@ enum {
     TAP_TABLE = 3 * TAPS,
     FORMS = 1597,
     SAMPLES = 20000,
-    REGISTERS = 256
+    REGISTERS = 256,
+    TEXT = FIR_VERILOG_BYTES
 };
 
 /* All that any call is handed, and all that it leaves. */
@@ -22,6 +23,7 @@ struct lent {
     uint32_t plus, minus;
     size_t tap_count, coefficient_count, choice_count, row_count, sample_count;
     size_t rows_length, taps_length, plus_length, minus_length, register_count, output_count;
+    size_t text_length, length;
     double divisor, leftover;
     uint32_t negative, odd_part, shift, weight, count;
     int64_t value;
@@ -34,6 +36,7 @@ struct lent {
     int16_t samples[SAMPLES];
     uint64_t registers[REGISTERS];
     int64_t outputs[SAMPLES];
+    uint8_t text[TEXT];
 };
 
 extern struct lent lent;
@@ -52,6 +55,7 @@ enum function {
     CHECK,
     COEFFICIENTS,
     RUN,
+    VERILOG,
     FUNCTIONS
 };
 
@@ -91,6 +95,7 @@ void try_taps(void);
 void try_forms(void);
 void try_building(void);
 void try_networks(void);
+void try_verilog(void);
 
 /* Reads what fir.h states, and gives how much of it is wrong. */
 int read_header(const char *path);

@@ -78,6 +78,13 @@ static void run(void)
                           lent.registers, lent.register_count, lent.outputs, lent.output_count);
 }
 
+static void verilog(void)
+{
+    lent.answer = fir_verilog(lent.rows, lent.rows_length, lent.row_count, lent.tap_rows,
+                              lent.taps_length, lent.tap_count, lent.text, lent.text_length,
+                              &lent.length);
+}
+
 struct entry entries[FUNCTIONS] = {
     [ROUND_TAP] = {.name = "fir_round_tap", .call = round_tap},
     [ROUND_TAPS] = {.name = "fir_round_taps", .call = round_taps},
@@ -92,4 +99,5 @@ struct entry entries[FUNCTIONS] = {
     [CHECK] = {.name = "fir_check", .call = check},
     [COEFFICIENTS] = {.name = "fir_coefficients", .call = coefficients},
     [RUN] = {.name = "fir_run", .call = run},
+    [VERILOG] = {.name = "fir_verilog", .call = verilog},
 };

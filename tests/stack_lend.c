@@ -59,4 +59,5 @@ void lend(void)
     lent.sample_count = lent.output_count = SAMPLES;
     lent.register_count = REGISTERS;
     lent.plus_length = lent.minus_length = FORMS;
+    lent.text_length = TEXT;
 }

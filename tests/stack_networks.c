@@ -6,6 +6,7 @@ static void all(uint32_t refusal, const char *what)
     try_call(CHECK, refusal, what);
     try_call(COEFFICIENTS, refusal, what);
     try_call(RUN, refusal, what);
+    try_call(VERILOG, refusal, what);
 }
 
 static void lengths(void)
