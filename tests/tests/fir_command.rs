@@ -7,7 +7,7 @@ use std::fs::{read_dir, set_permissions, Permissions};
 use std::os::unix::fs::PermissionsExt;
 use std::process::Command;
 
-const COMMANDS: [&str; 5] = ["draw", "forms", "round", "sheet", "taps"];
+const COMMANDS: [&str; 6] = ["draw", "forms", "round", "sheet", "taps", "verilog"];
 
 fn text(ended: Ended) -> String {
     assert_eq!((ended.status, ended.errors.as_str()), (Some(0), ""));
@@ -61,6 +61,7 @@ fn usage() {
     let round = "usage: fir round F [-n] [-b] [FILE]";
     let draw = "usage: fir draw [--svg|--dot] [SHEET]";
     let forms = "usage: fir forms N";
+    let verilog = "usage: fir verilog F [-b] [FILE]";
     for (arguments, words) in [
         (&["nosuch"][..], format!("fir: {none} nosuch; {list}\n")),
         (&[""], format!("fir: {none} ; {list}\n")),
@@ -103,6 +104,22 @@ fn usage() {
         (
             &["forms", "1", "2"],
             said("forms", &["too many arguments", forms]),
+        ),
+        (
+            &["verilog"],
+            said("verilog", &["too few arguments", verilog]),
+        ),
+        (
+            &["verilog", "1", "2", "3"],
+            said("verilog", &["too many arguments", verilog]),
+        ),
+        (
+            &["verilog", "-n", "1"],
+            said("verilog", &["there is no option -n", verilog]),
+        ),
+        (
+            &["verilog", "1", "/no/such/file"],
+            said("verilog", &["cannot read /no/such/file"]),
         ),
     ] {
         let ended = clone.run(&[&["fir"], arguments].concat(), b"");
@@ -163,13 +180,14 @@ fn through(line: &str, bytes: &[u8]) -> Ended {
 }
 
 /// Each command, with what it reads.
-fn calls() -> [(&'static str, Vec<u8>); 7] {
+fn calls() -> [(&'static str, Vec<u8>); 8] {
     let sheet = printed(&["sheet", "0"], b"3 -6 45 0");
     [
         ("forms 45", vec![]),
         ("round 15", b"0.1".to_vec()),
         ("sheet 15", b"0.1".to_vec()),
         ("taps", b"0.1".to_vec()),
+        ("verilog 15", b"0.1".to_vec()),
         ("draw", sheet.clone()),
         ("draw --dot", sheet),
         ("help", vec![]),
@@ -202,7 +220,7 @@ fn output_that_cannot_be_written() {
 /// A closed standard input is an empty one.
 #[test]
 fn no_input() {
-    for words in ["round 15", "sheet 15"] {
+    for words in ["round 15", "sheet 15", "verilog 15"] {
         let ended = through(&format!("exec \"$0\" {words} <&-"), b"");
         assert_eq!(ended.status, Some(1), "{}", ended.errors);
         assert!(ended.errors.ends_with("there are no taps (refusal 1)\n"));

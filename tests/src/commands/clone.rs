@@ -75,7 +75,7 @@ impl Clone {
         for name in ["commands", "include"] {
             copy_folder(&program::root().join(name), &clone.path(name));
         }
-        let parts = "fir_taps: word\nfir_forms: word\nfir_networks: word\n";
+        let parts = "fir_taps: word\nfir_forms: word\nfir_networks: word\nfir_verilog: word\n";
         clone.write(
             "crates.txt",
             &format!("# kit: {KIT}\nword:\nsheet: word\n{parts}"),
