@@ -59,7 +59,7 @@ enum fir_refusal_number {
                                  4096: place 0 */
     FIR_TAP_ROW_RULE = 11,    /* a tap row breaks the tap row rule; place: the tap */
     FIR_CUT_TAP = 12,         /* programs only: the input ends inside a tap; place 0 */
-    FIR_TEXT_TOO_LONG = 13    /* a text is longer than the lent area; place 0 */
+    FIR_TEXT_TOO_LONG = 13    /* the text is longer than the lent area; place 0 */
 };
 
 static inline uint32_t fir_refusal(uint64_t answer) { return (uint32_t)(answer >> 32); }
