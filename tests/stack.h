@@ -90,6 +90,9 @@ void lend(void);
 /* The same with 256 coefficients of weight 16. */
 void lend_heaviest(void);
 
+/* Lends one row, with the value that its parts give. */
+void put_row(uint32_t i, uint32_t left, uint32_t right, uint32_t shift, uint32_t sign);
+
 /* The largest inputs, and one for each refusal. */
 void try_taps(void);
 void try_forms(void);

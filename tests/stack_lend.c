@@ -4,7 +4,7 @@
 
 #include <string.h>
 
-static void put_row(uint32_t i, uint32_t left, uint32_t right, uint32_t shift, uint32_t sign)
+void put_row(uint32_t i, uint32_t left, uint32_t right, uint32_t shift, uint32_t sign)
 {
     uint32_t *row = &lent.rows[5 * i];
     const uint32_t lifted = lent.rows[5 * left + 4] << shift, other = lent.rows[5 * right + 4];

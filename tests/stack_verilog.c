@@ -3,12 +3,6 @@
 
 #include <string.h>
 
-static void put_row(uint32_t i, uint32_t left, uint32_t right, uint32_t sign, uint32_t value)
-{
-    const uint32_t row[] = {left, right, 10, sign, value};
-    memcpy(&lent.rows[5 * i], row, sizeof row);
-}
-
 /* Rows of 1025 and 1 by turns, and 256 taps of -2^31: no network has a longer text. */
 static void lend_longest(void)
 {
@@ -16,9 +10,9 @@ static void lend_longest(void)
     lend();
     for (uint32_t i = 1; i < ROWS; i++) {
         if (i % 2 == 1)
-            put_row(i, i - 1, i - 1, '+', 1025);
+            put_row(i, i - 1, i - 1, 10, '+');
         else
-            put_row(i, i - 2, i - 1, 'r', 1);
+            put_row(i, i - 2, i - 1, 10, 'r');
     }
     for (uint32_t i = 0; i < TAPS; i++)
         memcpy(&lent.tap_rows[3 * i], tap_row, sizeof tap_row);
