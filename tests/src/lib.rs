@@ -11,3 +11,4 @@ pub mod random;
 pub mod running;
 pub mod sheet;
 pub mod taps;
+pub mod verilog;
