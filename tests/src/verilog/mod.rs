@@ -9,6 +9,7 @@ pub mod hard;
 pub mod literal;
 pub mod mixture;
 pub mod reader;
+pub mod tools;
 
 /// The bytes of the largest text, and of the smallest: row 0 alone and one empty tap.
 pub const MOST_BYTES: usize = 276_457;
