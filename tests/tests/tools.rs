@@ -10,7 +10,7 @@ fn tool(name: &str, argument: &str) -> Ended {
 
 #[test]
 fn help() {
-    for name in ["believed", "families"] {
+    for name in ["believed", "families", "verilog"] {
         let help = tool(name, "--help");
         assert_eq!((help.status, help.errors.as_str()), (Some(0), ""));
         let text = String::from_utf8(help.out).unwrap();
