@@ -30,4 +30,6 @@ fn main() {
         bench::running::REPETITIONS
     );
     bench::running::run();
+    println!("\nVerilog, each call into an area for the largest text");
+    bench::verilog::run();
 }

@@ -6,6 +6,7 @@ pub mod network;
 pub mod running;
 pub mod sweep;
 pub mod taps;
+pub mod verilog;
 
 use std::time::Instant;
 
