@@ -9,9 +9,10 @@ use fir_tests::verilog::hard::{ends_of_range, largest, smallest};
 use fir_tests::verilog::reader::{self, Module};
 use fir_tests::verilog::tools::icarus::{self, Inputs};
 use fir_tests::verilog::tools::{goes_without, verilator, yosys};
-use fir_tests::verilog::{core, examples, mixture, MOST_BYTES};
+use fir_tests::verilog::{core, examples, mixture, modules, MOST_BYTES};
 
 const SIMULATED_NETWORKS: usize = 200;
+const RANDOM_MODULES: usize = 150;
 const LINTED_NETWORKS: usize = 40;
 const READ_NETWORKS: usize = 40;
 
@@ -91,6 +92,30 @@ fn icarus_on_the_rules() {
         let outputs = icarus::outputs(&example.text, &module, &Inputs::These(&[example.x]));
         assert_eq!(outputs, [[example.value]], "{}", example.text);
     }
+}
+
+/// Icarus and the reader have the same values.
+#[test]
+fn icarus_on_random_modules() {
+    if goes_without(icarus::NAME) {
+        return;
+    }
+    let mut random = Random::new(63);
+    let inputs = [0, 1, -1, -3, i16::MIN, i16::MAX, 12345, -12345];
+    let [mut zeros, mut others] = [0; 2];
+    for _ in 0..RANDOM_MODULES {
+        let text = modules::module(&mut random);
+        let module = module(&text);
+        let outputs = icarus::outputs(&text, &module, &Inputs::These(&inputs));
+        let values = |x: &i16| module.output_values(*x as i64).unwrap();
+        let wanted: Vec<Vec<i128>> = inputs.iter().map(values).collect();
+        assert_eq!(outputs, wanted, "{text}");
+        let all = wanted.concat();
+        zeros += all.iter().filter(|value| **value == 0).count();
+        others += all.iter().filter(|value| **value != 0).count();
+    }
+    println!("{zeros} values of 0, {others} others");
+    assert!(others > zeros);
 }
 
 /// The rows that no row and no tap uses.

@@ -1,20 +1,23 @@
 //! The text written by hand for speed: the core's time is compared with this. The length is counted
-//! first, then every line goes straight into the area, its fixed parts as a whole. A number's four
-//! bytes are stored at once, and what follows is written over those that it does not need: no number
-//! stands nearer than four bytes to the end.
+//! first, then every line goes straight into the area, its fixed parts as a whole. Four bytes are
+//! stored for a number, and what follows is written over those that it does not need: every number
+//! stands further from the end.
 
 use crate::answer::{Answer, ACCEPTED};
 use crate::network::fast::examine;
 use crate::network::{Network, MINUS, MOST_TAPS, NONE, REVERSED};
 
-/// A number's digits, the first in the lowest byte, and how many there are.
+/// The digits of a number below 10,000, the first in the lowest byte, and how many there are. Both
+/// pairs of digits are taken apart at once, in the halves of a word.
 #[inline(always)]
 fn digits(number: u32) -> ([u8; 4], usize) {
-    let (high, low) = (number / 100, number % 100);
-    let all = (high / 10) | (high % 10) << 8 | (low / 10) << 16 | (low % 10) << 24;
-    let count = digit_count(number);
-    let first = (all | 0x3030_3030) >> (32 - 8 * count as u32);
-    (first.to_le_bytes(), count)
+    let high = (number * 5243) >> 19;
+    let pairs = high | (number - 100 * high) << 16;
+    let tens = ((pairs * 103) >> 10) & 0x000f_000f;
+    let all = tens | (pairs - 10 * tens) << 8;
+    let zeros = (all | 1 << 24).trailing_zeros() / 8;
+    let first = (all | 0x3030_3030) >> (8 * zeros);
+    (first.to_le_bytes(), 4 - zeros as usize)
 }
 
 #[inline(always)]

@@ -8,6 +8,7 @@ pub mod fast;
 pub mod hard;
 pub mod literal;
 pub mod mixture;
+pub mod modules;
 pub mod reader;
 pub mod tools;
 

@@ -16,7 +16,8 @@ pub fn goes_without(tool: &str) -> bool {
     let named = env::var("VERILOG_WITHOUT").unwrap_or_default();
     let without = named.split_whitespace().any(|name| name == tool);
     if without {
-        writeln!(stderr(), "verilog_tools: goes without {tool}").unwrap();
+        let words = format!("verilog_tools: goes without {tool}\n");
+        stderr().write_all(words.as_bytes()).unwrap();
     }
     without
 }
