@@ -5,7 +5,7 @@ use fir_tests::network::hard::{edges, sheet};
 use fir_tests::network::{literal, Network, NONE, ROW_WORDS, TAP_WORDS};
 use fir_tests::random::Random;
 use fir_tests::verilog::call::run;
-use fir_tests::verilog::hard::{ends_of_range, largest, smallest};
+use fir_tests::verilog::hard::{ends_of_range, largest, smallest, ROW_LEFT_OVER};
 use fir_tests::verilog::reader::{self, Module};
 use fir_tests::verilog::tools::icarus::{self, Inputs};
 use fir_tests::verilog::tools::{goes_without, verilator, yosys};
@@ -121,17 +121,14 @@ fn icarus_on_random_modules() {
 /// The rows that no row and no tap uses.
 fn left_over(network: &Network) -> Vec<String> {
     let mut used = vec![false; network.row_count];
-    for row in network
-        .rows
-        .chunks(ROW_WORDS)
-        .take(network.row_count)
-        .skip(1)
-    {
+    let rows = network.rows.chunks(ROW_WORDS).take(network.row_count);
+    for row in rows.skip(1) {
         used[row[0] as usize] = true;
         used[row[1] as usize] = true;
     }
-    for tap in network.taps.chunks(TAP_WORDS).take(network.tap_count) {
-        used[tap[1] as usize] |= tap[0] != NONE;
+    let taps = network.taps.chunks(TAP_WORDS).take(network.tap_count);
+    for tap in taps.filter(|tap| tap[0] != NONE) {
+        used[tap[1] as usize] = true;
     }
     let unused = (0..network.row_count).filter(|i| !used[*i]);
     unused.map(|i| format!("n{i}")).collect()
@@ -144,6 +141,8 @@ fn verilator_warns_of_rows_left_over_alone() {
     }
     let mut random = Random::new(61);
     let mut networks = vec![smallest(), sheet(), edges(), ends_of_range(), largest()];
+    networks.push(mixture::built(&ROW_LEFT_OVER));
+    assert_eq!(left_over(&networks[5]), ["n18"]);
     networks.extend((0..LINTED_NETWORKS).map(|_| mixture::network(&mut random)));
     let mut silent = 0;
     for network in &networks {
@@ -175,10 +174,14 @@ fn yosys_proves() {
     if goes_without(yosys::NAME) {
         return;
     }
-    for network in [sheet(), ends_of_range()] {
+    let cases = [
+        (sheet(), "<<< 1)", "<<< 2)"),
+        (ends_of_range(), "<<< 31)", "<<< 30)"),
+    ];
+    for (network, shift, other) in cases {
         let (text, coefficients) = (text_of(&network), coefficients(&network));
         assert!(yosys::multiplies(&text, &coefficients));
-        let altered = text.replacen("n0 <<< ", "n0 <<< 1 + ", 1);
+        let altered = text.replacen(shift, other, 1);
         assert!(altered != text && !yosys::multiplies(&altered, &coefficients));
     }
 }

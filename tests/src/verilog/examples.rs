@@ -56,7 +56,7 @@ const RULES: [(&str, &str, i16, i128); 26] = [
     (SAMPLE, "n0 <<< 64", 3, 0),
 ];
 
-/// Whole texts: a narrow output, a wide input, no blanks where none are needed, and assigns in
+/// Whole texts: a narrow output, no blanks where none are needed, an unsigned input, and assigns in
 /// another order.
 const WHOLE: [(&str, i16, i128); 4] = [
     (

@@ -29,7 +29,11 @@ pub fn row_numbers(row_count: usize, tap_count: usize) -> Network {
     Network::new(&rows, &vec![[PLUS, row_count as u32 - 1, 0]; tap_count])
 }
 
-/// One row for each tap, so that no rows are left over: -2^31 and 2^31 - 1.
+/// Coefficients whose network, built with the first forms, has a row that nothing uses: a chain adds it
+/// and goes on from a row that was there.
+pub const ROW_LEFT_OVER: [i32; 8] = [59941, 22280, 1564, 4154, 12453, 11512, 30690, 46055];
+
+/// -2^31 and 2^31 - 1.
 pub fn ends_of_range() -> Network {
     let rows = [[0, 0, 0, PLUS, 1], [0, 0, 31, MINUS, 0x7fff_ffff]];
     Network::new(&rows, &[[MINUS, 0, 31], [PLUS, 1, 0]])
