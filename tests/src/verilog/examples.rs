@@ -96,55 +96,59 @@ pub fn rules() -> Vec<Example> {
     small.into_iter().chain(whole).collect()
 }
 
+/// What is wrong, what stands in a good text, and what stands there instead.
+const WRONG: [(&str, &str, &str); 23] = [
+    ("no endmodule", "endmodule\n", ""),
+    ("something after it", "endmodule", "endmodule;"),
+    ("an unknown name", "n0 <<<", "n1 <<<"),
+    (
+        "a wire assigned twice",
+        "endmodule",
+        "assign n0 = 0;\nendmodule",
+    ),
+    (
+        "an output assigned twice",
+        "endmodule",
+        "assign t0 = 0;\nendmodule",
+    ),
+    (
+        "the input assigned",
+        "endmodule",
+        "assign x = 0;\nendmodule",
+    ),
+    ("a wire never assigned", "assign n0 = x;\n", ""),
+    ("an output never assigned", "assign t0 = n0 <<< 2;\n", ""),
+    (
+        "a wire declared twice",
+        "endmodule",
+        "wire signed [63:0] n0;\nendmodule",
+    ),
+    ("a net that depends on itself", "n0 = x", "n0 = n0"),
+    ("a keyword as a name", "n0", "reg"),
+    ("a name that starts with a digit", "n0", "0n"),
+    ("a shift in two parts", "<<<", "<< <"),
+    ("another shift", "<<<", "<<"),
+    ("an operator too many", "<<<", "<<<<"),
+    ("two minus signs", "n0 <<<", "--n0 <<<"),
+    ("no operand", "<<< 2", "<<<"),
+    ("a parenthesis left open", "n0 <<<", "(n0 <<<"),
+    ("no semicolon", "2;", "2"),
+    ("a number of 2^31", "2;", "2147483648;"),
+    (
+        "bits that do not end at 0",
+        "wire signed [63:0]",
+        "wire signed [63:1]",
+    ),
+    ("no input", "input", "output"),
+    ("another operator", "n0 <<< 2", "n0 * 2"),
+];
+
 /// What is wrong, and a text with that.
 pub fn without_meaning() -> Vec<(&'static str, String)> {
     let good = module(SAMPLE, "n0 <<< 2");
-    let with = |old: &str, new: &str| {
-        assert_eq!(good.matches(old).count(), 1, "{old}");
-        good.replace(old, new)
-    };
-    vec![
-        ("no endmodule", with("endmodule\n", "")),
-        ("something after it", with("endmodule", "endmodule;")),
-        ("an unknown name", with("n0 <<<", "n1 <<<")),
-        (
-            "a second assign of a wire",
-            with("endmodule", "assign n0 = 0;\nendmodule"),
-        ),
-        (
-            "a second assign of an output",
-            with("endmodule", "assign t0 = 0;\nendmodule"),
-        ),
-        (
-            "an assign of the input",
-            with("endmodule", "assign x = 0;\nendmodule"),
-        ),
-        ("no assign of a wire", with("assign n0 = x;\n", "")),
-        (
-            "no assign of an output",
-            with("assign t0 = n0 <<< 2;\n", ""),
-        ),
-        (
-            "a wire twice",
-            with("endmodule", "wire signed [63:0] n0;\nendmodule"),
-        ),
-        ("a net that depends on itself", with("n0 = x", "n0 = n0")),
-        ("a keyword as a name", good.replace("n0", "reg")),
-        ("a name that starts with a digit", good.replace("n0", "0n")),
-        ("a shift in two parts", with("<<<", "<< <")),
-        ("another shift", with("<<<", "<<")),
-        ("an operator too many", with("<<<", "<<<<")),
-        ("two minus signs", with("n0 <<<", "--n0 <<<")),
-        ("no operand", with("<<< 2", "<<<")),
-        ("a parenthesis left open", with("n0 <<<", "(n0 <<<")),
-        ("no semicolon", with("2;", "2")),
-        ("a number of 2^31", with("2;", "2147483648;")),
-        (
-            "bits that do not end at 0",
-            with("wire signed [63:0]", "wire signed [63:1]"),
-        ),
-        ("no input", with("input", "output")),
-        ("another character", with("n0 <<< 2", "n0 * 2")),
-        ("an empty text", String::new()),
-    ]
+    let texts = WRONG.iter().map(|(what, old, new)| {
+        assert!(good.contains(old), "{old}");
+        (*what, good.replace(old, new))
+    });
+    texts.chain([("nothing at all", String::new())]).collect()
 }
