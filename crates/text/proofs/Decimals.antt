@@ -1,7 +1,7 @@
 -- The decimal digits of a number, from the last one on, and how many there are. Assumes nothing.
 use borrow.Author.Tests.{lt-ltb, le-ltb}
 use mathlib.Core.Path.{_≡_, refl, ap, _∙_}
-use mathlib.Core.List.{List, [], _∷_, _++_}
+use mathlib.Core.List.{List, [], _∷_, _++_, append-assoc}
 use mathlib.Core.Logic.{⊎-elim}
 use Prim.Native.Nat.{ℕ, zero, suc, _+_, _-_, _*_, _/_, _%_, _^_, _≤_, _<_}
 use native.Mathlib.Omega.{arith}
@@ -9,6 +9,7 @@ use native.Mathlib.Numerals.{unary-clauses}
 use lib.ListN.{length, length-append}
 use Rattle.word.proofs.Order.{lt-or-le}
 use Rattle.text.specs.Numbers.{decimalBy, decimal}
+use Rattle.text.specs.Inner.{pairOf}
 
 pub pow-suc : (k : ℕ) → 10 ^ suc k ≡ 10 ^ k * 10
 pow-suc k = simp unary-clauses
@@ -40,6 +41,29 @@ unfolding decimal decimalBy
 decimal-more zero h = absurd (omega arith)
 decimal-more (suc n) h = rw (le-ltb (suc n) 10 h) (ap (λ (l : List ℕ). l ++ ((48 + suc n % 10) ∷ [])) (decimalBy-any n (suc n / 10) (suc n / 10) (omega arith) (omega arith)))
 
+-- the two last digits
+pub decimal-two : (n : ℕ) → 10 ≤ n → n < 100 → decimal n ≡ pairOf n
+decimal-two n h k = decimal-more n h ∙ ap (λ (l : List ℕ). l ++ ((48 + n % 10) ∷ [])) (decimal-one (n / 10) (omega arith))
+
+pub decimal-pair : (n : ℕ) → 100 ≤ n → decimal n ≡ decimal (n / 100) ++ pairOf (n % 100)
+decimal-pair n h =
+    let up : n / 10 / 10 ≡ n / 100 = omega arith in
+    let tens : n / 10 % 10 ≡ n % 100 / 10 = omega arith in
+    let ones : n % 10 ≡ n % 100 % 10 = omega arith in
+    decimal-more n (omega arith)
+    ∙ ap (λ (l : List ℕ). l ++ ((48 + n % 10) ∷ [])) (decimal-more (n / 10) (omega arith))
+    ∙ append-assoc (decimal (n / 10 / 10)) ((48 + n / 10 % 10) ∷ []) ((48 + n % 10) ∷ [])
+    ∙ rw (up, tens, ones)
+
+-- the four last digits
+pub decimal-pairs : (n : ℕ) → 10000 ≤ n → decimal n ≡ decimal (n / 10000) ++ (pairOf (n / 100 % 100) ++ pairOf (n % 100))
+decimal-pairs n h =
+    let up : n / 100 / 100 ≡ n / 10000 = omega arith in
+    decimal-pair n (omega arith)
+    ∙ ap (λ (l : List ℕ). l ++ pairOf (n % 100)) (decimal-pair (n / 100) (omega arith))
+    ∙ append-assoc (decimal (n / 100 / 100)) (pairOf (n / 100 % 100)) (pairOf (n % 100))
+    ∙ rw up
+
 -- ---- how many there are
 
 pub digits-one : (n : ℕ) → n < 10 → length (decimal n) ≡ 1
@@ -50,6 +74,10 @@ digits-more n h = ap length (decimal-more n h) ∙ length-append (decimal (n / 1
 
 pub digits-two : (n : ℕ) → 10 ≤ n → n < 100 → length (decimal n) ≡ 2
 digits-two n h k = omega (arith, digits-more n h, digits-one (n / 10) (omega arith))
+
+-- two digits, and those before them
+pub digits-pair : (n : ℕ) → 100 ≤ n → length (decimal n) ≡ length (decimal (n / 100)) + 2
+digits-pair n h = ap length (decimal-pair n h) ∙ length-append (decimal (n / 100)) (pairOf (n % 100))
 
 pub digits-three : (n : ℕ) → 100 ≤ n → n < 1000 → length (decimal n) ≡ 3
 digits-three n h k = omega (arith, digits-more n (omega arith), digits-two (n / 10) (omega arith) (omega arith))

@@ -1,5 +1,5 @@
 -- Texts by number, one more at a time, as a loop writes them. Assumes nothing.
-use mathlib.Core.Path.{_≡_, refl, sym, ap, ap₂, _∙_}
+use mathlib.Core.Path.{_≡_, refl, sym, ap, _∙_}
 use mathlib.Core.Logic.{⊎-elim}
 use mathlib.Core.List.{List, [], _∷_, _++_, append-assoc, append-nil}
 use Prim.Native.Nat.{ℕ, zero, suc, _+_, _≤_, _<_}
@@ -49,12 +49,6 @@ module _ (textOf : ℕ → List ℕ) where
   numbered-next n =
       let e : 0 + n ≡ n = omega arith in
       ap (numberedFrom textOf 0) (add-one n) ∙ numbered-more 0 n ∙ ap (λ (k : ℕ). numberedFrom textOf 0 n ++ textOf k) e
-
-  -- as another text for each number, which is the same
-  pub numbered-same : (other : ℕ → List ℕ) → ((i : ℕ) → textOf i ≡ other i) → (i n : ℕ) → numberedFrom textOf i n ≡ numberedFrom other i n
-  unfolding numberedFrom
-  numbered-same other same i zero = refl
-  numbered-same other same i (suc n) = ap₂ _++_ (same i) (numbered-same other same (suc i) n)
 
   -- before the first number
   pub none-put : (l : List ℕ) (at : ℕ) → PutAll l at (numberedFrom textOf 0 0) l at

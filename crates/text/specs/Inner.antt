@@ -1,7 +1,7 @@
 -- What a writer into a lent area gives, and the most bytes of a number. Definitions only.
 use mathlib.Core.Path.{_≡_}
-use mathlib.Core.List.{List}
-use Prim.Native.Nat.{ℕ, _+_, _≤_}
+use mathlib.Core.List.{List, [], _∷_}
+use Prim.Native.Nat.{ℕ, _+_, _/_, _%_, _≤_}
 use lib.ListN.{length}
 use lib.Seq.{sets}
 
@@ -14,6 +14,10 @@ pub record Put (l : List ℕ) (at : ℕ) (bytes : List ℕ) (most : ℕ) (e : Li
 -- the same of bytes that may take all the room that they need: no bound is said
 abbrev pub PutAll : List ℕ → ℕ → List ℕ → List ℕ → ℕ → Type 0
 PutAll l at bytes e r = Put l at bytes (length bytes) e r
+
+-- the two last digits of a number, which n is the number of
+abbrev pub pairOf : ℕ → List ℕ
+pairOf n = (48 + n / 10) ∷ (48 + n % 10) ∷ []
 
 -- the most digits of a number of 32 bits, and the most bytes of a signed one
 abbrev pub numberBytes : ℕ

@@ -1,22 +1,24 @@
--- Parts of the assign of a row, for the contracts of their writers. Definitions only.
-use mathlib.Core.Bool.{Bool, true, false}
-use mathlib.Core.List.{List, _++_}
+-- The assign of a later row as its writers make it, for their contracts. Definitions only.
+use mathlib.Core.List.{List, [], _∷_, _++_}
 use Prim.Native.Nat.{ℕ, _+_}
 use lib.ListN.{length}
 use Rattle.network.specs.declared.Row.{Row}
 use Rattle.text.specs.Ascii.{ascii}
 use Rattle.text.specs.Numbers.{decimal}
-use Rattle.verilog_text.specs.Text.{rowRight}
 
--- what comes after a shifted row; the Bool says that the sign is `+`
-abbrev pub operand : Bool → ℕ → List ℕ
-operand true right = ascii ") + n" ++ decimal right
-operand false right = ascii ") - n" ++ decimal right
+-- what comes after a shifted row: `) + n` or `) - n`, by the character of the sign, and the right row
+abbrev pub operand : ℕ → ℕ → List ℕ
+operand sign right = ascii ") " ++ ((sign ∷ []) ++ (ascii " n" ++ decimal right))
 
--- the assign of a later row by its sign: the first Bool says that it is `+`, the second that it is `-`
-abbrev pub laterBy : Bool → Bool → ℕ → Row → List ℕ
-laterBy p q i r = ascii "assign n" ++ (decimal i ++ (ascii " = " ++ (rowRight p q r ++ ascii ";\n")))
+-- a row whose shifted row comes first, and one whose right row does
+abbrev pub shiftedFirst : ℕ → Row → List ℕ
+shiftedFirst i r =
+    (ascii "assign n" ++ decimal i) ++ ((ascii " = (n" ++ decimal (r .left)) ++ ((ascii " <<< " ++ decimal (r .shift)) ++ (operand (r .sign) (r .right) ++ ascii ";\n")))
 
--- its bytes
+abbrev pub rightFirst : ℕ → Row → List ℕ
+rightFirst i r =
+    (ascii "assign n" ++ decimal i) ++ ((ascii " = n" ++ decimal (r .right)) ++ ((ascii " - (n" ++ decimal (r .left)) ++ ((ascii " <<< " ++ decimal (r .shift)) ++ ascii ");\n")))
+
+-- the bytes of either
 abbrev pub laterBytes : ℕ → Row → ℕ
 laterBytes i r = 25 + (length (decimal i) + (length (decimal (r .left)) + (length (decimal (r .shift)) + length (decimal (r .right)))))

@@ -1,35 +1,34 @@
-// The assigns of rows.
+// The wires and the assigns of rows, written into an area that may have room for just these bytes: each
+// function puts them at index `at`, and answers the index past them.
 ghost use mathlib.Core.Path.{_≡_};
-ghost use mathlib.Core.Bool.{true, false};
-ghost use Prim.Native.Nat.{_+_, _≤_};
-ghost use lib.Dec.{eqb};
+ghost use Prim.Native.Nat.{_+_, _≤_, _<_};
 ghost use lib.ListN.{length};
-ghost use Rattle.network.specs.Rows.{plus, rowsOf, rowTable};
+ghost use Rattle.network.specs.Rows.{rowsOf, rowTable};
 ghost use Rattle.text.specs.Numbers.{decimal};
-ghost use Rattle.text.specs.Lines.{linesFrom};
+ghost use Rattle.text.specs.Lines.{linesFrom, numberedFrom};
 ghost use Rattle.text.specs.Inner.{PutAll};
-ghost use Rattle.verilog_text.specs.Text.{rowLine};
-ghost use Rattle.verilog_rows.specs.Inner.{operand, laterBy, laterBytes};
+ghost use Rattle.verilog_text.specs.Text.{wireLine, rowLine};
+ghost use Rattle.verilog_rows.specs.Inner.{operand, shiftedFirst, rightFirst, laterBytes};
 use network::Row;
 use text::put;
-use verilog_lines::put_with;
+use text::put_byte;
+use text::put_with;
 
-// `) + n`, or `) - n`, and the right row.
+// `) + n`, or `) - n`, and the right row: a sign is stored as its character.
 fn put_operand(out: &mut [u8], at: usize, sign: u32, right: u32) -> usize
-    requires { ⌜ at + (5 + length (decimal right)) ≤ length (now out) ⌝ }
-    ensures { λ r. ⌜ PutAll (now (out .entry)) at (operand (eqb sign plus) right) (now (out .exit)) r ⌝ }
+    requires { ⌜ (sign < 256) × (at + (5 + length (decimal right)) ≤ length (now out)) ⌝ }
+    ensures { λ r. ⌜ PutAll (now (out .entry)) at (operand sign right) (now (out .exit)) r ⌝ }
     ensures { λ r. ⌜ r ≡ at + (5 + length (decimal right)) ⌝ }
 {
-    if sign == network::PLUS {
-        return put_with(out, at, b") + n", right);
-    }
-    put_with(out, at, b") - n", right)
+    let a = put(out, at, b") ");
+    let b = put_byte(out, a, sign as u8);
+    put_with(out, b, b" n", right)
 }
 
 // A row of sign `+` or `-`, whose shifted row comes first.
 fn put_shifted_first(out: &mut [u8], at: usize, i: u32, row: Row) -> usize
-    requires { ⌜ at + laterBytes i row ≤ length (now out) ⌝ }
-    ensures { λ r. ⌜ PutAll (now (out .entry)) at (laterBy (eqb (row .sign) plus) true i row) (now (out .exit)) r ⌝ }
+    requires { ⌜ (row .sign < 256) × (at + laterBytes i row ≤ length (now out)) ⌝ }
+    ensures { λ r. ⌜ PutAll (now (out .entry)) at (shiftedFirst i row) (now (out .exit)) r ⌝ }
 {
     let a = put_with(out, at, b"assign n", i);
     let b = put_with(out, a, b" = (n", row.left);
@@ -41,7 +40,7 @@ fn put_shifted_first(out: &mut [u8], at: usize, i: u32, row: Row) -> usize
 // An `r` row, whose right row comes first.
 fn put_right_first(out: &mut [u8], at: usize, i: u32, row: Row) -> usize
     requires { ⌜ at + laterBytes i row ≤ length (now out) ⌝ }
-    ensures { λ r. ⌜ PutAll (now (out .entry)) at (laterBy false false i row) (now (out .exit)) r ⌝ }
+    ensures { λ r. ⌜ PutAll (now (out .entry)) at (rightFirst i row) (now (out .exit)) r ⌝ }
 {
     let a = put_with(out, at, b"assign n", i);
     let b = put_with(out, a, b" = n", row.right);
@@ -66,7 +65,22 @@ fn put_row_line(out: &mut [u8], at: usize, i: u32, row: Row) -> usize
     put_right_first(out, at, i, row)
 }
 
-// The first n rows, by number.
+// The wires of n rows.
+pub fn put_wires(out: &mut [u8], at: usize, n: usize) -> usize
+    requires { ⌜ (n ≤ 4096) × (at + length (numberedFrom wireLine 0 n) ≤ length (now out)) ⌝ }
+    ensures { λ r. ⌜ PutAll (now (out .entry)) at (numberedFrom wireLine 0 n) (now (out .exit)) r ⌝ }
+{
+    let mut to = at;
+    let mut i: usize = 0;
+    while i < n {
+        to = put_with(out, to, b"wire signed [63:0] n", i as u32);
+        to = put(out, to, b";\n");
+        i += 1;
+    }
+    to
+}
+
+// The assigns of the first n rows, by number.
 pub fn put_row_lines(out: &mut [u8], at: usize, rows: &[u32], n: usize) -> usize
     requires { ⌜ (rowTable ≤ length (now rows)) × (n ≤ 4096) ⌝ }
     requires { ⌜ at + length (linesFrom rowLine 0 (rowsOf (now rows) n)) ≤ length (now out) ⌝ }

@@ -1,15 +1,16 @@
-// The assigns of taps.
+// The ports and the assigns of taps, written into an area that may have room for just these bytes: each
+// function puts them at index `at`, and answers the index past them.
 ghost use mathlib.Core.Bool.{true, false};
 ghost use Prim.Native.Nat.{_+_, _≤_};
 ghost use lib.ListN.{length};
 ghost use Rattle.network.specs.Rows.{tapRowsOf, tapTable};
-ghost use Rattle.text.specs.Lines.{linesFrom};
+ghost use Rattle.text.specs.Lines.{linesFrom, numberedFrom};
 ghost use Rattle.text.specs.Inner.{PutAll};
-ghost use Rattle.verilog_text.specs.Text.{tapLine};
+ghost use Rattle.verilog_text.specs.Text.{port, tapLine};
 ghost use Rattle.verilog_taps.specs.Inner.{tapBy, productBytes, negativeBytes, emptyBytes};
 use network::TapRow;
 use text::put;
-use verilog_lines::put_with;
+use text::put_with;
 
 // A tap of sign `+`.
 fn put_product(out: &mut [u8], at: usize, k: u32, tap: TapRow) -> usize
@@ -55,7 +56,21 @@ fn put_tap_line(out: &mut [u8], at: usize, k: u32, tap: TapRow) -> usize
     put_empty(out, at, k, tap)
 }
 
-// The first m taps, by number.
+// The ports of m taps.
+pub fn put_ports(out: &mut [u8], at: usize, m: usize) -> usize
+    requires { ⌜ (m ≤ 256) × (at + length (numberedFrom port 0 m) ≤ length (now out)) ⌝ }
+    ensures { λ r. ⌜ PutAll (now (out .entry)) at (numberedFrom port 0 m) (now (out .exit)) r ⌝ }
+{
+    let mut to = at;
+    let mut k: usize = 0;
+    while k < m {
+        to = put_with(out, to, b", output signed [63:0] t", k as u32);
+        k += 1;
+    }
+    to
+}
+
+// The assigns of the first m taps, by number.
 pub fn put_tap_lines(out: &mut [u8], at: usize, taps: &[u32], m: usize) -> usize
     requires { ⌜ (tapTable ≤ length (now taps)) × (m ≤ 256) ⌝ }
     requires { ⌜ at + length (linesFrom tapLine 0 (tapRowsOf (now taps) m)) ≤ length (now out) ⌝ }

@@ -33,10 +33,10 @@ numbered-length textOf beside each i (suc n) =
     let c : beside * suc n ≡ beside + beside * n = omega arith in
     omega (arith, each i, numbered-length textOf beside each (suc i) n)
 
-port-length : (k : ℕ) → length (port k) ≡ 24 + digitsOf k
+pub port-length : (k : ℕ) → length (port k) ≡ 24 + digitsOf k
 port-length k = omega arith
 
-wire-length : (i : ℕ) → length (wireLine i) ≡ 22 + digitsOf i
+pub wire-length : (i : ℕ) → length (wireLine i) ≡ 22 + digitsOf i
 wire-length i = simp length-append (omega arith)
 
 pub ports-length : (m : ℕ) → length (numberedFrom port 0 m) ≡ 24 * m + digitsFrom 0 m

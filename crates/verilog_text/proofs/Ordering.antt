@@ -16,7 +16,7 @@ use Rattle.text.specs.Ascii.{ascii}
 use Rattle.text.specs.Numbers.{decimal}
 use Rattle.verilog.specs.Sound.{amongst, leftIn}
 use Rattle.verilog.specs.Meaning.{Settled, evaluated}
-use Rattle.verilog.specs.Order.{usesNone, ordered}
+use Rattle.verilog.proofs.Order.{usesNone, ordered}
 use Rattle.verilog.proofs.Order.{evaluated-settles}
 use Rattle.verilog_text.specs.Expected.{rowNet, rowExpression, rowRightSide, tapExpression, assignRows, assignTaps, moduleFor}
 use Rattle.verilog_text.proofs.NameLists.{names, left-rows, left-taps, in-neither, miss, other}

@@ -1,23 +1,16 @@
 -- The parts of the text, as the writers make them. Assumes nothing.
-use mathlib.Core.Path.{_≡_, refl, ap, ap₂, _∙_}
-use mathlib.Core.List.{List, [], _++_, append-nil, append-assoc}
+use mathlib.Core.Path.{_≡_, ap, ap₂}
+use mathlib.Core.List.{List, _++_}
 use Prim.Native.Nat.{ℕ, _+_}
 use native.Mathlib.Omega.{arith}
 use lib.ListN.{length}
 use Rattle.sequence.proofs.UpTo.{length-upTo}
 use Rattle.network.specs.Rows.{rowAt, tapRowAt, rowsOf, tapRowsOf, networkOf}
 use Rattle.text.specs.Ascii.{ascii}
-use Rattle.text.specs.Numbers.{decimal}
 use Rattle.text.specs.Lines.{linesFrom, numberedFrom}
-use Rattle.text.proofs.Lines.{numbered-same}
-use Rattle.verilog_text.specs.Text.{port, moduleLine, wireLine, rowLine, tapLine, verilogText}
+use Rattle.verilog_text.specs.Text.{moduleLine, wireLine, rowLine, tapLine, verilogText}
 use Rattle.verilog_text.specs.Written.{textIn}
 use Rattle.verilog_text.proofs.Lengths.{text-parts}
-use Rattle.verilog_lines.specs.Inner.{between}
-
--- the ports of the module line: nothing comes after a number
-pub ports-are : (m : ℕ) → numberedFrom (between (ascii ", output signed [63:0] t") []) 0 m ≡ numberedFrom port 0 m
-ports-are m = numbered-same (between (ascii ", output signed [63:0] t") []) port (λ k. ap (λ (l : List ℕ). ascii ", output signed [63:0] t" ++ l) (append-nil (decimal k))) 0 m
 
 module _ (rows : List ℕ) (n : ℕ) (taps : List ℕ) (m : ℕ) where
   rows-counted : length (rowsOf rows n) ≡ n

@@ -12,7 +12,6 @@ ghost use Rattle.verilog_writer.specs.Answer.{answerOf};
 use network_check::Checked;
 use refusal::Refusal;
 use text::put;
-use verilog_lines::put_numbered;
 
 pub enum Written {
     Length(usize),
@@ -25,7 +24,7 @@ fn put_module_line(out: &mut [u8], at: usize, m: usize) -> usize
     ensures { λ r. ⌜ PutAll (now (out .entry)) at (moduleLine m) (now (out .exit)) r ⌝ }
 {
     let a = put(out, at, b"module smoother(input signed [15:0] x");
-    let b = put_numbered(out, a, b", output signed [63:0] t", b"", m);
+    let b = verilog_taps::put_ports(out, a, m);
     put(out, b, b");\n")
 }
 
@@ -36,7 +35,7 @@ fn put_text(out: &mut [u8], rows: &[u32], n: usize, taps: &[u32], m: usize) -> u
     ensures { λ r. ⌜ PutAll (now (out .entry)) 0 (textIn (now (rows .entry)) n (now (taps .entry)) m) (now (out .exit)) r ⌝ }
 {
     let a = put_module_line(out, 0, m);
-    let b = put_numbered(out, a, b"wire signed [63:0] n", b";\n", n);
+    let b = verilog_rows::put_wires(out, a, n);
     let c = verilog_rows::put_row_lines(out, b, rows, n);
     let d = verilog_taps::put_tap_lines(out, c, taps, m);
     put(out, d, b"endmodule\n")

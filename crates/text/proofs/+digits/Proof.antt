@@ -1,20 +1,37 @@
--- `text::digits` meets its contract. The measure is n: the call has n / 10000. Assumes nothing.
+-- `text::digits` meets its contract: up to four digits by comparisons, each of which adds 1, else four and those before them. The measure is n: the call has n / 10000. Assumes nothing.
 use borrow.Author.Needs.{needs}
+use borrow.Author.Tests.{lt-ltb, le-ltb}
 use mathlib.Core.Path.{_≡_, sym}
-use Prim.Native.Nat.{ℕ, _+_, _<_}
+use mathlib.Core.Bool.{Bool, true, false}
+use mathlib.Core.Logic.{⊎-elim}
+use Prim.Native.Nat.{ℕ, _+_, _≤_, _<_}
 use native.Mathlib.Omega.{arith}
-use lib.Dec.{lit≤}
+use lib.Dec.{lit≤, ltb}
 use lib.ListN.{length}
-use Rattle.text.specs.Numbers.{decimal}
-use Rattle.text.specs.Inner.{numberBytes}
+use mir.Val.{boolByte}
 use borrow.Fn.Kinds.{In}
 use borrow.Fn.PlainCycle.{Measures, is, falls, and}
+use Rattle.word.proofs.Order.{lt-or-le}
+use Rattle.text.specs.Numbers.{decimal}
+use Rattle.text.specs.Inner.{numberBytes}
 use Rattle.text.proofs.Decimals.{digits-one, digits-two, digits-three, digits-four, digits-past-four, decimal-le}
 use Rattle.text.proofs.digits.Reads as digits
 use Rattle.text.proofs.digits.Kinds as digits-kinds
 use Rattle.text.proofs.+digits.Lts-digits as digits-lts
 use Rattle.text.proofs.+digits.{statement}
 use Rattle.text.proofs.+digits.Tie.{close}
+
+at-most-one : (b : Bool) → boolByte b ≤ 1
+at-most-one true = omega arith
+at-most-one false = omega arith
+
+up-to-four : (n : ℕ) → n < 10000 → 1 + boolByte (ltb 9 n) + boolByte (ltb 99 n) + boolByte (ltb 999 n) ≡ length (decimal n)
+up-to-four n h =
+    ⊎-elim (λ (a : n < 10). rw (le-ltb 9 n (omega (arith, a)), le-ltb 99 n (omega (arith, a)), le-ltb 999 n (omega (arith, a))) (sym (digits-one n a)))
+    (λ (b : 10 ≤ n). ⊎-elim (λ (a : n < 100). rw (lt-ltb 9 n (omega (arith, b)), le-ltb 99 n (omega (arith, a)), le-ltb 999 n (omega (arith, a))) (sym (digits-two n b a)))
+    (λ (c : 100 ≤ n). ⊎-elim (λ (a : n < 1000). rw (lt-ltb 9 n (omega (arith, c)), lt-ltb 99 n (omega (arith, c)), le-ltb 999 n (omega (arith, a))) (sym (digits-three n c a)))
+    (λ (d : 1000 ≤ n). rw (lt-ltb 9 n (omega (arith, d)), lt-ltb 99 n (omega (arith, d)), lt-ltb 999 n (omega (arith, d))) (sym (digits-four n d h)))
+    (lt-or-le n 1000)) (lt-or-le n 100)) (lt-or-le n 10)
 
 abbrev μ-digits : Measures 0 digits-kinds.ps ℕ
 μ-digits κs a = a .0
@@ -25,54 +42,54 @@ digits-at t = and 0 digits-kinds.ps (is 0 digits-kinds.ps μ-digits t) digits.Pr
 abbrev digits-below : ℕ → In 0 digits-kinds.ps
 digits-below t = and 0 digits-kinds.ps (falls 0 digits-kinds.ps _<_ μ-digits t) digits.Pre
 
--- src/lib.rt:35:9
+digits-cast-result :
+    (t : ℕ) → digits-lts.Need-cast-result (digits-below t, digits.Post) (digits-at t) digits.Post
+digits-cast-result t c = search needs
+
+digits-add-result :
+    (t : ℕ) → digits-lts.Need-add-result (digits-below t, digits.Post) (digits-at t) digits.Post
+digits-add-result t c = record { fits = omega (arith, at-most-one (ltb 9 (c .before .args .n))) }
+
+digits-cast-result-2 :
+    (t : ℕ) →
+    digits-lts.Need-cast-result-2 (digits-below t, digits.Post) (digits-at t) digits.Post
+digits-cast-result-2 t c = search needs
+
+digits-add-result-2 :
+    (t : ℕ) → digits-lts.Need-add-result-2 (digits-below t, digits.Post) (digits-at t) digits.Post
+digits-add-result-2 t c = let n = c .before .args .n in record { fits = omega (arith, at-most-one (ltb 9 n), at-most-one (ltb 99 n)) }
+
+digits-cast-result-3 :
+    (t : ℕ) →
+    digits-lts.Need-cast-result-3 (digits-below t, digits.Post) (digits-at t) digits.Post
+digits-cast-result-3 t c = search needs
+
+digits-add-result-3 :
+    (t : ℕ) → digits-lts.Need-add-result-3 (digits-below t, digits.Post) (digits-at t) digits.Post
+digits-add-result-3 t c = let n = c .before .args .n in record { fits = omega (arith, at-most-one (ltb 9 n), at-most-one (ltb 99 n), at-most-one (ltb 999 n)) }
+
 digits-returns :
     (t : ℕ) → digits-lts.Need-returns (digits-below t, digits.Post) (digits-at t) digits.Post
-digits-returns t c = (sym (digits-one (c .before .args .n) (c .if1 .taken)), lit≤ tt)
+digits-returns t c =
+    let n = c .before .args .n in
+    (up-to-four n (c .if1 .taken), omega (arith, at-most-one (ltb 9 n), at-most-one (ltb 99 n), at-most-one (ltb 999 n)))
 
--- src/lib.rt:38:9
-digits-returns-2 :
-    (t : ℕ) → digits-lts.Need-returns-2 (digits-below t, digits.Post) (digits-at t) digits.Post
-digits-returns-2 t c =
-    let in-else-1 = c .before in
-    (sym (digits-two (in-else-1 .before .args .n) (omega (arith, in-else-1 .if1 .left)) (c .if2 .taken)), lit≤ tt)
-
--- src/lib.rt:41:9
-digits-returns-3 :
-    (t : ℕ) → digits-lts.Need-returns-3 (digits-below t, digits.Post) (digits-at t) digits.Post
-digits-returns-3 t c =
-    let in-else-2 = c .before in
-    (sym (digits-three (in-else-2 .before .before .args .n) (omega (arith, in-else-2 .if2 .left)) (c .if3 .taken)), lit≤ tt)
-
--- src/lib.rt:44:9
-digits-returns-4 :
-    (t : ℕ) → digits-lts.Need-returns-4 (digits-below t, digits.Post) (digits-at t) digits.Post
-digits-returns-4 t c =
-    let in-else-3 = c .before in
-    (sym (digits-four (in-else-3 .before .before .before .args .n) (omega (arith, in-else-3 .if3 .left)) (c .if4 .taken)), lit≤ tt)
-
--- src/lib.rt:46:9
 digits-digits-requires :
     (t : ℕ) →
     digits-lts.Need-digits-requires (digits-below t, digits.Post) (digits-at t) digits.Post
 digits-digits-requires t c κs = search needs
 
--- src/lib.rt:46:5
-digits-add-result :
-    (t : ℕ) → digits-lts.Need-add-result (digits-below t, digits.Post) (digits-at t) digits.Post
-digits-add-result t c =
-    let in-else-4 = c .before in
-    let at-start = in-else-4 .before .before .before .before in
-    record { fits = omega (arith, c .digits .ensures .1) }
+digits-add-result-4 :
+    (t : ℕ) → digits-lts.Need-add-result-4 (digits-below t, digits.Post) (digits-at t) digits.Post
+digits-add-result-4 t c = record { fits = omega (arith, c .digits .ensures .1) }
 
--- src/lib.rt:31:1
-digits-returns-5 :
-    (t : ℕ) → digits-lts.Need-returns-5 (digits-below t, digits.Post) (digits-at t) digits.Post
-digits-returns-5 t c =
-    let in-else-4 = c .before in
-    let at-start = in-else-4 .before .before .before .before in
+digits-returns-2 :
+    (t : ℕ) → digits-lts.Need-returns-2 (digits-below t, digits.Post) (digits-at t) digits.Post
+digits-returns-2 t c =
+    let in-else-1 = c .before in
+    let at-start = in-else-1 .before in
     let n = at-start .args .n in
-    let all : 4 + c .digits .result ≡ length (decimal n) = omega (arith, c .digits .ensures .0, digits-past-four n (omega (arith, in-else-4 .if4 .left))) in
+    let all : 4 + c .digits .result ≡ length (decimal n) = omega (arith, c .digits .ensures .0, digits-past-four n (in-else-1 .if1 .left)) in
     (all, omega (arith, all, decimal-le numberBytes n (lit≤ tt) (omega (arith, at-start .fits .n))))
 
 pub +digits-spec : {M : Type 1} → statement M
@@ -83,10 +100,13 @@ pub +digits-spec : {M : Type 1} → statement M
     (digits-below t, digits.Post)
     (digits-at t)
     digits.Post
-    (digits-returns t)
-    (digits-returns-2 t)
-    (digits-returns-3 t)
-    (digits-returns-4 t)
-    (digits-digits-requires t)
+    (digits-cast-result t)
     (digits-add-result t)
-    (digits-returns-5 t)
+    (digits-cast-result-2 t)
+    (digits-add-result-2 t)
+    (digits-cast-result-3 t)
+    (digits-add-result-3 t)
+    (digits-returns t)
+    (digits-digits-requires t)
+    (digits-add-result-4 t)
+    (digits-returns-2 t)

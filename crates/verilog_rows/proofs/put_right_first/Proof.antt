@@ -1,7 +1,6 @@
 -- `verilog_rows::put_right_first` meets its contract. Assumes nothing.
 use borrow.Author.Needs.{needs}
-use Rattle.text.proofs.Puts.{then-all, put-as}
-use Rattle.verilog_rows.proofs.Parts.{right-parts}
+use Rattle.text.proofs.Puts.{then-all}
 use Rattle.verilog_rows.proofs.put_right_first.Statement.{statement}
 use Rattle.verilog_rows.proofs.put_right_first.Tie as tie
 
@@ -45,13 +44,10 @@ returns c =
     let after-left = after-shift .before .before .before .before .before in
     let after-right = after-left .before .before .before .before .before in
     let after-number = after-right .before .before .before .before .before in
-    let args = after-number .before .before .before .before .args in
-    put-as (right-parts (args .i) (args .row))
-    (then-all (after-number .put-with .ensures .0)
+    then-all (after-number .put-with .ensures .0)
     (then-all (after-right .put-with2 .ensures .0)
     (then-all (after-left .put-with3 .ensures .0)
-    (then-all (after-shift .put-with4 .ensures .0)
-    (after-put .put .ensures)))))
+    (then-all (after-shift .put-with4 .ensures .0) (after-put .put .ensures))))
 
 pub put-right-first-spec : {M : Type 1} → statement M
 put-right-first-spec =

@@ -31,10 +31,13 @@ returns c =
 
 put-shifted-first-requires : tie.Need-put-shifted-first-requires
 put-shifted-first-requires c κs =
-    let in-else-1 = c .before .before .before in
+    let in-then-2 = c .before in
+    let in-else-1 = in-then-2 .before .before in
     let at-start = in-else-1 .before .before in
-    let args = at-start .args in
-    omega (arith, at-start .pre, later-length (args .i) (args .row), ap length (row-later (args .i) (args .row) (in-else-1 .if1 .left)))
+    let args = at-start .args in (
+      omega (arith, in-then-2 .if2 .taken),
+      omega (arith, at-start .pre, later-length (args .i) (args .row), ap length (row-later (args .i) (args .row) (in-else-1 .if1 .left))),
+    )
 
 same-length-2 : tie.Need-same-length-2
 same-length-2 c = search needs
@@ -49,10 +52,13 @@ returns-2 c =
 
 put-shifted-first-requires-2 : tie.Need-put-shifted-first-requires-2
 put-shifted-first-requires-2 c κs =
-    let in-else-1 = c .before .before .before .before .before in
+    let in-then-3 = c .before in
+    let in-else-1 = in-then-3 .before .before .before .before in
     let at-start = in-else-1 .before .before in
-    let args = at-start .args in
-    omega (arith, at-start .pre, later-length (args .i) (args .row), ap length (row-later (args .i) (args .row) (in-else-1 .if1 .left)))
+    let args = at-start .args in (
+      omega (arith, in-then-3 .if3 .taken),
+      omega (arith, at-start .pre, later-length (args .i) (args .row), ap length (row-later (args .i) (args .row) (in-else-1 .if1 .left))),
+    )
 
 same-length-3 : tie.Need-same-length-3
 same-length-3 c = search needs

@@ -1,9 +1,6 @@
 -- `verilog_rows::put_shifted_first` meets its contract. Assumes nothing.
 use borrow.Author.Needs.{needs}
-use lib.Dec.{eqb}
-use Rattle.network.specs.Rows.{plus}
-use Rattle.text.proofs.Puts.{then-all, put-as}
-use Rattle.verilog_rows.proofs.Parts.{shifted-parts}
+use Rattle.text.proofs.Puts.{then-all}
 use Rattle.verilog_rows.proofs.put_shifted_first.Statement.{statement}
 use Rattle.verilog_rows.proofs.put_shifted_first.Tie as tie
 
@@ -40,17 +37,14 @@ same-length c = search needs
 returns : tie.Need-returns
 returns c =
     let after-put = c .before .before in
-    let after-put-operand = after-put .before .before .before .before .before in
-    let after-shift = after-put-operand .before .before .before .before in
+    let after-operand = after-put .before .before .before .before .before in
+    let after-shift = after-operand .before .before .before .before in
     let after-left = after-shift .before .before .before .before .before in
     let after-number = after-left .before .before .before .before .before in
-    let args = after-number .before .before .before .before .args in
-    put-as (shifted-parts (args .i) (args .row) (eqb (args .row .sign) plus))
-    (then-all (after-number .put-with .ensures .0)
+    then-all (after-number .put-with .ensures .0)
     (then-all (after-left .put-with2 .ensures .0)
     (then-all (after-shift .put-with3 .ensures .0)
-    (then-all (after-put-operand .put-operand .ensures .0)
-    (after-put .put .ensures)))))
+    (then-all (after-operand .put-operand .ensures .0) (after-put .put .ensures))))
 
 pub put-shifted-first-spec : {M : Type 1} → statement M
 put-shifted-first-spec =

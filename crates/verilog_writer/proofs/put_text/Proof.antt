@@ -10,38 +10,38 @@ put-module-line-requires : tie.Need-put-module-line-requires
 put-module-line-requires c κs =
     let at-start = c .before .before .before .before in
     let args = at-start .args in
-    (omega (arith, at-start .pre .0), omega (arith, at-start .pre .1, parts-length (args .rows .now) (args .n) (args .taps .now) (args .m)))
+    (at-start .pre .0 .3, omega (arith, at-start .pre .1, parts-length (args .rows .now) (args .n) (args .taps .now) (args .m)))
 
-slice-aggregate-put-numbered : tie.Need-slice-aggregate-put-numbered
-slice-aggregate-put-numbered c = search needs
-
-slice-aggregate-put-numbered-2 : tie.Need-slice-aggregate-put-numbered-2
-slice-aggregate-put-numbered-2 c = search needs
-
-put-numbered-requires : tie.Need-put-numbered-requires
-put-numbered-requires c κs =
-    let after-module = c .before .before .before .before .before in
+put-wires-requires : tie.Need-put-wires-requires
+put-wires-requires c κs =
+    let after-module = c .before .before .before in
     let at-start = after-module .before .before .before .before .before in
     let args = at-start .args in (
-      omega (arith, at-start .pre .0),
-      omega (arith, at-start .pre .1, parts-length (args .rows .now) (args .n) (args .taps .now) (args .m), after-module .put-module-line .ensures .next, after-module .put-module-line .kept .0),
-    )
-
-put-row-lines-requires : tie.Need-put-row-lines-requires
-put-row-lines-requires c κs =
-    let after-wires = c .before .before .before in
-    let after-module = after-wires .before .before .before .before .before .before in
-    let at-start = after-module .before .before .before .before .before in
-    let args = at-start .args in (
-      (omega (arith, at-start .pre .0), omega (arith, at-start .pre .0)),
+      at-start .pre .0 .1,
       omega (
         arith,
         at-start .pre .1,
         parts-length (args .rows .now) (args .n) (args .taps .now) (args .m),
         after-module .put-module-line .ensures .next,
         after-module .put-module-line .kept .0,
-        after-wires .put-numbered .ensures .next,
-        after-wires .put-numbered .kept .0,
+      ),
+    )
+
+put-row-lines-requires : tie.Need-put-row-lines-requires
+put-row-lines-requires c κs =
+    let after-wires = c .before .before .before in
+    let after-module = after-wires .before .before .before .before in
+    let at-start = after-module .before .before .before .before .before in
+    let args = at-start .args in (
+      (at-start .pre .0 .0, at-start .pre .0 .1),
+      omega (
+        arith,
+        at-start .pre .1,
+        parts-length (args .rows .now) (args .n) (args .taps .now) (args .m),
+        after-module .put-module-line .ensures .next,
+        after-module .put-module-line .kept .0,
+        after-wires .put-wires .ensures .next,
+        after-wires .put-wires .kept .0,
       ),
     )
 
@@ -49,18 +49,18 @@ put-tap-lines-requires : tie.Need-put-tap-lines-requires
 put-tap-lines-requires c κs =
     let after-rows = c .before .before .before in
     let after-wires = after-rows .before .before .before .before in
-    let after-module = after-wires .before .before .before .before .before .before in
+    let after-module = after-wires .before .before .before .before in
     let at-start = after-module .before .before .before .before .before in
     let args = at-start .args in (
-      (omega (arith, at-start .pre .0), omega (arith, at-start .pre .0)),
+      (at-start .pre .0 .2, at-start .pre .0 .3),
       omega (
         arith,
         at-start .pre .1,
         parts-length (args .rows .now) (args .n) (args .taps .now) (args .m),
         after-module .put-module-line .ensures .next,
         after-module .put-module-line .kept .0,
-        after-wires .put-numbered .ensures .next,
-        after-wires .put-numbered .kept .0,
+        after-wires .put-wires .ensures .next,
+        after-wires .put-wires .kept .0,
         after-rows .put-row-lines .ensures .next,
         after-rows .put-row-lines .kept .0,
       ),
@@ -74,7 +74,7 @@ put-requires c κs =
     let after-taps = c .before .before .before .before in
     let after-rows = after-taps .before .before .before .before in
     let after-wires = after-rows .before .before .before .before in
-    let after-module = after-wires .before .before .before .before .before .before in
+    let after-module = after-wires .before .before .before .before in
     let at-start = after-module .before .before .before .before .before in
     let args = at-start .args in
     omega (
@@ -83,8 +83,8 @@ put-requires c κs =
       parts-length (args .rows .now) (args .n) (args .taps .now) (args .m),
       after-module .put-module-line .ensures .next,
       after-module .put-module-line .kept .0,
-      after-wires .put-numbered .ensures .next,
-      after-wires .put-numbered .kept .0,
+      after-wires .put-wires .ensures .next,
+      after-wires .put-wires .kept .0,
       after-rows .put-row-lines .ensures .next,
       after-rows .put-row-lines .kept .0,
       after-taps .put-tap-lines .ensures .next,
@@ -100,11 +100,11 @@ returns c =
     let after-taps = after-end .before .before .before .before .before in
     let after-rows = after-taps .before .before .before .before in
     let after-wires = after-rows .before .before .before .before in
-    let after-module = after-wires .before .before .before .before .before .before in
+    let after-module = after-wires .before .before .before .before in
     let args = after-module .before .before .before .before .before .args in
     put-as (parts-are (args .rows .now) (args .n) (args .taps .now) (args .m))
     (then-all (after-module .put-module-line .ensures)
-    (then-all (after-wires .put-numbered .ensures)
+    (then-all (after-wires .put-wires .ensures)
     (then-all (after-rows .put-row-lines .ensures)
     (then-all (after-taps .put-tap-lines .ensures) (after-end .put .ensures)))))
 
@@ -113,9 +113,7 @@ put-text-spec =
     tie.close
     (tie.spec
     put-module-line-requires
-    slice-aggregate-put-numbered
-    slice-aggregate-put-numbered-2
-    put-numbered-requires
+    put-wires-requires
     put-row-lines-requires
     put-tap-lines-requires
     slice-aggregate-put

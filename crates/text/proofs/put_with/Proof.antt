@@ -1,9 +1,9 @@
--- `verilog_lines::put_with` meets its contract. Assumes nothing.
+-- `text::put_with` meets its contract. Assumes nothing.
 use borrow.Author.Needs.{needs}
 use native.Mathlib.Omega.{arith}
 use Rattle.text.proofs.Puts.{then-all}
-use Rattle.verilog_lines.proofs.put_with.Statement.{statement}
-use Rattle.verilog_lines.proofs.put_with.Tie as tie
+use Rattle.text.proofs.put_with.Statement.{statement}
+use Rattle.text.proofs.put_with.Tie as tie
 
 put-requires : tie.Need-put-requires
 put-requires c κs = search needs
