@@ -1,11 +1,11 @@
-pub mod Digits
--- The statements to read first:
+pub mod Claims
+pub mod Figures
 pub mod Theorem
 pub mod Room
-pub mod Example
--- What they rest on:
 pub mod Answers
 pub mod Lengths
+pub mod Expected
+pub mod Digits
 pub mod Scanning
 pub mod Parsing
 pub mod Patterns

@@ -11,7 +11,8 @@ use Rattle.text.specs.Numbers.{decimal}
 use Rattle.verilog.proofs.Same.{unequal}
 use Rattle.verilog.specs.Syntax.{Net, Assign, same}
 use Rattle.verilog.specs.Sound.{amongst, calledIn, leftIn}
-use Rattle.verilog_text.specs.Expected.{rowNet, tapNet, netsFrom, assignRows, assignTaps}
+use Rattle.verilog_text.specs.Promise.{tapNet, netsFrom}
+use Rattle.verilog_text.proofs.Expected.{rowNet, assignRows, assignTaps}
 use Rattle.verilog_text.proofs.Names.{decimal-equal, later-name}
 
 -- ---- lists of names

@@ -14,7 +14,8 @@ use Rattle.text.proofs.Readback.{decimal-back}
 use Rattle.verilog.specs.Syntax.{Net, same, netOf}
 use Rattle.verilog.specs.Sound.{netsOf}
 use Rattle.verilog.proofs.Same.{same-self}
-use Rattle.verilog_text.specs.Expected.{rowNet, tapNet, netsFrom, moduleFor}
+use Rattle.verilog_text.specs.Promise.{tapNet, netsFrom}
+use Rattle.verilog_text.proofs.Expected.{rowNet, moduleFor}
 use Rattle.verilog_text.proofs.Assigned.{Wide}
 
 pub decimal-equal : (i j : ℕ) → decimal i ≡ decimal j → i ≡ j

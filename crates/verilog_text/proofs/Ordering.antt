@@ -18,7 +18,7 @@ use Rattle.verilog.specs.Sound.{amongst, leftIn}
 use Rattle.verilog.specs.Meaning.{Settled, evaluated}
 use Rattle.verilog.proofs.Order.{usesNone, ordered}
 use Rattle.verilog.proofs.Order.{evaluated-settles}
-use Rattle.verilog_text.specs.Expected.{rowNet, rowExpression, rowRightSide, tapExpression, assignRows, assignTaps, moduleFor}
+use Rattle.verilog_text.proofs.Expected.{rowNet, rowExpression, rowRightSide, tapExpression, assignRows, assignTaps, moduleFor}
 use Rattle.verilog_text.proofs.NameLists.{names, left-rows, left-taps, in-neither, miss, other}
 use Rattle.verilog_text.proofs.Soundness.{lefts-are}
 

@@ -13,7 +13,8 @@ use Rattle.verilog.specs.Reading.{Reading, reads, andThen}
 use Rattle.verilog.specs.Tokens.{Token, name, number, mark}
 use Rattle.verilog.specs.Expressions.{run}
 use Rattle.verilog.specs.Syntax.{Net, Assign, Module, netOf, cutAt, Body, an-assign, withItem, bodyOf, Header, unclosed, outputsOf, portsOf, headerOf, restOf, readModule, moduleOf}
-use Rattle.verilog_text.specs.Expected.{rowNet, tapNet, netsFrom, rowExpression, tapExpression, assignRow, assignTap, assignRows, assignTaps, moduleFor}
+use Rattle.verilog_text.specs.Promise.{tapNet, netsFrom}
+use Rattle.verilog_text.proofs.Expected.{rowNet, rowExpression, tapExpression, assignRow, assignTap, assignRows, assignTaps, moduleFor}
 use Rattle.verilog_text.specs.Text.{verilogText}
 use Rattle.verilog_text.proofs.Scanning.{wire, rowTokens, rowAssign, tapTokens, portTokens, inputTokens, headTokens, wireTokens, rowsTokens, tapsTokens, tokens-of-text}
 

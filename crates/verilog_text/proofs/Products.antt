@@ -25,7 +25,8 @@ use Rattle.verilog.specs.Syntax.{Net, Assign}
 use Rattle.verilog.specs.Sound.{netsOf}
 use Rattle.verilog.specs.Values.{Values, patternOf}
 use Rattle.verilog.specs.Meaning.{assigned, Every, none, each, Holds, Settled}
-use Rattle.verilog_text.specs.Expected.{rowNet, tapNet, rowExpression, tapExpression, assignRow, assignTap, assignRows, assignTaps, moduleFor}
+use Rattle.verilog_text.specs.Promise.{tapNet}
+use Rattle.verilog_text.proofs.Expected.{rowNet, rowExpression, tapExpression, assignRow, assignTap, assignRows, assignTaps, moduleFor}
 use Rattle.verilog_text.proofs.Assigned.{nothing-is, shift-is, minus-is, sum-is, difference-is, reversed-is, input-is}
 use Rattle.verilog_text.proofs.Names.{row-wide, tap-wide}
 

@@ -8,25 +8,26 @@ use native.Mathlib.Omega.{arith}
 use lib.Dec.{eqb}
 use lib.IntN.{ℤ}
 use lib.ListN.{length, length-append}
+use Rattle.word.proofs.Order.{lt-or-le}
 use Rattle.network.specs.declared.Row.{Row}
 use Rattle.network.specs.declared.TapRow.{TapRow}
 use Rattle.network.specs.Rows.{Network, plus, minus, rowIn, tapRowIn}
 use Rattle.network.specs.RowRule.{RowRule, LaterRow}
 use Rattle.network.specs.TapRowRule.{TapRowRule, is-empty, is-product}
 use Rattle.network.specs.Accepted.{KeepsRules}
-use Rattle.text.specs.Ascii.{ascii}
 use Rattle.text.specs.Numbers.{decimal}
-use Rattle.word.proofs.Order.{lt-or-le}
-use Rattle.text.proofs.Decimals.{decimal-le}
 use Rattle.text.specs.Lines.{linesFrom, numberedFrom}
-use Rattle.verilog_text.specs.Text.{port, moduleLine, wireLine, rowRight, rowLine, tapRight, tapLine, verilogText}
+use Rattle.text.proofs.Decimals.{decimal-le}
+use Rattle.verilog_text.specs.Text.{rowLine, tapRight, tapLine, verilogText}
+use Rattle.verilog_text.specs.Written.{mostBytes}
+use Rattle.verilog_text.proofs.Lengths.{digitsOf, digitsFrom, later-length, text-length}
 
 -- the digits of all numbers below n, n at most 10000
 unfoldable digitsBelow : ℕ → ℕ
 digitsBelow n = n + (n - 10) + (n - 100) + (n - 1000)
 
 -- a number up to j has no more digits than j
-digits-up-to : (l j : ℕ) → l ≤ j → j < 10000 → digitsBelow j + length (decimal l) ≤ digitsBelow (suc j)
+digits-up-to : (l j : ℕ) → l ≤ j → j < 10000 → digitsBelow j + digitsOf l ≤ digitsBelow (suc j)
 unfolding digitsBelow
 digits-up-to l j h k =
     ⊎-elim (λ a. omega (arith, decimal-le 1 l (omega arith) (omega arith)))
@@ -34,29 +35,14 @@ digits-up-to l j h k =
     (λ c. ⊎-elim (λ a. omega (arith, decimal-le 3 l (omega arith) (omega arith)))
     (λ d. omega (arith, decimal-le 4 l (omega arith) (omega arith))) (lt-or-le l 1000)) (lt-or-le l 100)) (lt-or-le l 10)
 
-ports-room : (k m e : ℕ) → e ≡ k + m → e ≤ 10000 → digitsBelow k + length (numberedFrom port k m) ≤ digitsBelow e + 24 * m
+digits-room : (i n e : ℕ) → e ≡ i + n → e ≤ 10000 → digitsBelow i + digitsFrom i n ≤ digitsBelow e
 unfolding numberedFrom
-ports-room k zero e q h = let z : e ≡ k = omega arith in rw z (omega arith)
-ports-room k (suc m) e q h =
-    let n : length (port k ++ numberedFrom port (suc k) m) ≡ 24 + length (decimal k) + length (numberedFrom port (suc k) m) = simp length-append (omega arith) in
-    omega (arith, digits-up-to k k (omega arith) (omega arith), ports-room (suc k) m e (omega arith) h)
-
-wires-room : (i n e : ℕ) → e ≡ i + n → e ≤ 10000 → digitsBelow i + length (numberedFrom wireLine i n) ≤ digitsBelow e + 22 * n
-unfolding numberedFrom
-wires-room i zero e q h = let z : e ≡ i = omega arith in rw z (omega arith)
-wires-room i (suc n) e q h =
-    let l : length (wireLine i ++ numberedFrom wireLine (suc i) n) ≡ 22 + length (decimal i) + length (numberedFrom wireLine (suc i) n) = simp length-append (omega arith) in
-    omega (arith, digits-up-to i i (omega arith) (omega arith), wires-room (suc i) n e (omega arith) h)
+digits-room i zero e q h = let z : e ≡ i = omega arith in rw z (omega arith)
+digits-room i (suc n) e q h =
+    let l : digitsFrom i (suc n) ≡ digitsOf i + digitsFrom (suc i) n = length-append (decimal i) (numberedFrom decimal (suc i) n) in
+    omega (arith, digits-up-to i i (omega arith) (omega arith), digits-room (suc i) n e (omega arith) h)
 
 -- ---- rows
-
-row-right : (r : Row) (p q : Bool) → length (rowRight p q r) ≡ 12 + length (decimal (r .left)) + length (decimal (r .shift)) + length (decimal (r .right))
-row-right r true q = simp length-append (omega arith)
-row-right r false true = simp length-append (omega arith)
-row-right r false false = simp length-append (omega arith)
-
-row-length : (i : ℕ) (r : Row) → length (rowLine (suc i) r) ≡ 25 + length (decimal (suc i)) + length (decimal (r .left)) + length (decimal (r .shift)) + length (decimal (r .right))
-row-length i r = simp length-append (omega (arith, row-right r (eqb (r .sign) plus) (eqb (r .sign) minus)))
 
 pub record Small (j : ℕ) (r : Row) : Type 0 where
   pub left : r .left ≤ j
@@ -70,7 +56,7 @@ row-step : (j : ℕ) (r : Row) (n e rest : ℕ) {line : ℕ} → r .left ≤ j �
 row-step j r n e rest a b c l g h =
     omega (
       arith,
-      row-length j r,
+      later-length (suc j) r,
       digits-up-to (suc j) (suc j) (omega arith) l,
       digits-up-to (r .left) j a (omega arith),
       digits-up-to (r .right) j b (omega arith),
@@ -162,24 +148,21 @@ all-taps rows ts l h f =
     small t (is-empty w) = (omega (arith, w .row), omega (arith, w .shift))
     small t (is-product w) = (omega (arith, w .row), w .shift)
 
--- no text of a network that passes, of at most 256 taps, is longer
-pub text-room : (net : Network) (h : List ℤ) → KeepsRules net h → length (net .taps) ≤ 256 → length (verilogText net) ≤ 276457
-unfolding verilogText
+-- no text of a network that keeps the rules, of at most 256 taps, is longer
+pub text-room : (net : Network) (h : List ℤ) → KeepsRules net h → length (net .taps) ≤ 256 → length (verilogText net) ≤ mostBytes
 text-room net h p few =
     let m = length (net .taps) in
     let n = length (net .rows) in
     let zm : m ≡ 0 + m = omega arith in
     let zn : n ≡ 0 + n = omega arith in
     let top : n ≤ 4096 = p .rows-to in
-    let head : length (moduleLine m) ≡ 40 + length (numberedFrom port 0 m) = simp length-append (omega arith) in
-    let a = ports-room 0 m m zm (omega arith) in
-    let b = wires-room 0 n n zn (omega arith) in
-    let c = digits-few m few in
-    let d = digits-most n top in
-    let rows = all-rows (net .rows) (p .rows-from) top (p .rows) in
-    let taps = all-taps (net .rows) (net .taps) top few (p .taps) in
-    let e1 = length-append (moduleLine m) (numberedFrom wireLine 0 n ++ (linesFrom rowLine 0 (net .rows) ++ (linesFrom tapLine 0 (net .taps) ++ ascii "endmodule\n"))) in
-    let e2 = length-append (numberedFrom wireLine 0 n) (linesFrom rowLine 0 (net .rows) ++ (linesFrom tapLine 0 (net .taps) ++ ascii "endmodule\n")) in
-    let e3 = length-append (linesFrom rowLine 0 (net .rows)) (linesFrom tapLine 0 (net .taps) ++ ascii "endmodule\n") in
-    let e4 = length-append (linesFrom tapLine 0 (net .taps)) (ascii "endmodule\n") in
-    omega arith
+    omega (
+      arith,
+      text-length net,
+      digits-room 0 m m zm (omega arith),
+      digits-room 0 n n zn (omega arith),
+      digits-few m few,
+      digits-most n top,
+      all-rows (net .rows) (p .rows-from) top (p .rows),
+      all-taps (net .rows) (net .taps) top few (p .taps),
+    )

@@ -18,7 +18,8 @@ use Rattle.text.specs.Numbers.{numberFrom}
 use Rattle.text.proofs.Readback.{decimal-back}
 use Rattle.verilog_text.proofs.Digits.{AllDigits, no-more, a-digit, all-digits}
 use Rattle.verilog.specs.Tokens.{Token, name, number, mark, no-token, in-name, in-number, digit, classOf, scan, tokens}
-use Rattle.verilog_text.specs.Expected.{rowNet, tapNet}
+use Rattle.verilog_text.specs.Promise.{tapNet}
+use Rattle.verilog_text.proofs.Expected.{rowNet}
 use Rattle.text.specs.Lines.{linesFrom, numberedFrom}
 use Rattle.verilog_text.specs.Text.{port, wireLine, rowRight, rowLine, tapRight, tapLine, moduleLine, verilogText}
 

@@ -14,7 +14,8 @@ use Rattle.text.specs.Numbers.{decimal}
 use Rattle.verilog.specs.Syntax.{Net, netOf}
 use Rattle.verilog.specs.Values.{Values}
 use Rattle.verilog.specs.Meaning.{Every, none, each, Settled, Agree}
-use Rattle.verilog_text.specs.Expected.{netsFrom, moduleFor}
+use Rattle.verilog_text.specs.Promise.{netsFrom}
+use Rattle.verilog_text.proofs.Expected.{moduleFor}
 use Rattle.verilog_text.proofs.Products.{every-join, settled-right}
 
 every-net : (P : Net → Type 0) (c j n : ℕ) → ((i : ℕ) → j ≤ i → i < j + n → P (netOf (c ∷ decimal i) 64 true)) → Every P (netsFrom c j n)

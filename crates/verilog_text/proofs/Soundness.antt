@@ -19,7 +19,8 @@ use Rattle.text.specs.Numbers.{decimal}
 use Rattle.verilog_text.proofs.Digits.{AllDigits, no-more, a-digit, all-digits}
 use Rattle.verilog.specs.Syntax.{Assign}
 use Rattle.verilog.specs.Sound.{amongst, distinct, within, keywords, anyKeyword, closed, allClosed, calledIn, leftIn, targets, sound}
-use Rattle.verilog_text.specs.Expected.{rowNet, tapNet, netsFrom, rowExpression, rowRightSide, tapExpression, assignTap, assignRows, assignTaps, moduleFor}
+use Rattle.verilog_text.specs.Promise.{tapNet, netsFrom}
+use Rattle.verilog_text.proofs.Expected.{rowNet, rowExpression, rowRightSide, tapExpression, assignTap, assignRows, assignTaps, moduleFor}
 use Rattle.verilog_text.proofs.Scanning.{some-digit}
 use Rattle.verilog_text.proofs.NameLists.{names, called-nets, called-only, left-rows, left-taps, in-first, in-second, in-neither, hit, miss, other}
 

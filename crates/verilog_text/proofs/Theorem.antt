@@ -1,42 +1,43 @@
--- The text of a network that passes multiplies (`text-multiplies`), and does as running does (`text-as-running`). Assumes nothing.
-use mathlib.Core.Path.{_≡_, refl, sym, ap, subst, _∙_}
+-- The text of a network that keeps the rules multiplies (`text-multiplies`), and does as running does (`text-as-running`, `text-from-cleared`). Assumes nothing.
+use borrow.Author.Tests.{lt-ltb, le-ltb}
+use mathlib.Core.Path.{_≡_, refl, sym, ap, ap₂, subst, _∙_}
 use mathlib.Core.Bool.{Bool, cond}
 use mathlib.Core.List.{List, [], _∷_}
-use Prim.Native.Nat.{ℕ, suc, _≤_, _<_}
+use mathlib.Core.Logic.{⊎-elim}
+use Prim.Native.Nat.{ℕ, suc, _+_, _%_, _^_, _≤_, _<_}
 use native.Mathlib.Omega.{arith}
-use lib.IntN.{ℤ, pos, _+ℤ_, _*ℤ_, +ℤ-idl}
-use lib.ListN.{length, getD, length-map}
+use lib.IntN.{ℤ, pos, _+ℤ_, _*ℤ_, zero-*ℤ}
+use lib.ListN.{length, getD, length-map, List·getD-eq-default}
 use mir.Syntax.{w16, w64}
 use mir.Val.{SFits, toZ}
-use Rattle.refusal.specs.Answer.{given}
-use Rattle.network.specs.Rows.{Network, networkOf, tapRowAt}
-use Rattle.network.specs.Coefficients.{coefficientOf}
-use Rattle.network.specs.Check.{networkAnswer}
-use Rattle.network.specs.Accepted.{KeepsRules, Accepted}
-use Rattle.network.proofs.Passed.{given-accepted}
 use Rattle.word.proofs.Bounds.{coefficient-i32}
-use Rattle.network.proofs.Given.{coefficient-is, coefficient-within, given-length}
-use Rattle.sequence.proofs.UpTo.{length-upTo}
+use Rattle.word.proofs.Order.{lt-or-le}
+use Rattle.network.specs.Rows.{Network}
+use Rattle.network.specs.Coefficients.{coefficientOf}
+use Rattle.network.specs.Accepted.{KeepsRules}
+use Rattle.network.proofs.Given.{coefficient-is, coefficient-within}
 use Rattle.run_convolution.specs.Words.{wrapped}
 use Rattle.run_convolution.specs.Running.{sumAt, registersOf, outputsOf}
-use Rattle.run_convolution.proofs.Words.{wrapped-exact}
+use Rattle.run_convolution.proofs.Words.{wrapped-add, wrapped-lt, wrapped-exact}
 use Rattle.run_convolution.proofs.Sizes.{product-fits}
-use Rattle.run_convolution.proofs.Steps.{sum-step, next-low}
-use Rattle.run_convolution.proofs.Theorems.{Cleared}
+use Rattle.run_convolution.proofs.Steps.{next-low, next-last}
 use Rattle.verilog.specs.Reading.{Reading, reads, nothing, andThen}
 use Rattle.verilog.specs.Syntax.{Module}
 use Rattle.verilog.specs.Sound.{sound}
 use Rattle.verilog.specs.Values.{Values}
 use Rattle.verilog.specs.Meaning.{meaning, Settled, evaluated}
 use Rattle.verilog_text.specs.Text.{verilogText}
-use Rattle.verilog_text.specs.Expected.{tapNet, netsFrom, moduleFor}
-use Rattle.verilog_text.specs.Promise.{Products, Multiplies, AsRunning}
+use Rattle.verilog_text.specs.Promise.{tapNet, netsFrom, Products, Multiplies, tapOf, AsRunning, FromCleared}
+use Rattle.verilog_text.proofs.Expected.{moduleFor}
 use Rattle.verilog_text.proofs.Parsing.{module-of-text}
 use Rattle.verilog_text.proofs.Soundness.{text-sound}
 use Rattle.verilog_text.proofs.Products.{settled-right}
 use Rattle.verilog_text.proofs.Settling.{settled-alone}
-use Rattle.verilog_text.proofs.Room.{text-room}
 use Rattle.verilog_text.proofs.Ordering.{text-in-order}
+
+-- a sum of any number and a word, as a word
+wrapped-plus : (n : ℕ) (z : ℤ) → (n + wrapped z) % 2 ^ 64 ≡ wrapped (pos n +ℤ z)
+wrapped-plus n z = let e : (n + wrapped z) % 2 ^ 64 ≡ (n % 2 ^ 64 + wrapped z) % 2 ^ 64 = omega arith in e ∙ wrapped-add (pos n) z
 
 module _ (net : Network) (h : List ℤ) (passed : KeepsRules net h) where
   many : length h ≡ length (net .taps)
@@ -74,43 +75,45 @@ module _ (net : Network) (h : List ℤ) (passed : KeepsRules net h) where
         products = text-products;
       }
 
-  -- whatever settles the text's module does as running does
-  module _ (x : ℤ) (fits : SFits w16 x) (some : 1 ≤ length h) (few : length h ≤ 256) (r : List ℕ) (clear : Cleared r) where
-    from-clear : (k : ℕ) → k < 256 → sumAt h x r k ≡ wrapped (getD h k (pos 0) *ℤ x)
-    from-clear k l =
-        sum-step h x r k l ∙ ap (λ (n : ℕ). wrapped (pos n +ℤ getD h k (pos 0) *ℤ x)) (clear k) ∙ ap wrapped (+ℤ-idl (getD h k (pos 0) *ℤ x))
+  same-module : (m : Module) → meaning (verilogText net) ≡ reads m → moduleFor net ≡ m
+  same-module m e = let q : reads (moduleFor net) ≡ reads m = sym text-meant ∙ e in cc
 
-    running-is : (v : Values) → Settled (moduleFor net) x v → AsRunning h r x v
-    unfolding outputsOf registersOf
-    running-is v s =
-        record {
-          output = ap (λ (n : ℕ). toZ w64 n ∷ []) (from-clear 0 (omega arith) ∙ sym (tap-pattern x fits v s 0 (omega arith)));
-          registers = λ k l. next-low h x r k (omega arith) ∙ from-clear (suc k) (omega arith) ∙ sym (tap-pattern x fits v s (suc k) l);
-        }
+  -- ---- whatever settles the text's module does as running does
+  module _ (m : Module) (e : meaning (verilogText net) ≡ reads m) (x : ℤ) (fits : SFits w16 x) (v : Values) (s : Settled m x v) where
+    settled : Settled (moduleFor net) x v
+    settled = subst (λ (w : Module). Settled w x v) (sym (same-module m e)) s
 
-    same-module : (m : Module) → meaning (verilogText net) ≡ reads m → moduleFor net ≡ m
-    same-module m e = let q : reads (moduleFor net) ≡ reads m = sym text-meant ∙ e in cc
+    -- t(k), or 0 past the last tap, is h(k)·x, h(k) being 0 past the last
+    tap-is : (k : ℕ) → tapOf (length h) v k ≡ wrapped (getD h k (pos 0) *ℤ x)
+    tap-is k =
+        ⊎-elim (λ (a : k < length h). rw (lt-ltb k (length h) a) (tap-pattern x fits v settled k a))
+        (λ (b : length h ≤ k). rw (le-ltb k (length h) b) (sym (ap (λ (c : ℤ). wrapped (c *ℤ x)) (List·getD-eq-default h (pos 0) b) ∙ ap wrapped (zero-*ℤ x))))
+        (lt-or-le k (length h))
 
-    pub text-as-running : (m : Module) → meaning (verilogText net) ≡ reads m → (v : Values) → Settled m x v → AsRunning h r x v
-    text-as-running m e v s = running-is v (subst (λ (w : Module). Settled w x v) (sym (same-module m e)) s)
+    module _ (r : List ℕ) where
+      sum-is : (k : ℕ) → sumAt h x r k ≡ (getD r k 0 + tapOf (length h) v k) % 2 ^ 64
+      unfolding sumAt
+      sum-is k = sym (ap (λ (t : ℕ). (getD r k 0 + t) % 2 ^ 64) (tap-is k) ∙ wrapped-plus (getD r k 0) (getD h k (pos 0) *ℤ x))
 
--- ---- of a network that an entry accepts, from its two tables
+      pub text-as-running : AsRunning h r x v
+      unfolding outputsOf registersOf
+      text-as-running =
+          record {
+            output = ap (λ (n : ℕ). toZ w64 n ∷ []) (sum-is 0);
+            registers = λ k l. next-low h x r k l ∙ sum-is (suc k);
+            last = next-last h x r;
+          }
 
-module _ (short : Bool) (rows : List ℕ) (n : ℕ) (taps : List ℕ) (m : ℕ) (h : List ℤ) (e : networkAnswer short rows n taps m ≡ given h) where
-  abbrev net : Network
-  net = networkOf rows n taps m
+      module _ (some : 1 ≤ length h) (clear : (k : ℕ) → getD r k 0 ≡ 0) where
+        from-zero : (k : ℕ) → (getD r k 0 + tapOf (length h) v k) % 2 ^ 64 ≡ tapOf (length h) v k
+        from-zero k =
+            let t : tapOf (length h) v k < 2 ^ 64 = omega (arith, tap-is k, wrapped-lt (getD h k (pos 0) *ℤ x)) in
+            ap (λ (n : ℕ). (n + tapOf (length h) v k) % 2 ^ 64) (clear k) ∙ omega (arith, t)
 
-  accepted : Accepted short rows n taps m h
-  accepted = given-accepted short rows n taps m h e
-
-  pub accepted-multiplies : Multiplies (verilogText net) h
-  accepted-multiplies = text-multiplies net h (accepted .passed)
-
-  pub accepted-as-running : (x : ℤ) → SFits w16 x → (r : List ℕ) → Cleared r → (w : Module) → meaning (verilogText net) ≡ reads w
-      → (v : Values) → Settled w x v → AsRunning h r x v
-  accepted-as-running x fits r clear =
-      let k : length h ≡ m = given-length short rows n taps m h e in
-      text-as-running net h (accepted .passed) x fits (omega (arith, accepted .taps-from)) (omega (arith, accepted .taps-to)) r clear
-
-  pub accepted-room : length (verilogText net) ≤ 276457
-  accepted-room = text-room net h (accepted .passed) (omega (arith, accepted .taps-to, length-upTo m (tapRowAt taps)))
+        pub text-from-cleared : FromCleared h x v r
+        text-from-cleared =
+            let first : tapOf (length h) v 0 ≡ v (tapNet 0) = rw (lt-ltb 0 (length h) (omega arith)) in
+            record {
+              output = text-as-running .output ∙ ap (λ (n : ℕ). toZ w64 n ∷ []) (from-zero 0 ∙ first);
+              registers = λ k l. text-as-running .registers k l ∙ from-zero (suc k);
+            }

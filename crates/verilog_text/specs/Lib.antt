@@ -1,4 +1,5 @@
 pub mod Text
 pub mod Written
-pub mod Expected
 pub mod Promise
+pub mod Claims
+pub mod Figures

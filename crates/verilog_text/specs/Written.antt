@@ -21,6 +21,10 @@ verilogAnswer rows rowCount taps tapCount room =
     andThen (networkAnswer false rows rowCount taps tapCount)
     (λ (h : List ℤ). refuseIf (ltb room (length (textIn rows rowCount taps tapCount))) 13 (given (length (textIn rows rowCount taps tapCount))))
 
+-- the bytes of the longest text, that of a network of 4,096 rows and 256 taps: an area of so many has room for any
+abbrev pub mostBytes : ℕ
+mostBytes = 276457
+
 -- writing the network that rows and taps hold into the lent area answers a and leaves area′: the contract of `write_verilog`, and what every claim about it
 -- speaks of. "area unchanged" on a refusal
 pub record VerilogWritten (rows : List ℕ) (rowCount : ℕ) (taps : List ℕ) (tapCount : ℕ) (area : List ℕ) (a : Answer ℕ) (area′ : List ℕ) : Type 0 where

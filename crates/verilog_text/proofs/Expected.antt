@@ -1,4 +1,4 @@
--- The module that a network's text describes. Definitions only.
+-- The module that a network's text describes. Assumes nothing.
 use mathlib.Core.Bool.{Bool, true, false}
 use mathlib.Core.List.{List, [], _∷_, _++_}
 use Prim.Native.Nat.{ℕ, zero, suc}
@@ -10,19 +10,12 @@ use Rattle.network.specs.Rows.{Network, plus, minus}
 use Rattle.text.specs.Ascii.{ascii}
 use Rattle.text.specs.Numbers.{decimal}
 use Rattle.verilog.specs.Expressions.{Expression, net, literal, negated, sum, difference, shifted}
-use Rattle.verilog.specs.Syntax.{Net, Assign, Module, netOf}
+use Rattle.verilog.specs.Syntax.{Assign, Module, netOf}
+use Rattle.verilog_text.specs.Promise.{tapNet, netsFrom}
 
--- n0, n1, .. and t0, t1, ..
+-- n0, n1, ..
 abbrev pub rowNet : ℕ → List ℕ
 rowNet i = 110 ∷ decimal i
-
-abbrev pub tapNet : ℕ → List ℕ
-tapNet k = 116 ∷ decimal k
-
--- n nets of 64 bits, signed, from number i on
-abbrev pub netsFrom : ℕ → ℕ → ℕ → List Net
-netsFrom c i zero = []
-netsFrom c i (suc n) = netOf (c ∷ decimal i) 64 true ∷ netsFrom c (suc i) n
 
 abbrev pub lifting : ℕ → ℕ → Expression
 lifting i s = shifted (net (rowNet i)) (literal s)
