@@ -10,10 +10,9 @@ use lib.ListN.{length, length-append}
 use Rattle.network.specs.declared.Row.{Row}
 use Rattle.network.specs.declared.TapRow.{TapRow}
 use Rattle.network.specs.Rows.{Network, plus, minus}
-use Rattle.text.specs.Ascii.{ascii}
 use Rattle.text.specs.Numbers.{decimal}
 use Rattle.text.specs.Lines.{linesFrom, numberedFrom}
-use Rattle.verilog_text.specs.Text.{port, moduleLine, wireLine, rowRight, laterLine, rowLine, tapRight, tapLine, verilogText}
+use Rattle.verilog_text.specs.Text.{port, moduleLine, wireLine, rowRight, laterLine, rowLine, tapRight, tapLine, lastLine, verilogText}
 
 -- ---- the digits of a number, and of n numbers from i on
 abbrev pub digitsOf : ℕ → ℕ
@@ -83,14 +82,14 @@ unfolding verilogText
 text-parts net =
     let m = length (net .taps) in
     let n = length (net .rows) in
-    let taps = linesFrom tapLine 0 (net .taps) ++ ascii "endmodule\n" in
+    let taps = linesFrom tapLine 0 (net .taps) ++ lastLine in
     let rows = linesFrom rowLine 0 (net .rows) ++ taps in
     omega (
       arith,
       length-append (moduleLine m) (numberedFrom wireLine 0 n ++ rows),
       length-append (numberedFrom wireLine 0 n) rows,
       length-append (linesFrom rowLine 0 (net .rows)) taps,
-      length-append (linesFrom tapLine 0 (net .taps)) (ascii "endmodule\n"),
+      length-append (linesFrom tapLine 0 (net .taps)) (lastLine),
     )
 
 pub text-length : (net : Network) → length (verilogText net)

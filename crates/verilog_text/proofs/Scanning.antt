@@ -21,7 +21,7 @@ use Rattle.verilog.specs.Tokens.{Token, name, number, mark, no-token, in-name, 
 use Rattle.verilog_text.specs.Promise.{tapNet}
 use Rattle.verilog_text.proofs.Expected.{rowNet}
 use Rattle.text.specs.Lines.{linesFrom, numberedFrom}
-use Rattle.verilog_text.specs.Text.{port, wireLine, rowRight, rowLine, tapRight, tapLine, moduleLine, verilogText}
+use Rattle.verilog_text.specs.Text.{port, wireLine, rowRight, rowLine, tapRight, tapLine, moduleLine, lastLine, verilogText}
 
 -- ---- digits
 
@@ -183,7 +183,7 @@ unfolding scan classOf
 scan-head m ys =
     rw (append-assoc (numberedFrom port 0 m) (ascii ");\n") ys, scan-ports (ascii "x") 0 m ys, append-assoc (portTokens 0 m) (mark 41 ∷ []) (mark 59 ∷ scan no-token ys))
 
-scan-end : scan no-token (ascii "endmodule\n") ≡ name (ascii "endmodule") ∷ []
+scan-end : scan no-token lastLine ≡ name (ascii "endmodule") ∷ []
 unfolding scan classOf
 scan-end = refl
 
@@ -192,7 +192,7 @@ scan-end = refl
 pub tokens-of-text : (net : Network) → tokens (verilogText net) ≡ textTokens net
 unfolding verilogText
 tokens-of-text net =
-    let end = ascii "endmodule\n" in
+    let end = lastLine in
     scan-head (length (net .taps)) (numberedFrom wireLine 0 (length (net .rows)) ++ (linesFrom rowLine 0 (net .rows) ++ (linesFrom tapLine 0 (net .taps) ++ end)))
     ∙ ap (λ (ts : List Token). headTokens (length (net .taps)) ++ (mark 59 ∷ ts))
     (scan-wires 0 (length (net .rows)) (linesFrom rowLine 0 (net .rows) ++ (linesFrom tapLine 0 (net .taps) ++ end))

@@ -51,9 +51,12 @@ tapRight false false t = ascii "0"
 abbrev pub tapLine : ℕ → TapRow → List ℕ
 tapLine k t = ascii "assign t" ++ (decimal k ++ (ascii " = " ++ (tapRight (eqb (t .sign) plus) (eqb (t .sign) minus) t ++ ascii ";\n")))
 
--- "one module per network, each line closed by a line feed": the module line, the wires, "then one assign a line for the rows and then the taps, in order. ..
--- The last line is `endmodule`"
+-- "The last line is `endmodule`"
+abbrev pub lastLine : List ℕ
+lastLine = ascii "endmodule\n"
+
+-- "one module per network, each line closed by a line feed": the module line, the wires, "then one assign a line for the rows and then the taps, in order"
 unfoldable pub verilogText : Network → List ℕ
 verilogText net =
     moduleLine (length (net .taps))
-    ++ (numberedFrom wireLine 0 (length (net .rows)) ++ (linesFrom rowLine 0 (net .rows) ++ (linesFrom tapLine 0 (net .taps) ++ ascii "endmodule\n")))
+    ++ (numberedFrom wireLine 0 (length (net .rows)) ++ (linesFrom rowLine 0 (net .rows) ++ (linesFrom tapLine 0 (net .taps) ++ lastLine)))

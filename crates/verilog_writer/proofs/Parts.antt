@@ -6,9 +6,8 @@ use native.Mathlib.Omega.{arith}
 use lib.ListN.{length}
 use Rattle.sequence.proofs.UpTo.{length-upTo}
 use Rattle.network.specs.Rows.{rowAt, tapRowAt, rowsOf, tapRowsOf, networkOf}
-use Rattle.text.specs.Ascii.{ascii}
 use Rattle.text.specs.Lines.{linesFrom, numberedFrom}
-use Rattle.verilog_text.specs.Text.{moduleLine, wireLine, rowLine, tapLine, verilogText}
+use Rattle.verilog_text.specs.Text.{moduleLine, wireLine, rowLine, tapLine, lastLine, verilogText}
 use Rattle.verilog_text.specs.Written.{textIn}
 use Rattle.verilog_text.proofs.Lengths.{text-parts}
 
@@ -21,10 +20,10 @@ module _ (rows : List ℕ) (n : ℕ) (taps : List ℕ) (m : ℕ) where
 
   -- the lines of the text after the module line
   abbrev linesOf : ℕ → List ℕ
-  linesOf k = numberedFrom wireLine 0 k ++ (linesFrom rowLine 0 (rowsOf rows n) ++ (linesFrom tapLine 0 (tapRowsOf taps m) ++ ascii "endmodule\n"))
+  linesOf k = numberedFrom wireLine 0 k ++ (linesFrom rowLine 0 (rowsOf rows n) ++ (linesFrom tapLine 0 (tapRowsOf taps m) ++ lastLine))
 
   pub parts-are : textIn rows n taps m
-      ≡ moduleLine m ++ (numberedFrom wireLine 0 n ++ (linesFrom rowLine 0 (rowsOf rows n) ++ (linesFrom tapLine 0 (tapRowsOf taps m) ++ ascii "endmodule\n")))
+      ≡ moduleLine m ++ (numberedFrom wireLine 0 n ++ (linesFrom rowLine 0 (rowsOf rows n) ++ (linesFrom tapLine 0 (tapRowsOf taps m) ++ lastLine)))
   unfolding verilogText
   parts-are = ap₂ (λ (j k : ℕ). moduleLine j ++ linesOf k) taps-counted rows-counted
 
