@@ -24,7 +24,7 @@
  *   stack: fir_check            1216
  *   stack: fir_coefficients     1280
  *   stack: fir_run              7744
- *   stack: fir_verilog          1344 */
+ *   stack: fir_verilog           320 */
 #ifndef FIR_H
 #define FIR_H
 

@@ -2,14 +2,14 @@
 use mathlib.Core.Path.{refl}
 use Rattle.verilog.specs.Tokens.{scan, classOf}
 use Rattle.verilog.specs.Expressions.{run}
-use Rattle.verilog.specs.Syntax.{cutAt, outputsOf, bodyOf, moduleOf}
+use Rattle.verilog.specs.Syntax.{cutAt, outputNets, bodyOf, moduleOf}
 use Rattle.verilog.specs.Sound.{closed, sound}
-use Rattle.verilog.specs.Values.{widthOf, signedOf, valueOf}
+use Rattle.verilog.specs.Values.{widthOf, signedOf, valueAt}
 use Rattle.verilog.specs.Meaning.{assigned, inOrder}
 use Rattle.verilog.specs.Samples.{RulesAtWork}
 
 pub rules-at-work : RulesAtWork
-unfolding scan classOf run cutAt outputsOf bodyOf moduleOf closed sound widthOf signedOf valueOf assigned inOrder
+unfolding scan classOf run cutAt outputNets bodyOf moduleOf closed sound widthOf signedOf valueAt assigned inOrder
 rules-at-work = record {
   sum-in-a-shift = refl;
   minus-before-shift = refl;

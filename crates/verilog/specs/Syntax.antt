@@ -6,7 +6,7 @@ use Prim.Native.Nat.{ℕ, suc, _+_, _*_}
 use lib.Dec.{eqb}
 use lib.ListN.{length}
 use Rattle.text.specs.Ascii.{ascii}
-use Rattle.verilog.specs.Reading.{Reading, reads, nothing, andThen}
+use Rattle.verilog.specs.Reading.{Reading, reads, nothing, whenRead}
 use Rattle.verilog.specs.Tokens.{Token, name, number, mark, tokens}
 use Rattle.verilog.specs.Expressions.{Expression, Parsed, parsed, failed, want-shifts, run, isMark, rest}
 
@@ -85,9 +85,9 @@ abbrev pub afterNumber : {A : Type 0} → (ℕ → List Token → Reading A) →
 afterNumber f [] = nothing
 afterNumber f (t ∷ ts) = numberAt f t ts
 
-abbrev pub ended : {A : Type 0} → A → List Token → Reading A
-ended a [] = reads a
-ended a (t ∷ ts) = nothing
+abbrev pub atEnd : {A : Type 0} → A → List Token → Reading A
+atEnd a [] = reads a
+atEnd a (t ∷ ts) = nothing
 
 abbrev pub startsWith : List ℕ → List Token → Bool
 startsWith s [] = false
@@ -99,7 +99,7 @@ abbrev pub netOf : List ℕ → ℕ → Bool → Net
 netOf s w g = record { called = s; width = w; signed = g }
 
 abbrev pub ranged : Bool → List Token → Reading Net
-ranged g ts = afterMark 91 (afterNumber (λ h. afterMark 58 (afterNumber (λ l. whenTrue (eqb l 0) (afterMark 93 (afterName (λ s. ended (netOf s (suc h) g)))))))) ts
+ranged g ts = afterMark 91 (afterNumber (λ h. afterMark 58 (afterNumber (λ l. whenTrue (eqb l 0) (afterMark 93 (afterName (λ s. atEnd (netOf s (suc h) g)))))))) ts
 
 abbrev pub declaredBy : Bool → List Token → Reading Net
 declaredBy true ts = ranged true (rest ts)
@@ -114,11 +114,11 @@ declared ts = declaredBy (startsWith (ascii "signed") ts) ts
 abbrev pub unclosed : List Token → Reading (List Token)
 unclosed [] = nothing
 unclosed (t ∷ []) = cond (isMark 41 t) (reads []) nothing
-unclosed (t ∷ u ∷ ts) = andThen (unclosed (u ∷ ts)) (λ ws. reads (t ∷ ws))
+unclosed (t ∷ u ∷ ts) = whenRead (unclosed (u ∷ ts)) (λ ws. reads (t ∷ ws))
 
-unfoldable pub outputsOf : List (List Token) → Reading (List Net)
-outputsOf [] = reads []
-outputsOf (p ∷ ps) = andThen (afterWord (ascii "output") declared p) (λ n. andThen (outputsOf ps) (λ ns. reads (n ∷ ns)))
+unfoldable pub outputNets : List (List Token) → Reading (List Net)
+outputNets [] = reads []
+outputNets (p ∷ ps) = whenRead (afterWord (ascii "output") declared p) (λ n. whenRead (outputNets ps) (λ ns. reads (n ∷ ns)))
 
 pub record Header : Type 0 where
   pub called : List ℕ
@@ -127,10 +127,10 @@ pub record Header : Type 0 where
 
 abbrev pub portsOf : List ℕ → Pieces → Reading Header
 portsOf s p =
-    andThen (afterWord (ascii "input") declared (p .first)) (λ n. andThen (outputsOf (p .rest)) (λ ns. reads (record { called = s; input = n; outputs = ns })))
+    whenRead (afterWord (ascii "input") declared (p .first)) (λ n. whenRead (outputNets (p .rest)) (λ ns. reads (record { called = s; input = n; outputs = ns })))
 
 abbrev pub headerOf : List Token → Reading Header
-headerOf ts = afterWord (ascii "module") (afterName (λ s. afterMark 40 (λ us. andThen (unclosed us) (λ ws. portsOf s (cutAt 44 ws))))) ts
+headerOf ts = afterWord (ascii "module") (afterName (λ s. afterMark 40 (λ us. whenRead (unclosed us) (λ ws. portsOf s (cutAt 44 ws))))) ts
 
 -- ---- the other lines
 
@@ -139,11 +139,11 @@ pub data Item : Type 0 where
   an-assign : Assign → Item
 
 abbrev pub assignOf : List ℕ → Parsed → Reading Item
-assignOf s (parsed e ts) = ended (an-assign (record { left = s; right = e })) ts
+assignOf s (parsed e ts) = atEnd (an-assign (record { left = s; right = e })) ts
 assignOf s failed = nothing
 
 abbrev pub eitherItem : Bool → List Token → Reading Item
-eitherItem true ts = andThen (declared (rest ts)) (λ n. reads (a-wire n))
+eitherItem true ts = whenRead (declared (rest ts)) (λ n. reads (a-wire n))
 eitherItem false ts = afterWord (ascii "assign") (afterName (λ s. afterMark 61 (λ us. assignOf s (run (8 + 8 * length us) want-shifts us)))) ts
 
 abbrev pub itemOf : List Token → Reading Item
@@ -164,16 +164,16 @@ withItem b (an-assign a) = beforeAssigns (b .wires) (b .assigns) a
 
 -- statements up to `endmodule`, which no `;` follows
 unfoldable pub bodyOf : List Token → List (List Token) → Reading Body
-bodyOf p [] = afterWord (ascii "endmodule") (ended (record { wires = []; assigns = [] })) p
-bodyOf p (q ∷ qs) = andThen (bodyOf q qs) (λ b. andThen (itemOf p) (withItem b))
+bodyOf p [] = afterWord (ascii "endmodule") (atEnd (record { wires = []; assigns = [] })) p
+bodyOf p (q ∷ qs) = whenRead (bodyOf q qs) (λ b. whenRead (itemOf p) (withItem b))
 
 abbrev pub restOf : Header → List (List Token) → Reading Module
 restOf h [] = nothing
 restOf h (p ∷ ps) =
-    andThen (bodyOf p ps) (λ b. reads (record { called = h .called; input = h .input; outputs = h .outputs; wires = b .wires; assigns = b .assigns }))
+    whenRead (bodyOf p ps) (λ b. reads (record { called = h .called; input = h .input; outputs = h .outputs; wires = b .wires; assigns = b .assigns }))
 
 abbrev pub readModule : Pieces → Reading Module
-readModule p = andThen (headerOf (p .first)) (λ h. restOf h (p .rest))
+readModule p = whenRead (headerOf (p .first)) (λ h. restOf h (p .rest))
 
 unfoldable pub moduleOf : List ℕ → Reading Module
 moduleOf text = readModule (cutAt 59 (tokens text))

@@ -3,9 +3,9 @@ use Prim.Native.Nat.{ℕ, _+_, _*_}
 use Rattle.text.specs.Inner.{numberBytes}
 
 -- the assign of a row: 25 bytes beside four numbers
-abbrev pub rowLineBytes : ℕ
-rowLineBytes = 25 + 4 * numberBytes
+abbrev pub rowAssignBytes : ℕ
+rowAssignBytes = 25 + 4 * numberBytes
 
 -- the assign of a tap: 22 bytes beside three numbers
-abbrev pub tapLineBytes : ℕ
-tapLineBytes = 22 + 3 * numberBytes
+abbrev pub tapAssignBytes : ℕ
+tapAssignBytes = 22 + 3 * numberBytes

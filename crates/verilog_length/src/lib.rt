@@ -6,8 +6,8 @@ ghost use Rattle.network.specs.Rows.{rowsOf, tapRowsOf, networkOf, rowTable, ta
 ghost use Rattle.text.specs.Numbers.{decimal};
 ghost use Rattle.text.specs.Lines.{linesFrom, numberedFrom};
 ghost use Rattle.text.specs.Inner.{numberBytes};
-ghost use Rattle.verilog_text.specs.Text.{rowLine, tapLine, verilogText};
-ghost use Rattle.verilog_length.specs.Inner.{rowLineBytes, tapLineBytes};
+ghost use Rattle.verilog_text.specs.Text.{rowAssign, tapAssign, verilogText};
+ghost use Rattle.verilog_length.specs.Inner.{rowAssignBytes, tapAssignBytes};
 use network::Row;
 use network::TapRow;
 use text::digits;
@@ -28,7 +28,7 @@ fn digits_below(n: usize) -> usize
 
 // The assign of row i.
 fn row_bytes(i: u32, row: Row) -> usize
-    ensures { λ r. ⌜ (r ≡ length (rowLine i row)) × (r ≤ rowLineBytes) ⌝ }
+    ensures { λ r. ⌜ (r ≡ length (rowAssign i row)) × (r ≤ rowAssignBytes) ⌝ }
 {
     if i == 0 {
         return 15;
@@ -39,7 +39,7 @@ fn row_bytes(i: u32, row: Row) -> usize
 // The assigns of the first n rows.
 fn rows_bytes(rows: &[u32], n: usize) -> usize
     requires { ⌜ (rowTable ≤ length (now rows)) × (n ≤ 4096) ⌝ }
-    ensures { λ r. ⌜ (r ≡ length (linesFrom rowLine 0 (rowsOf (now (rows .entry)) n))) × (r ≤ rowLineBytes * n) ⌝ }
+    ensures { λ r. ⌜ (r ≡ length (linesFrom rowAssign 0 (rowsOf (now (rows .entry)) n))) × (r ≤ rowAssignBytes * n) ⌝ }
 {
     let mut count: usize = 0;
     let mut i: usize = 0;
@@ -52,7 +52,7 @@ fn rows_bytes(rows: &[u32], n: usize) -> usize
 
 // The assign of tap k.
 fn tap_bytes(k: u32, tap: TapRow) -> usize
-    ensures { λ r. ⌜ (r ≡ length (tapLine k tap)) × (r ≤ tapLineBytes) ⌝ }
+    ensures { λ r. ⌜ (r ≡ length (tapAssign k tap)) × (r ≤ tapAssignBytes) ⌝ }
 {
     let number = digits(k);
     if tap.sign == network::PLUS {
@@ -67,7 +67,7 @@ fn tap_bytes(k: u32, tap: TapRow) -> usize
 // The assigns of the first m taps.
 fn taps_bytes(taps: &[u32], m: usize) -> usize
     requires { ⌜ (tapTable ≤ length (now taps)) × (m ≤ 256) ⌝ }
-    ensures { λ r. ⌜ (r ≡ length (linesFrom tapLine 0 (tapRowsOf (now (taps .entry)) m))) × (r ≤ tapLineBytes * m) ⌝ }
+    ensures { λ r. ⌜ (r ≡ length (linesFrom tapAssign 0 (tapRowsOf (now (taps .entry)) m))) × (r ≤ tapAssignBytes * m) ⌝ }
 {
     let mut count: usize = 0;
     let mut k: usize = 0;

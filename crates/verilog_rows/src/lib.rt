@@ -7,7 +7,7 @@ ghost use Rattle.network.specs.Rows.{rowsOf, rowTable};
 ghost use Rattle.text.specs.Numbers.{decimal};
 ghost use Rattle.text.specs.Lines.{linesFrom, numberedFrom};
 ghost use Rattle.text.specs.Inner.{PutAll};
-ghost use Rattle.verilog_text.specs.Text.{wireLine, rowLine};
+ghost use Rattle.verilog_text.specs.Text.{wireLine, rowAssign};
 ghost use Rattle.verilog_rows.specs.Inner.{operand, shiftedFirst, rightFirst, laterBytes};
 use network::Row;
 use text::put;
@@ -50,8 +50,8 @@ fn put_right_first(out: &mut [u8], at: usize, i: u32, row: Row) -> usize
 }
 
 fn put_row_line(out: &mut [u8], at: usize, i: u32, row: Row) -> usize
-    requires { ⌜ at + length (rowLine i row) ≤ length (now out) ⌝ }
-    ensures { λ r. ⌜ PutAll (now (out .entry)) at (rowLine i row) (now (out .exit)) r ⌝ }
+    requires { ⌜ at + length (rowAssign i row) ≤ length (now out) ⌝ }
+    ensures { λ r. ⌜ PutAll (now (out .entry)) at (rowAssign i row) (now (out .exit)) r ⌝ }
 {
     if i == 0 {
         return put(out, at, b"assign n0 = x;\n");
@@ -83,8 +83,8 @@ pub fn put_wires(out: &mut [u8], at: usize, n: usize) -> usize
 // The assigns of the first n rows, by number.
 pub fn put_row_lines(out: &mut [u8], at: usize, rows: &[u32], n: usize) -> usize
     requires { ⌜ (rowTable ≤ length (now rows)) × (n ≤ 4096) ⌝ }
-    requires { ⌜ at + length (linesFrom rowLine 0 (rowsOf (now rows) n)) ≤ length (now out) ⌝ }
-    ensures { λ r. ⌜ PutAll (now (out .entry)) at (linesFrom rowLine 0 (rowsOf (now (rows .entry)) n)) (now (out .exit)) r ⌝ }
+    requires { ⌜ at + length (linesFrom rowAssign 0 (rowsOf (now rows) n)) ≤ length (now out) ⌝ }
+    ensures { λ r. ⌜ PutAll (now (out .entry)) at (linesFrom rowAssign 0 (rowsOf (now (rows .entry)) n)) (now (out .exit)) r ⌝ }
 {
     let mut to = at;
     let mut i: usize = 0;

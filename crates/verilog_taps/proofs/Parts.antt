@@ -8,7 +8,7 @@ use Rattle.network.specs.declared.TapRow.{TapRow}
 use Rattle.network.specs.Rows.{plus, minus}
 use Rattle.text.specs.Ascii.{ascii}
 use Rattle.text.specs.Numbers.{decimal}
-use Rattle.verilog_text.specs.Text.{tapLine}
+use Rattle.verilog_text.specs.Text.{tapAssign}
 use Rattle.verilog_taps.specs.Inner.{tapBy}
 
 pub product-parts : (k : ℕ) (t : TapRow) → tapBy true false k t
@@ -23,11 +23,11 @@ pub empty-parts : (k : ℕ) (t : TapRow) → tapBy false false k t ≡ (ascii "a
 empty-parts k t = simp append-assoc
 
 module _ (k : ℕ) (t : TapRow) where
-  pub tap-positive : t .sign ≡ plus → tapLine k t ≡ tapBy true false k t
+  pub tap-positive : t .sign ≡ plus → tapAssign k t ≡ tapBy true false k t
   tap-positive e = rw (eq-eqb (t .sign) plus e)
 
-  pub tap-negative : (t .sign ≡ plus → ⊥) → t .sign ≡ minus → tapLine k t ≡ tapBy false true k t
+  pub tap-negative : (t .sign ≡ plus → ⊥) → t .sign ≡ minus → tapAssign k t ≡ tapBy false true k t
   tap-negative f e = rw (ne-eqb (t .sign) plus f, eq-eqb (t .sign) minus e)
 
-  pub tap-empty : (t .sign ≡ plus → ⊥) → (t .sign ≡ minus → ⊥) → tapLine k t ≡ tapBy false false k t
+  pub tap-empty : (t .sign ≡ plus → ⊥) → (t .sign ≡ minus → ⊥) → tapAssign k t ≡ tapBy false false k t
   tap-empty f g = rw (ne-eqb (t .sign) plus f, ne-eqb (t .sign) minus g)

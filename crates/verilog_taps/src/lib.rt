@@ -6,7 +6,7 @@ ghost use lib.ListN.{length};
 ghost use Rattle.network.specs.Rows.{tapRowsOf, tapTable};
 ghost use Rattle.text.specs.Lines.{linesFrom, numberedFrom};
 ghost use Rattle.text.specs.Inner.{PutAll};
-ghost use Rattle.verilog_text.specs.Text.{port, tapLine};
+ghost use Rattle.verilog_text.specs.Text.{port, tapAssign};
 ghost use Rattle.verilog_taps.specs.Inner.{tapBy, productBytes, negativeBytes, emptyBytes};
 use network::TapRow;
 use text::put;
@@ -44,8 +44,8 @@ fn put_empty(out: &mut [u8], at: usize, k: u32, tap: TapRow) -> usize
 }
 
 fn put_tap_line(out: &mut [u8], at: usize, k: u32, tap: TapRow) -> usize
-    requires { ⌜ at + length (tapLine k tap) ≤ length (now out) ⌝ }
-    ensures { λ r. ⌜ PutAll (now (out .entry)) at (tapLine k tap) (now (out .exit)) r ⌝ }
+    requires { ⌜ at + length (tapAssign k tap) ≤ length (now out) ⌝ }
+    ensures { λ r. ⌜ PutAll (now (out .entry)) at (tapAssign k tap) (now (out .exit)) r ⌝ }
 {
     if tap.sign == network::PLUS {
         return put_product(out, at, k, tap);
@@ -73,8 +73,8 @@ pub fn put_ports(out: &mut [u8], at: usize, m: usize) -> usize
 // The assigns of the first m taps, by number.
 pub fn put_tap_lines(out: &mut [u8], at: usize, taps: &[u32], m: usize) -> usize
     requires { ⌜ (tapTable ≤ length (now taps)) × (m ≤ 256) ⌝ }
-    requires { ⌜ at + length (linesFrom tapLine 0 (tapRowsOf (now taps) m)) ≤ length (now out) ⌝ }
-    ensures { λ r. ⌜ PutAll (now (out .entry)) at (linesFrom tapLine 0 (tapRowsOf (now (taps .entry)) m)) (now (out .exit)) r ⌝ }
+    requires { ⌜ at + length (linesFrom tapAssign 0 (tapRowsOf (now taps) m)) ≤ length (now out) ⌝ }
+    ensures { λ r. ⌜ PutAll (now (out .entry)) at (linesFrom tapAssign 0 (tapRowsOf (now (taps .entry)) m)) (now (out .exit)) r ⌝ }
 {
     let mut to = at;
     let mut k: usize = 0;

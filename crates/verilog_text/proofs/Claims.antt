@@ -1,9 +1,9 @@
 -- `verilog-claims`: the claims of specs/Claims.antt. Assumes nothing.
 use borrow.Author.Tests.{le-ltb, ltb-true, ltb-false}
 use mathlib.Core.Path.{_≡_, refl, sym, ap, subst, _∙_}
-use mathlib.Core.Bool.{Bool, true, false}
+use mathlib.Core.Bool.{false}
 use mathlib.Core.List.{List, _++_}
-use Prim.Native.Nat.{ℕ, _≤_, _<_}
+use Prim.Native.Nat.{ℕ, _≤_}
 use native.Mathlib.Omega.{arith}
 use lib.Dec.{ltb}
 use lib.IntN.{ℤ}
@@ -11,10 +11,10 @@ use lib.ListN.{length, getD, take, drop}
 use lib.Seq.{take-at, drop-at}
 use mir.Syntax.{w16}
 use mir.Val.{SFits}
-use Rattle.refusal.specs.Answer.{Answer, given, refused, refuseIf, andThen, filled}
+use Rattle.refusal.specs.Answer.{Answer, given, refused, andThen, filled}
 use Rattle.refusal.proofs.Checks.{given-if, given-same, refused-if, given-refused, check-passes}
 use Rattle.sequence.proofs.UpTo.{length-upTo}
-use Rattle.network.specs.Rows.{Network, tapRowAt, networkOf}
+use Rattle.network.specs.Rows.{tapRowAt, networkOf}
 use Rattle.network.specs.Check.{networkAnswer}
 use Rattle.network.specs.Accepted.{Accepted}
 use Rattle.network.specs.Checked.{NetworkChecked}
@@ -27,10 +27,10 @@ use Rattle.verilog.specs.Syntax.{Module}
 use Rattle.verilog.specs.Values.{Values}
 use Rattle.verilog.specs.Meaning.{meaning, Settled}
 use Rattle.verilog_text.specs.Text.{verilogText}
-use Rattle.verilog_text.specs.Written.{textIn, mostBytes, verilogAnswer, VerilogWritten}
+use Rattle.verilog_text.specs.Written.{textIn, mostBytes, VerilogWritten}
 use Rattle.verilog_text.specs.Promise.{Multiplies, AsRunning, FromCleared}
 use Rattle.verilog_text.specs.Claims.{coefficientsIn, VerilogRefusals, by-network, text-too-long, Left, VerilogClaims}
-use Rattle.verilog_text.proofs.Answers.{roomAnswer, answer-given, answer-refused}
+use Rattle.verilog_text.proofs.Answers.{roomAnswer, answer-given}
 use Rattle.verilog_text.proofs.Room.{text-room}
 use Rattle.verilog_text.proofs.Theorem.{text-multiplies, text-as-running, text-from-cleared}
 

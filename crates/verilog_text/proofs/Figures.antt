@@ -1,10 +1,8 @@
 -- The figures of specs/Figures.antt, by computation: `verilog-figures`. Assumes nothing.
 use borrow.Author.Tests.{lt-ltb, le-ltb}
 use mathlib.Core.Path.{_≡_, refl, sym, ap, _∙_}
-use mathlib.Core.Bool.{Bool}
 use mathlib.Core.List.{List, [], _∷_, _++_}
 use Prim.Native.Nat.{ℕ, _-_, _^_, _≤_, _<_}
-use native.Mathlib.Omega.{arith}
 use lib.Dec.{ltb}
 use lib.IntN.{pos, negℤ}
 use lib.ListN.{length, drop}
@@ -17,9 +15,9 @@ use Rattle.text.specs.Numbers.{decimal, decimalBy}
 use Rattle.text.specs.Lines.{linesFrom, numberedFrom}
 use Rattle.verilog.specs.Tokens.{scan, classOf}
 use Rattle.verilog.specs.Expressions.{run}
-use Rattle.verilog.specs.Syntax.{cutAt, outputsOf, bodyOf, moduleOf}
+use Rattle.verilog.specs.Syntax.{cutAt, outputNets, bodyOf, moduleOf}
 use Rattle.verilog.specs.Sound.{closed, sound}
-use Rattle.verilog.specs.Values.{widthOf, signedOf, valueOf}
+use Rattle.verilog.specs.Values.{widthOf, signedOf, valueAt}
 use Rattle.verilog.specs.Meaning.{meaning, assigned, inOrder, shown}
 use Rattle.verilog_text.specs.Text.{verilogText}
 use Rattle.verilog_text.specs.Written.{textIn, verilogAnswer, VerilogWritten}
@@ -35,7 +33,7 @@ sheet-length = refl
 
 sheet-values : shown (negℤ (pos 32768)) (meaning sheetModule)
     ≡ (2 ^ 15) ∷ (2 ^ 64 - 98304) ∷ 196608 ∷ (2 ^ 64 - 1474560) ∷ 0 ∷ (2 ^ 64 - 32768) ∷ (2 ^ 64 - 98304) ∷ (2 ^ 64 - 1474560) ∷ []
-unfolding scan classOf run cutAt outputsOf bodyOf moduleOf closed sound widthOf signedOf valueOf assigned inOrder
+unfolding scan classOf run cutAt outputNets bodyOf moduleOf closed sound widthOf signedOf valueAt assigned inOrder
 sheet-values = refl
 
 module _ (r t : List ℕ) (l : rowTable ≤ length (sheetRows r)) (m : tapTable ≤ length (sheetTapRows t)) (area : List ℕ) where

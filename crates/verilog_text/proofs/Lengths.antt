@@ -1,6 +1,6 @@
 -- How long the lines of a text are, and the text. Assumes nothing.
 use borrow.Author.Tests.{eq-eqb, ne-eqb}
-use mathlib.Core.Path.{_≡_, refl, ap, _∙_}
+use mathlib.Core.Path.{_≡_, refl, _∙_}
 use mathlib.Core.Bool.{Bool, true, false}
 use mathlib.Core.List.{List, _++_}
 use Prim.Native.Nat.{ℕ, zero, suc, _+_, _*_}
@@ -12,7 +12,7 @@ use Rattle.network.specs.declared.TapRow.{TapRow}
 use Rattle.network.specs.Rows.{Network, plus, minus}
 use Rattle.text.specs.Numbers.{decimal}
 use Rattle.text.specs.Lines.{linesFrom, numberedFrom}
-use Rattle.verilog_text.specs.Text.{port, moduleLine, wireLine, rowRight, laterLine, rowLine, tapRight, tapLine, lastLine, verilogText}
+use Rattle.verilog_text.specs.Text.{port, moduleLine, wireLine, rowRight, laterAssign, rowAssign, tapRight, tapAssign, lastLine, verilogText}
 
 -- ---- the digits of a number, and of n numbers from i on
 abbrev pub digitsOf : ℕ → ℕ
@@ -50,24 +50,24 @@ row-right r true q = simp length-append (omega arith)
 row-right r false true = simp length-append (omega arith)
 row-right r false false = simp length-append (omega arith)
 
-pub later-length : (i : ℕ) (r : Row) → length (laterLine i r) ≡ 25 + digitsOf i + digitsOf (r .left) + digitsOf (r .shift) + digitsOf (r .right)
+pub later-length : (i : ℕ) (r : Row) → length (laterAssign i r) ≡ 25 + digitsOf i + digitsOf (r .left) + digitsOf (r .shift) + digitsOf (r .right)
 later-length i r = simp length-append (omega (arith, row-right r (eqb (r .sign) plus) (eqb (r .sign) minus)))
 
-pub row-later : (i : ℕ) (r : Row) → (i ≡ 0 → ⊥) → rowLine i r ≡ laterLine i r
+pub row-later : (i : ℕ) (r : Row) → (i ≡ 0 → ⊥) → rowAssign i r ≡ laterAssign i r
 row-later zero r h = absurd (h refl)
 row-later (suc i) r h = refl
 
 -- ---- taps, by their signs
-tap-by : (k : ℕ) (t : TapRow) → length (tapLine k t) ≡ 13 + digitsOf k + length (tapRight (eqb (t .sign) plus) (eqb (t .sign) minus) t)
+tap-by : (k : ℕ) (t : TapRow) → length (tapAssign k t) ≡ 13 + digitsOf k + length (tapRight (eqb (t .sign) plus) (eqb (t .sign) minus) t)
 tap-by k t = simp length-append (omega arith)
 
-pub tap-plus : (k : ℕ) (t : TapRow) → t .sign ≡ plus → length (tapLine k t) ≡ 19 + digitsOf k + digitsOf (t .row) + digitsOf (t .shift)
+pub tap-plus : (k : ℕ) (t : TapRow) → t .sign ≡ plus → length (tapAssign k t) ≡ 19 + digitsOf k + digitsOf (t .row) + digitsOf (t .shift)
 tap-plus k t e = tap-by k t ∙ rw (eq-eqb (t .sign) plus e) (simp length-append (omega arith))
 
-pub tap-minus : (k : ℕ) (t : TapRow) → (t .sign ≡ plus → ⊥) → t .sign ≡ minus → length (tapLine k t) ≡ 22 + digitsOf k + digitsOf (t .row) + digitsOf (t .shift)
+pub tap-minus : (k : ℕ) (t : TapRow) → (t .sign ≡ plus → ⊥) → t .sign ≡ minus → length (tapAssign k t) ≡ 22 + digitsOf k + digitsOf (t .row) + digitsOf (t .shift)
 tap-minus k t f e = tap-by k t ∙ rw (ne-eqb (t .sign) plus f, eq-eqb (t .sign) minus e) (simp length-append (omega arith))
 
-pub tap-none : (k : ℕ) (t : TapRow) → (t .sign ≡ plus → ⊥) → (t .sign ≡ minus → ⊥) → length (tapLine k t) ≡ 14 + digitsOf k
+pub tap-none : (k : ℕ) (t : TapRow) → (t .sign ≡ plus → ⊥) → (t .sign ≡ minus → ⊥) → length (tapAssign k t) ≡ 14 + digitsOf k
 tap-none k t f g = tap-by k t ∙ rw (ne-eqb (t .sign) plus f, ne-eqb (t .sign) minus g) (omega arith)
 
 -- ---- the text
@@ -77,23 +77,23 @@ head-length m = simp length-append (omega arith)
 -- by its parts
 pub text-parts : (net : Network) → length (verilogText net)
     ≡ length (moduleLine (length (net .taps)))
-    + (length (numberedFrom wireLine 0 (length (net .rows))) + (length (linesFrom rowLine 0 (net .rows)) + (length (linesFrom tapLine 0 (net .taps)) + 10)))
+    + (length (numberedFrom wireLine 0 (length (net .rows))) + (length (linesFrom rowAssign 0 (net .rows)) + (length (linesFrom tapAssign 0 (net .taps)) + 10)))
 unfolding verilogText
 text-parts net =
     let m = length (net .taps) in
     let n = length (net .rows) in
-    let taps = linesFrom tapLine 0 (net .taps) ++ lastLine in
-    let rows = linesFrom rowLine 0 (net .rows) ++ taps in
+    let taps = linesFrom tapAssign 0 (net .taps) ++ lastLine in
+    let rows = linesFrom rowAssign 0 (net .rows) ++ taps in
     omega (
       arith,
       length-append (moduleLine m) (numberedFrom wireLine 0 n ++ rows),
       length-append (numberedFrom wireLine 0 n) rows,
-      length-append (linesFrom rowLine 0 (net .rows)) taps,
-      length-append (linesFrom tapLine 0 (net .taps)) (lastLine),
+      length-append (linesFrom rowAssign 0 (net .rows)) taps,
+      length-append (linesFrom tapAssign 0 (net .taps)) (lastLine),
     )
 
 pub text-length : (net : Network) → length (verilogText net)
     ≡ 50 + (24 * length (net .taps) + digitsFrom 0 (length (net .taps))) + (22 * length (net .rows) + digitsFrom 0 (length (net .rows)))
-    + length (linesFrom rowLine 0 (net .rows)) + length (linesFrom tapLine 0 (net .taps))
+    + length (linesFrom rowAssign 0 (net .rows)) + length (linesFrom tapAssign 0 (net .taps))
 text-length net =
     omega (arith, text-parts net, head-length (length (net .taps)), ports-length (length (net .taps)), wires-length (length (net .rows)))

@@ -9,14 +9,14 @@ use Rattle.network.specs.declared.Row.{Row}
 use Rattle.network.specs.declared.TapRow.{TapRow}
 use Rattle.network.specs.Rows.{Network, plus, minus}
 use Rattle.text.specs.Ascii.{ascii}
-use Rattle.verilog.specs.Reading.{Reading, reads, andThen}
+use Rattle.verilog.specs.Reading.{Reading, reads, whenRead}
 use Rattle.verilog.specs.Tokens.{Token, name, number, mark}
 use Rattle.verilog.specs.Expressions.{run}
-use Rattle.verilog.specs.Syntax.{Net, Assign, Module, netOf, cutAt, Body, an-assign, withItem, bodyOf, Header, unclosed, outputsOf, portsOf, headerOf, restOf, readModule, moduleOf}
+use Rattle.verilog.specs.Syntax.{Net, Assign, Module, netOf, cutAt, Body, an-assign, withItem, bodyOf, Header, unclosed, outputNets, portsOf, headerOf, restOf, readModule, moduleOf}
 use Rattle.verilog_text.specs.Promise.{tapNet, netsFrom}
 use Rattle.verilog_text.proofs.Expected.{rowNet, rowExpression, tapExpression, assignRow, assignTap, assignRows, assignTaps, moduleFor}
 use Rattle.verilog_text.specs.Text.{verilogText}
-use Rattle.verilog_text.proofs.Scanning.{wire, rowTokens, rowAssign, tapTokens, portTokens, inputTokens, headTokens, wireTokens, rowsTokens, tapsTokens, tokens-of-text}
+use Rattle.verilog_text.proofs.Scanning.{wire, rowTokens, rowAssignTokens, tapTokens, portTokens, inputTokens, headTokens, wireTokens, rowsTokens, tapsTokens, tokens-of-text}
 
 -- ---- the statements after the module line
 
@@ -32,7 +32,7 @@ body-end = refl
 
 body-tap : (k : ℕ) (t : TapRow) (p q : Bool) (ts : List Token)
     → bodyAt (name (ascii "assign") ∷ name (tapNet k) ∷ mark 61 ∷ (tapTokens p q t ++ (mark 59 ∷ ts)))
-    ≡ andThen (bodyAt ts) (λ (b : Body). withItem b (an-assign (record { left = tapNet k; right = tapExpression p q t })))
+    ≡ whenRead (bodyAt ts) (λ (b : Body). withItem b (an-assign (record { left = tapNet k; right = tapExpression p q t })))
 unfolding cutAt bodyOf run
 body-tap k t true q ts = refl
 body-tap k t false true ts = refl
@@ -42,18 +42,18 @@ body-taps : (k : ℕ) (ts : List TapRow) → bodyAt (tapsTokens k ts (name (asci
 body-taps k [] = body-end
 body-taps k (t ∷ ts) =
     body-tap k t (eqb (t .sign) plus) (eqb (t .sign) minus) (tapsTokens (suc k) ts (name (ascii "endmodule") ∷ []))
-    ∙ ap (λ (o : Reading Body). andThen o (λ (b : Body). withItem b (an-assign (assignTap k t)))) (body-taps (suc k) ts)
+    ∙ ap (λ (o : Reading Body). whenRead o (λ (b : Body). withItem b (an-assign (assignTap k t)))) (body-taps (suc k) ts)
 
 body-later : (i : ℕ) (r : Row) (p q : Bool) (ts : List Token)
     → bodyAt (name (ascii "assign") ∷ name (rowNet (suc i)) ∷ mark 61 ∷ (rowTokens p q r ++ (mark 59 ∷ ts)))
-    ≡ andThen (bodyAt ts) (λ (b : Body). withItem b (an-assign (record { left = rowNet (suc i); right = rowExpression p q r })))
+    ≡ whenRead (bodyAt ts) (λ (b : Body). withItem b (an-assign (record { left = rowNet (suc i); right = rowExpression p q r })))
 unfolding cutAt bodyOf run
 body-later i r true q ts = refl
 body-later i r false true ts = refl
 body-later i r false false ts = refl
 
 body-row : (i : ℕ) (r : Row) (ts : List Token)
-    → bodyAt (rowAssign i r ++ (mark 59 ∷ ts)) ≡ andThen (bodyAt ts) (λ (b : Body). withItem b (an-assign (assignRow i r)))
+    → bodyAt (rowAssignTokens i r ++ (mark 59 ∷ ts)) ≡ whenRead (bodyAt ts) (λ (b : Body). withItem b (an-assign (assignRow i r)))
 unfolding cutAt bodyOf run
 body-row zero r ts = refl
 body-row (suc i) r ts = body-later i r (eqb (r .sign) plus) (eqb (r .sign) minus) ts
@@ -62,7 +62,7 @@ body-rows : (i : ℕ) (rs : List Row) (bs : List Assign) (ts : List Token) → b
 body-rows i [] bs ts e = e
 body-rows i (r ∷ rs) bs ts e =
     body-row i r (rowsTokens (suc i) rs ts)
-    ∙ ap (λ (o : Reading Body). andThen o (λ (b : Body). withItem b (an-assign (assignRow i r)))) (body-rows (suc i) rs bs ts e)
+    ∙ ap (λ (o : Reading Body). whenRead o (λ (b : Body). withItem b (an-assign (assignRow i r)))) (body-rows (suc i) rs bs ts e)
 
 body-wire : (i : ℕ) (ns : List Net) (bs : List Assign) (ts : List Token) → bodyAt ts ≡ reads (body ns bs)
     → bodyAt (wire i ++ (mark 59 ∷ ts)) ≡ reads (body (netOf (rowNet i) 64 true ∷ ns) bs)
@@ -88,7 +88,7 @@ cut-head m ts = rw (append-assoc (portTokens 0 m) (mark 41 ∷ []) (mark 59 ∷ 
 unclosed-close : (ts : List Token) → unclosed (ts ++ (mark 41 ∷ [])) ≡ reads ts
 unclosed-close [] = refl
 unclosed-close (t ∷ []) = refl
-unclosed-close (t ∷ u ∷ ts) = ap (λ (o : Reading (List Token)). andThen o (λ ws. reads (t ∷ ws))) (unclosed-close (u ∷ ts))
+unclosed-close (t ∷ u ∷ ts) = ap (λ (o : Reading (List Token)). whenRead o (λ ws. reads (t ∷ ws))) (unclosed-close (u ∷ ts))
 
 abbrev outputPiece : ℕ → List Token
 outputPiece k = name (ascii "output") ∷ name (ascii "signed") ∷ mark 91 ∷ number 63 ∷ mark 58 ∷ number 0 ∷ mark 93 ∷ name (tapNet k) ∷ []
@@ -106,8 +106,8 @@ comma-head : (m : ℕ) → cutAt 44 (inputTokens ++ portTokens 0 m) ≡ record {
 unfolding cutAt
 comma-head m = rw (comma-ports 0 m)
 
-outputs-are : (k m : ℕ) → outputsOf (outputPieces k m) ≡ reads (netsFrom 116 k m)
-unfolding outputsOf
+outputs-are : (k m : ℕ) → outputNets (outputPieces k m) ≡ reads (netsFrom 116 k m)
+unfolding outputNets
 outputs-are k zero = refl
 outputs-are k (suc m) = rw (outputs-are (suc k) m)
 
@@ -116,7 +116,7 @@ header m = record { called = ascii "smoother"; input = netOf (ascii "x") 16 true
 
 header-is : (m : ℕ) → headerOf (headTokens m) ≡ reads (header m)
 header-is m =
-    ap (λ (o : Reading (List Token)). andThen o (λ ws. portsOf (ascii "smoother") (cutAt 44 ws))) (unclosed-close (inputTokens ++ portTokens 0 m))
+    ap (λ (o : Reading (List Token)). whenRead o (λ ws. portsOf (ascii "smoother") (cutAt 44 ws))) (unclosed-close (inputTokens ++ portTokens 0 m))
     ∙ ap (portsOf (ascii "smoother")) (comma-head m)
     ∙ rw (outputs-are 0 m)
 
@@ -134,6 +134,6 @@ module-of-text net =
     let after = wireTokens 0 (length (net .rows)) assigns in
     ap (λ (ts : List Token). readModule (cutAt 59 ts)) (tokens-of-text net)
     ∙ ap readModule (cut-head m after)
-    ∙ ap (λ (o : Reading Header). andThen o (λ h. restOf h (cutAt 59 after .first ∷ cutAt 59 after .rest))) (header-is m)
-    ∙ ap (λ (o : Reading Body). andThen o (λ (b : Body). reads (built (header m) b)))
+    ∙ ap (λ (o : Reading Header). whenRead o (λ h. restOf h (cutAt 59 after .first ∷ cutAt 59 after .rest))) (header-is m)
+    ∙ ap (λ (o : Reading Body). whenRead o (λ (b : Body). reads (built (header m) b)))
     (body-wires 0 (length (net .rows)) bs assigns (body-rows 0 (net .rows) (assignTaps 0 (net .taps)) _ (body-taps 0 (net .taps))))

@@ -18,7 +18,7 @@ use Rattle.network.specs.Accepted.{KeepsRules}
 use Rattle.text.specs.Numbers.{decimal}
 use Rattle.text.specs.Lines.{linesFrom, numberedFrom}
 use Rattle.text.proofs.Decimals.{decimal-le}
-use Rattle.verilog_text.specs.Text.{rowLine, tapRight, tapLine, verilogText}
+use Rattle.verilog_text.specs.Text.{rowAssign, tapRight, tapAssign, verilogText}
 use Rattle.verilog_text.specs.Written.{mostBytes}
 use Rattle.verilog_text.proofs.Lengths.{digitsOf, digitsFrom, later-length, text-length}
 
@@ -51,7 +51,7 @@ pub record Small (j : ℕ) (r : Row) : Type 0 where
 
 row-step : (j : ℕ) (r : Row) (n e rest : ℕ) {line : ℕ} → r .left ≤ j → r .right ≤ j → r .shift ≤ 31 → suc j < 10000
     → digitsBelow (suc (suc j)) + 2 * digitsBelow (suc j) + rest ≤ digitsBelow (suc e) + 2 * digitsBelow e + 27 * n
-    → line ≡ length (rowLine (suc j) r) + rest
+    → line ≡ length (rowAssign (suc j) r) + rest
     → digitsBelow (suc j) + 2 * digitsBelow j + line ≤ digitsBelow (suc e) + 2 * digitsBelow e + 27 * suc n
 row-step j r n e rest a b c l g h =
     omega (
@@ -64,15 +64,15 @@ row-step j r n e rest a b c l g h =
     )
 
 rows-room : (j : ℕ) (rs : List Row) (e : ℕ) → e ≡ j + length rs → e < 10000 → ((i : ℕ) → i < length rs → Small (j + i) (rowIn rs i))
-    → digitsBelow (suc j) + 2 * digitsBelow j + length (linesFrom rowLine (suc j) rs) ≤ digitsBelow (suc e) + 2 * digitsBelow e + 27 * length rs
+    → digitsBelow (suc j) + 2 * digitsBelow j + length (linesFrom rowAssign (suc j) rs) ≤ digitsBelow (suc e) + 2 * digitsBelow e + 27 * length rs
 unfolding linesFrom
 rows-room j [] e q h f = let z : e ≡ j = omega arith in rw z (omega arith)
 rows-room j (r ∷ rs) e q h f =
     let w = f 0 (omega arith) in
     let a : r .left ≤ j = omega (arith, w .left) in
     let b : r .right ≤ j = omega (arith, w .right) in
-    let n : length (rowLine (suc j) r ++ linesFrom rowLine (suc (suc j)) rs) ≡ length (rowLine (suc j) r) + length (linesFrom rowLine (suc (suc j)) rs) = length-append (rowLine (suc j) r) (linesFrom rowLine (suc (suc j)) rs) in
-    row-step j r (length rs) e (length (linesFrom rowLine (suc (suc j)) rs)) a b (w .shift) (omega arith) (rows-room (suc j) rs e (omega arith) h (λ i l. later j i (rowIn rs i) (f (suc i) (omega arith)))) n
+    let n : length (rowAssign (suc j) r ++ linesFrom rowAssign (suc (suc j)) rs) ≡ length (rowAssign (suc j) r) + length (linesFrom rowAssign (suc (suc j)) rs) = length-append (rowAssign (suc j) r) (linesFrom rowAssign (suc (suc j)) rs) in
+    row-step j r (length rs) e (length (linesFrom rowAssign (suc (suc j)) rs)) a b (w .shift) (omega arith) (rows-room (suc j) rs e (omega arith) h (λ i l. later j i (rowIn rs i) (f (suc i) (omega arith)))) n
   where
     later : (j i : ℕ) (r : Row) → Small (j + suc i) r → Small (suc j + i) r
     later j i r w = record { left = omega (arith, w .left); right = omega (arith, w .right); shift = w .shift }
@@ -84,18 +84,18 @@ tap-right t a b true q = simp length-append (omega arith)
 tap-right t a b false true = simp length-append (omega arith)
 tap-right t a b false false = omega arith
 
-tap-length : (k : ℕ) (t : TapRow) → t .row < 10000 → t .shift ≤ 31 → length (tapLine k t) ≤ 28 + length (decimal k)
+tap-length : (k : ℕ) (t : TapRow) → t .row < 10000 → t .shift ≤ 31 → length (tapAssign k t) ≤ 28 + length (decimal k)
 tap-length k t l m =
     let r = tap-right t (decimal-le 4 (t .row) (omega arith) (omega arith)) (decimal-le 2 (t .shift) (omega arith) (omega arith)) (eqb (t .sign) plus) (eqb (t .sign) minus) in
     simp length-append (omega arith)
 
 taps-room : (k : ℕ) (ts : List TapRow) (e : ℕ) → e ≡ k + length ts → e ≤ 10000 → ((j : ℕ) → j < length ts → (tapRowIn ts j .row < 10000) × (tapRowIn ts j .shift ≤ 31))
-    → digitsBelow k + length (linesFrom tapLine k ts) ≤ digitsBelow e + 28 * length ts
+    → digitsBelow k + length (linesFrom tapAssign k ts) ≤ digitsBelow e + 28 * length ts
 unfolding linesFrom
 taps-room k [] e q h f = let z : e ≡ k = omega arith in rw z (omega arith)
 taps-room k (t ∷ ts) e q h f =
     let w = f 0 (omega arith) in
-    let n : length (tapLine k t ++ linesFrom tapLine (suc k) ts) ≡ length (tapLine k t) + length (linesFrom tapLine (suc k) ts) = length-append (tapLine k t) (linesFrom tapLine (suc k) ts) in
+    let n : length (tapAssign k t ++ linesFrom tapAssign (suc k) ts) ≡ length (tapAssign k t) + length (linesFrom tapAssign (suc k) ts) = length-append (tapAssign k t) (linesFrom tapAssign (suc k) ts) in
     let g = tap-length k t (w .0) (w .1) in
     let d = digits-up-to k k (omega arith) (omega arith) in
     let i = taps-room (suc k) ts e (omega arith) h (λ j l. f (suc j) (omega arith)) in
@@ -119,16 +119,16 @@ digits-one : digitsBelow 1 ≡ 1
 unfolding digitsBelow
 digits-one = refl
 
-first-length : (r : Row) (rs : List Row) → length (linesFrom rowLine 0 (r ∷ rs)) ≡ 15 + length (linesFrom rowLine 1 rs)
+first-length : (r : Row) (rs : List Row) → length (linesFrom rowAssign 0 (r ∷ rs)) ≡ 15 + length (linesFrom rowAssign 1 rs)
 unfolding linesFrom
 first-length r rs = omega arith
 
-all-rows : (rows : List Row) → 1 ≤ length rows → length rows ≤ 4096 → ((i : ℕ) → i < length rows → RowRule rows i) → length (linesFrom rowLine 0 rows) ≤ 156393
+all-rows : (rows : List Row) → 1 ≤ length rows → length rows ≤ 4096 → ((i : ℕ) → i < length rows → RowRule rows i) → length (linesFrom rowAssign 0 rows) ≤ 156393
 all-rows [] l h f = absurd (omega arith)
 all-rows (r ∷ rs) l h f =
     let z : length rs ≡ 0 + length rs = omega arith in
     let w = rows-room 0 rs (length rs) z (omega arith) (λ i g. small i (rowIn rs i) (f (suc i) (omega arith))) in
-    let n : length (linesFrom rowLine 0 (r ∷ rs)) ≡ 15 + length (linesFrom rowLine 1 rs) = first-length r rs in
+    let n : length (linesFrom rowAssign 0 (r ∷ rs)) ≡ 15 + length (linesFrom rowAssign 1 rs) = first-length r rs in
     let a = digits-most (suc (length rs)) (omega arith) in
     let b = digits-left (length rs) (omega arith) in
     let c = digits-one in
@@ -137,7 +137,7 @@ all-rows (r ∷ rs) l h f =
     small : (i : ℕ) (q : Row) → LaterRow (r ∷ rs) (suc i) q → Small (0 + i) q
     small i q w = record { left = omega (arith, w .left); right = omega (arith, w .right); shift = w .shift-to }
 
-all-taps : (rows : List Row) (ts : List TapRow) → length rows ≤ 4096 → length ts ≤ 256 → ((j : ℕ) → j < length ts → TapRowRule rows (tapRowIn ts j)) → length (linesFrom tapLine 0 ts) ≤ 7826
+all-taps : (rows : List Row) (ts : List TapRow) → length rows ≤ 4096 → length ts ≤ 256 → ((j : ℕ) → j < length ts → TapRowRule rows (tapRowIn ts j)) → length (linesFrom tapAssign 0 ts) ≤ 7826
 all-taps rows ts l h f =
     let z : length ts ≡ 0 + length ts = omega arith in
     let w = taps-room 0 ts (length ts) z (omega arith) (λ j g. small (tapRowIn ts j) (f j g)) in

@@ -21,7 +21,7 @@ use Rattle.verilog.specs.Tokens.{Token, name, number, mark, no-token, in-name, 
 use Rattle.verilog_text.specs.Promise.{tapNet}
 use Rattle.verilog_text.proofs.Expected.{rowNet}
 use Rattle.text.specs.Lines.{linesFrom, numberedFrom}
-use Rattle.verilog_text.specs.Text.{port, wireLine, rowRight, rowLine, tapRight, tapLine, moduleLine, lastLine, verilogText}
+use Rattle.verilog_text.specs.Text.{port, wireLine, rowRight, rowAssign, tapRight, tapAssign, moduleLine, lastLine, verilogText}
 
 -- ---- digits
 
@@ -73,17 +73,17 @@ rowTokens true q r = mark 40 ∷ name (rowNet (r .left)) ∷ mark 60 ∷ number 
 rowTokens false true r = mark 40 ∷ name (rowNet (r .left)) ∷ mark 60 ∷ number (r .shift) ∷ mark 41 ∷ mark 45 ∷ name (rowNet (r .right)) ∷ []
 rowTokens false false r = name (rowNet (r .right)) ∷ mark 45 ∷ mark 40 ∷ name (rowNet (r .left)) ∷ mark 60 ∷ number (r .shift) ∷ mark 41 ∷ []
 
-abbrev pub rowAssign : ℕ → Row → List Token
-rowAssign zero r = name (ascii "assign") ∷ name (rowNet 0) ∷ mark 61 ∷ name (ascii "x") ∷ []
-rowAssign (suc i) r = name (ascii "assign") ∷ name (rowNet (suc i)) ∷ mark 61 ∷ rowTokens (eqb (r .sign) plus) (eqb (r .sign) minus) r
+abbrev pub rowAssignTokens : ℕ → Row → List Token
+rowAssignTokens zero r = name (ascii "assign") ∷ name (rowNet 0) ∷ mark 61 ∷ name (ascii "x") ∷ []
+rowAssignTokens (suc i) r = name (ascii "assign") ∷ name (rowNet (suc i)) ∷ mark 61 ∷ rowTokens (eqb (r .sign) plus) (eqb (r .sign) minus) r
 
 abbrev pub tapTokens : Bool → Bool → TapRow → List Token
 tapTokens true q t = name (rowNet (t .row)) ∷ mark 60 ∷ number (t .shift) ∷ []
 tapTokens false true t = mark 45 ∷ mark 40 ∷ name (rowNet (t .row)) ∷ mark 60 ∷ number (t .shift) ∷ mark 41 ∷ []
 tapTokens false false t = number 0 ∷ []
 
-abbrev pub tapAssign : ℕ → TapRow → List Token
-tapAssign k t = name (ascii "assign") ∷ name (tapNet k) ∷ mark 61 ∷ tapTokens (eqb (t .sign) plus) (eqb (t .sign) minus) t
+abbrev pub tapAssignTokens : ℕ → TapRow → List Token
+tapAssignTokens k t = name (ascii "assign") ∷ name (tapNet k) ∷ mark 61 ∷ tapTokens (eqb (t .sign) plus) (eqb (t .sign) minus) t
 
 abbrev pub portTokens : ℕ → ℕ → List Token
 portTokens k zero = []
@@ -103,11 +103,11 @@ wireTokens i (suc n) ts = wire i ++ (mark 59 ∷ wireTokens (suc i) n ts)
 
 abbrev pub rowsTokens : ℕ → List Row → List Token → List Token
 rowsTokens i [] ts = ts
-rowsTokens i (r ∷ rs) ts = rowAssign i r ++ (mark 59 ∷ rowsTokens (suc i) rs ts)
+rowsTokens i (r ∷ rs) ts = rowAssignTokens i r ++ (mark 59 ∷ rowsTokens (suc i) rs ts)
 
 abbrev pub tapsTokens : ℕ → List TapRow → List Token → List Token
 tapsTokens k [] ts = ts
-tapsTokens k (r ∷ rs) ts = tapAssign k r ++ (mark 59 ∷ tapsTokens (suc k) rs ts)
+tapsTokens k (r ∷ rs) ts = tapAssignTokens k r ++ (mark 59 ∷ tapsTokens (suc k) rs ts)
 
 abbrev pub textTokens : Network → List Token
 textTokens net =
@@ -127,11 +127,11 @@ later-row i r ys true q = simp append-assoc (rw (name-then 110 (suc i), name-the
 later-row i r ys false true = simp append-assoc (rw (name-then 110 (suc i), name-then 110 (r .left), number-then (r .shift), name-then 110 (r .right)))
 later-row i r ys false false = simp append-assoc (rw (name-then 110 (suc i), name-then 110 (r .right), name-then 110 (r .left), number-then (r .shift)))
 
-first-row : (r : Row) (ys : List ℕ) → scan no-token (rowLine zero r ++ ys) ≡ rowAssign zero r ++ (mark 59 ∷ scan no-token ys)
+first-row : (r : Row) (ys : List ℕ) → scan no-token (rowAssign zero r ++ ys) ≡ rowAssignTokens zero r ++ (mark 59 ∷ scan no-token ys)
 unfolding scan classOf decimal decimalBy
 first-row r ys = refl
 
-scan-row : (i : ℕ) (r : Row) (ys : List ℕ) → scan no-token (rowLine i r ++ ys) ≡ rowAssign i r ++ (mark 59 ∷ scan no-token ys)
+scan-row : (i : ℕ) (r : Row) (ys : List ℕ) → scan no-token (rowAssign i r ++ ys) ≡ rowAssignTokens i r ++ (mark 59 ∷ scan no-token ys)
 scan-row zero r ys = first-row r ys
 scan-row (suc i) r ys = later-row i r ys (eqb (r .sign) plus) (eqb (r .sign) minus)
 
@@ -143,7 +143,7 @@ scan-tap-by k t ys true q = simp append-assoc (rw (name-then 116 k, name-then 11
 scan-tap-by k t ys false true = simp append-assoc (rw (name-then 116 k, name-then 110 (t .row), number-then (t .shift)))
 scan-tap-by k t ys false false = simp append-assoc (rw (name-then 116 k))
 
-scan-tap : (k : ℕ) (t : TapRow) (ys : List ℕ) → scan no-token (tapLine k t ++ ys) ≡ tapAssign k t ++ (mark 59 ∷ scan no-token ys)
+scan-tap : (k : ℕ) (t : TapRow) (ys : List ℕ) → scan no-token (tapAssign k t ++ ys) ≡ tapAssignTokens k t ++ (mark 59 ∷ scan no-token ys)
 scan-tap k t ys = scan-tap-by k t ys (eqb (t .sign) plus) (eqb (t .sign) minus)
 
 -- ---- lines one after the other
@@ -155,19 +155,19 @@ scan-wires i (suc n) ys =
     ap (scan no-token) (append-assoc (wireLine i) (numberedFrom wireLine (suc i) n) ys) ∙ scan-wire i (numberedFrom wireLine (suc i) n ++ ys)
     ∙ ap (λ (ts : List Token). wire i ++ (mark 59 ∷ ts)) (scan-wires (suc i) n ys)
 
-scan-rows : (i : ℕ) (rs : List Row) (ys : List ℕ) → scan no-token (linesFrom rowLine i rs ++ ys) ≡ rowsTokens i rs (scan no-token ys)
+scan-rows : (i : ℕ) (rs : List Row) (ys : List ℕ) → scan no-token (linesFrom rowAssign i rs ++ ys) ≡ rowsTokens i rs (scan no-token ys)
 unfolding linesFrom
 scan-rows i [] ys = refl
 scan-rows i (r ∷ rs) ys =
-    ap (scan no-token) (append-assoc (rowLine i r) (linesFrom rowLine (suc i) rs) ys) ∙ scan-row i r (linesFrom rowLine (suc i) rs ++ ys)
-    ∙ ap (λ (ts : List Token). rowAssign i r ++ (mark 59 ∷ ts)) (scan-rows (suc i) rs ys)
+    ap (scan no-token) (append-assoc (rowAssign i r) (linesFrom rowAssign (suc i) rs) ys) ∙ scan-row i r (linesFrom rowAssign (suc i) rs ++ ys)
+    ∙ ap (λ (ts : List Token). rowAssignTokens i r ++ (mark 59 ∷ ts)) (scan-rows (suc i) rs ys)
 
-scan-taps : (k : ℕ) (rs : List TapRow) (ys : List ℕ) → scan no-token (linesFrom tapLine k rs ++ ys) ≡ tapsTokens k rs (scan no-token ys)
+scan-taps : (k : ℕ) (rs : List TapRow) (ys : List ℕ) → scan no-token (linesFrom tapAssign k rs ++ ys) ≡ tapsTokens k rs (scan no-token ys)
 unfolding linesFrom
 scan-taps k [] ys = refl
 scan-taps k (r ∷ rs) ys =
-    ap (scan no-token) (append-assoc (tapLine k r) (linesFrom tapLine (suc k) rs) ys) ∙ scan-tap k r (linesFrom tapLine (suc k) rs ++ ys)
-    ∙ ap (λ (ts : List Token). tapAssign k r ++ (mark 59 ∷ ts)) (scan-taps (suc k) rs ys)
+    ap (scan no-token) (append-assoc (tapAssign k r) (linesFrom tapAssign (suc k) rs) ys) ∙ scan-tap k r (linesFrom tapAssign (suc k) rs ++ ys)
+    ∙ ap (λ (ts : List Token). tapAssignTokens k r ++ (mark 59 ∷ ts)) (scan-taps (suc k) rs ys)
 
 scan-ports : (s : List ℕ) (k m : ℕ) (ys : List ℕ)
     → scan (in-name s) (numberedFrom port k m ++ (ascii ");\n" ++ ys)) ≡ name s ∷ (portTokens k m ++ (mark 41 ∷ mark 59 ∷ scan no-token ys))
@@ -193,8 +193,8 @@ pub tokens-of-text : (net : Network) → tokens (verilogText net) ≡ textTokens
 unfolding verilogText
 tokens-of-text net =
     let end = lastLine in
-    scan-head (length (net .taps)) (numberedFrom wireLine 0 (length (net .rows)) ++ (linesFrom rowLine 0 (net .rows) ++ (linesFrom tapLine 0 (net .taps) ++ end)))
+    scan-head (length (net .taps)) (numberedFrom wireLine 0 (length (net .rows)) ++ (linesFrom rowAssign 0 (net .rows) ++ (linesFrom tapAssign 0 (net .taps) ++ end)))
     ∙ ap (λ (ts : List Token). headTokens (length (net .taps)) ++ (mark 59 ∷ ts))
-    (scan-wires 0 (length (net .rows)) (linesFrom rowLine 0 (net .rows) ++ (linesFrom tapLine 0 (net .taps) ++ end))
+    (scan-wires 0 (length (net .rows)) (linesFrom rowAssign 0 (net .rows) ++ (linesFrom tapAssign 0 (net .taps) ++ end))
     ∙ ap (wireTokens 0 (length (net .rows)))
-    (scan-rows 0 (net .rows) (linesFrom tapLine 0 (net .taps) ++ end) ∙ ap (rowsTokens 0 (net .rows)) (scan-taps 0 (net .taps) end ∙ ap (tapsTokens 0 (net .taps)) scan-end)))
+    (scan-rows 0 (net .rows) (linesFrom tapAssign 0 (net .taps) ++ end) ∙ ap (rowsTokens 0 (net .rows)) (scan-taps 0 (net .taps) end ∙ ap (tapsTokens 0 (net .taps)) scan-end)))

@@ -1,6 +1,6 @@
 -- The text of a network that keeps the rules multiplies (`text-multiplies`), and does as running does (`text-as-running`, `text-from-cleared`). Assumes nothing.
 use borrow.Author.Tests.{lt-ltb, le-ltb}
-use mathlib.Core.Path.{_≡_, refl, sym, ap, ap₂, subst, _∙_}
+use mathlib.Core.Path.{_≡_, refl, sym, ap, subst, _∙_}
 use mathlib.Core.Bool.{Bool, cond}
 use mathlib.Core.List.{List, [], _∷_}
 use mathlib.Core.Logic.{⊎-elim}
@@ -21,7 +21,7 @@ use Rattle.run_convolution.specs.Running.{sumAt, registersOf, outputsOf}
 use Rattle.run_convolution.proofs.Words.{wrapped-add, wrapped-lt, wrapped-exact}
 use Rattle.run_convolution.proofs.Sizes.{product-fits}
 use Rattle.run_convolution.proofs.Steps.{next-low, next-last}
-use Rattle.verilog.specs.Reading.{Reading, reads, nothing, andThen}
+use Rattle.verilog.specs.Reading.{Reading, reads, nothing, whenRead}
 use Rattle.verilog.specs.Syntax.{Module}
 use Rattle.verilog.specs.Sound.{sound}
 use Rattle.verilog.specs.Values.{Values}
@@ -45,7 +45,7 @@ module _ (net : Network) (h : List ℤ) (passed : KeepsRules net h) where
 
   text-meant : meaning (verilogText net) ≡ reads (moduleFor net)
   text-meant =
-      ap (λ (o : Reading Module). andThen o (λ m. cond (sound m) (reads m) nothing)) (module-of-text net)
+      ap (λ (o : Reading Module). whenRead o (λ m. cond (sound m) (reads m) nothing)) (module-of-text net)
       ∙ ap (λ (b : Bool). cond b (reads (moduleFor net)) nothing) (text-sound net h passed)
 
   module _ (x : ℤ) (fits : SFits w16 x) where

@@ -10,7 +10,7 @@ use Rattle.network.specs.Rows.{reversed, rowTable, tapTable}
 use Rattle.network.specs.Figures.{sheetRows, sheetTapRows}
 use Rattle.text.specs.Ascii.{ascii}
 use Rattle.verilog.specs.Meaning.{meaning, shown}
-use Rattle.verilog_text.specs.Text.{laterLine}
+use Rattle.verilog_text.specs.Text.{laterAssign}
 use Rattle.verilog_text.specs.Written.{textIn, VerilogWritten}
 
 abbrev pub sheetModule : List ℕ
@@ -35,7 +35,7 @@ pub record VerilogFigures : Type 0 where
   pub sheet-values : shown (negℤ (pos 32768)) (meaning sheetModule)
       ≡ (2 ^ 15) ∷ (2 ^ 64 - 98304) ∷ 196608 ∷ (2 ^ 64 - 1474560) ∷ 0 ∷ (2 ^ 64 - 32768) ∷ (2 ^ 64 - 98304) ∷ (2 ^ 64 - 1474560) ∷ []
   -- "for `r`, `assign n2 = n0 - (n1 <<< 4);`"
-  pub reversed-text : laterLine 2 (record { left = 1; right = 0; shift = 4; sign = reversed; value = 0 }) ≡ ascii "assign n2 = n0 - (n1 <<< 4);\n"
+  pub reversed-text : laterAssign 2 (record { left = 1; right = 0; shift = 4; sign = reversed; value = 0 }) ≡ ascii "assign n2 = n0 - (n1 <<< 4);\n"
   -- what the claims take exists: the sheet's network is written where the area has room, an exact fit too, and else turned down with 13
   pub sheet-written : (r t : List ℕ) → rowTable ≤ length (sheetRows r) → tapTable ≤ length (sheetTapRows t) → (area : List ℕ) → 376 ≤ length area
       → VerilogWritten (sheetRows r) 3 (sheetTapRows t) 4 area (given 376) (sheetModule ++ drop 376 area)

@@ -23,33 +23,33 @@ abbrev pub wireLine : ℕ → List ℕ
 wireLine i = ascii "wire signed [63:0] n" ++ (decimal i ++ ascii ";\n")
 
 -- a row shifted: `n1 <<< 4`
-abbrev pub shiftOf : ℕ → ℕ → List ℕ
-shiftOf i s = ascii "n" ++ (decimal i ++ (ascii " <<< " ++ decimal s))
+abbrev pub shiftedRow : ℕ → ℕ → List ℕ
+shiftedRow i s = ascii "n" ++ (decimal i ++ (ascii " <<< " ++ decimal s))
 
 -- the right side of a row: "`(n1 <<< 4) - n1` (with + for sign `+`) and, for `r`, `n0 - (n1 <<< 4)`". The first Bool says that the sign is `+`, the second that
 -- it is `-`
 abbrev pub rowRight : Bool → Bool → Row → List ℕ
-rowRight true q r = ascii "(" ++ (shiftOf (r .left) (r .shift) ++ (ascii ") + n" ++ decimal (r .right)))
-rowRight false true r = ascii "(" ++ (shiftOf (r .left) (r .shift) ++ (ascii ") - n" ++ decimal (r .right)))
-rowRight false false r = ascii "n" ++ (decimal (r .right) ++ (ascii " - (" ++ (shiftOf (r .left) (r .shift) ++ ascii ")")))
+rowRight true q r = ascii "(" ++ (shiftedRow (r .left) (r .shift) ++ (ascii ") + n" ++ decimal (r .right)))
+rowRight false true r = ascii "(" ++ (shiftedRow (r .left) (r .shift) ++ (ascii ") - n" ++ decimal (r .right)))
+rowRight false false r = ascii "n" ++ (decimal (r .right) ++ (ascii " - (" ++ (shiftedRow (r .left) (r .shift) ++ ascii ")")))
 
 -- "Rows read `assign n0 = x;`, `assign n2 = ..;`"
-abbrev pub laterLine : ℕ → Row → List ℕ
-laterLine i r = ascii "assign n" ++ (decimal i ++ (ascii " = " ++ (rowRight (eqb (r .sign) plus) (eqb (r .sign) minus) r ++ ascii ";\n")))
+abbrev pub laterAssign : ℕ → Row → List ℕ
+laterAssign i r = ascii "assign n" ++ (decimal i ++ (ascii " = " ++ (rowRight (eqb (r .sign) plus) (eqb (r .sign) minus) r ++ ascii ";\n")))
 
-abbrev pub rowLine : ℕ → Row → List ℕ
-rowLine zero r = ascii "assign n0 = x;\n"
-rowLine (suc i) r = laterLine (suc i) r
+abbrev pub rowAssign : ℕ → Row → List ℕ
+rowAssign zero r = ascii "assign n0 = x;\n"
+rowAssign (suc i) r = laterAssign (suc i) r
 
 -- the right side of a tap: "`n1 <<< 0`, `-(n1 <<< 1)` when negative, and `0` when empty"
 abbrev pub tapRight : Bool → Bool → TapRow → List ℕ
-tapRight true q t = shiftOf (t .row) (t .shift)
-tapRight false true t = ascii "-(" ++ (shiftOf (t .row) (t .shift) ++ ascii ")")
+tapRight true q t = shiftedRow (t .row) (t .shift)
+tapRight false true t = ascii "-(" ++ (shiftedRow (t .row) (t .shift) ++ ascii ")")
 tapRight false false t = ascii "0"
 
 -- "Taps read `assign t0 = ..;`"
-abbrev pub tapLine : ℕ → TapRow → List ℕ
-tapLine k t = ascii "assign t" ++ (decimal k ++ (ascii " = " ++ (tapRight (eqb (t .sign) plus) (eqb (t .sign) minus) t ++ ascii ";\n")))
+abbrev pub tapAssign : ℕ → TapRow → List ℕ
+tapAssign k t = ascii "assign t" ++ (decimal k ++ (ascii " = " ++ (tapRight (eqb (t .sign) plus) (eqb (t .sign) minus) t ++ ascii ";\n")))
 
 -- "The last line is `endmodule`"
 abbrev pub lastLine : List ℕ
@@ -59,4 +59,4 @@ lastLine = ascii "endmodule\n"
 unfoldable pub verilogText : Network → List ℕ
 verilogText net =
     moduleLine (length (net .taps))
-    ++ (numberedFrom wireLine 0 (length (net .rows)) ++ (linesFrom rowLine 0 (net .rows) ++ (linesFrom tapLine 0 (net .taps) ++ lastLine)))
+    ++ (numberedFrom wireLine 0 (length (net .rows)) ++ (linesFrom rowAssign 0 (net .rows) ++ (linesFrom tapAssign 0 (net .taps) ++ lastLine)))

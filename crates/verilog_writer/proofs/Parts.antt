@@ -7,7 +7,7 @@ use lib.ListN.{length}
 use Rattle.sequence.proofs.UpTo.{length-upTo}
 use Rattle.network.specs.Rows.{rowAt, tapRowAt, rowsOf, tapRowsOf, networkOf}
 use Rattle.text.specs.Lines.{linesFrom, numberedFrom}
-use Rattle.verilog_text.specs.Text.{moduleLine, wireLine, rowLine, tapLine, lastLine, verilogText}
+use Rattle.verilog_text.specs.Text.{moduleLine, wireLine, rowAssign, tapAssign, lastLine, verilogText}
 use Rattle.verilog_text.specs.Written.{textIn}
 use Rattle.verilog_text.proofs.Lengths.{text-parts}
 
@@ -20,15 +20,15 @@ module _ (rows : List ℕ) (n : ℕ) (taps : List ℕ) (m : ℕ) where
 
   -- the lines of the text after the module line
   abbrev linesOf : ℕ → List ℕ
-  linesOf k = numberedFrom wireLine 0 k ++ (linesFrom rowLine 0 (rowsOf rows n) ++ (linesFrom tapLine 0 (tapRowsOf taps m) ++ lastLine))
+  linesOf k = numberedFrom wireLine 0 k ++ (linesFrom rowAssign 0 (rowsOf rows n) ++ (linesFrom tapAssign 0 (tapRowsOf taps m) ++ lastLine))
 
   pub parts-are : textIn rows n taps m
-      ≡ moduleLine m ++ (numberedFrom wireLine 0 n ++ (linesFrom rowLine 0 (rowsOf rows n) ++ (linesFrom tapLine 0 (tapRowsOf taps m) ++ lastLine)))
+      ≡ moduleLine m ++ (numberedFrom wireLine 0 n ++ (linesFrom rowAssign 0 (rowsOf rows n) ++ (linesFrom tapAssign 0 (tapRowsOf taps m) ++ lastLine)))
   unfolding verilogText
   parts-are = ap₂ (λ (j k : ℕ). moduleLine j ++ linesOf k) taps-counted rows-counted
 
   pub parts-length : length (textIn rows n taps m)
-      ≡ length (moduleLine m) + (length (numberedFrom wireLine 0 n) + (length (linesFrom rowLine 0 (rowsOf rows n)) + (length (linesFrom tapLine 0 (tapRowsOf taps m)) + 10)))
+      ≡ length (moduleLine m) + (length (numberedFrom wireLine 0 n) + (length (linesFrom rowAssign 0 (rowsOf rows n)) + (length (linesFrom tapAssign 0 (tapRowsOf taps m)) + 10)))
   parts-length =
       omega (
         arith,

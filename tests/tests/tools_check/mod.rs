@@ -48,9 +48,11 @@ impl Tool {
         folder
     }
 
-    /// The tool's exit status and all that it prints, in that folder.
+    /// The tool's exit status and all that it prints, in that folder. By bash, which reads it: a file just
+    /// copied cannot be executed while another test's process still has it open for writing.
     pub fn run(&self, folder: &Path, arguments: &[&str]) -> (Option<i32>, String) {
-        let mut command = Command::new(folder.join("tools").join(self.name));
+        let mut command = Command::new("bash");
+        command.arg(folder.join("tools").join(self.name));
         let ended = command.args(arguments).output().unwrap();
         let printed = [ended.stdout, ended.stderr].concat();
         (ended.status.code(), String::from_utf8(printed).unwrap())

@@ -2,7 +2,6 @@
 -- is the number of rows left. Assumes nothing.
 use borrow.Author.Needs.{needs}
 use mathlib.Core.Path.{_≡_, refl, ap, _∙_}
-use mathlib.Core.List.{List}
 use Prim.Native.Nat.{ℕ, _-_, _*_, _≤_}
 use native.Mathlib.Omega.{arith}
 use lib.ListN.{length}
@@ -11,13 +10,13 @@ use Rattle.network.specs.declared.Row.{Row}
 use Rattle.network.specs.Rows.{rowAt, rowsOf}
 use Rattle.text.specs.Lines.{linesFrom}
 use Rattle.text.proofs.Lines.{lines-next, length-next}
-use Rattle.verilog_text.specs.Text.{rowLine}
-use Rattle.verilog_length.specs.Inner.{rowLineBytes}
+use Rattle.verilog_text.specs.Text.{rowAssign}
+use Rattle.verilog_length.specs.Inner.{rowAssignBytes}
 use Rattle.verilog_length.proofs.rows_bytes.Statement.{statement}
 use Rattle.verilog_length.proofs.rows_bytes.Tie as tie
 
 abbrev Inv-loop : tie.InvT-loop
-Inv-loop rows n count₀ i₀ count i = (i ≤ n) × ((count ≡ length (linesFrom rowLine 0 (rowsOf rows i))) × (count ≤ rowLineBytes * i))
+Inv-loop rows n count₀ i₀ count i = (i ≤ n) × ((count ≡ length (linesFrom rowAssign 0 (rowsOf rows i))) × (count ≤ rowAssignBytes * i))
 
 abbrev μ-loop : tie.MeasureT-loop
 μ-loop rows n count₀ i₀ count i = n - i
@@ -50,10 +49,10 @@ loop-again c =
     let at-loop = after-read-row .before .before in
     let rows = at-loop .before .before .args .rows .now in
     let i = at-loop .loop .i in
-    let line : c .row-bytes .result ≡ length (rowLine i (rowAt rows i)) = c .row-bytes .ensures .0 ∙ ap (λ (r : Row). length (rowLine i r)) (after-read-row .read-row .ensures) in (
+    let line : c .row-bytes .result ≡ length (rowAssign i (rowAt rows i)) = c .row-bytes .ensures .0 ∙ ap (λ (r : Row). length (rowAssign i r)) (after-read-row .read-row .ensures) in (
       search needs,
       (
-        omega (arith, at-loop .loop .inv .1 .0, line, length-next (λ (k : ℕ). linesFrom rowLine 0 (rowsOf rows k)) (λ (k : ℕ). rowLine k (rowAt rows k)) (lines-next rowLine (rowAt rows)) i),
+        omega (arith, at-loop .loop .inv .1 .0, line, length-next (λ (k : ℕ). linesFrom rowAssign 0 (rowsOf rows k)) (λ (k : ℕ). rowAssign k (rowAt rows k)) (lines-next rowAssign (rowAt rows)) i),
         omega (arith, at-loop .loop .inv .1 .1, c .row-bytes .ensures .1),
       ),
     )

@@ -2,7 +2,6 @@
 -- is the number of taps left. Assumes nothing.
 use borrow.Author.Needs.{needs}
 use mathlib.Core.Path.{_≡_, refl, ap, _∙_}
-use mathlib.Core.List.{List}
 use Prim.Native.Nat.{ℕ, _-_, _*_, _≤_}
 use native.Mathlib.Omega.{arith}
 use lib.ListN.{length}
@@ -11,13 +10,13 @@ use Rattle.network.specs.declared.TapRow.{TapRow}
 use Rattle.network.specs.Rows.{tapRowAt, tapRowsOf}
 use Rattle.text.specs.Lines.{linesFrom}
 use Rattle.text.proofs.Lines.{lines-next, length-next}
-use Rattle.verilog_text.specs.Text.{tapLine}
-use Rattle.verilog_length.specs.Inner.{tapLineBytes}
+use Rattle.verilog_text.specs.Text.{tapAssign}
+use Rattle.verilog_length.specs.Inner.{tapAssignBytes}
 use Rattle.verilog_length.proofs.taps_bytes.Statement.{statement}
 use Rattle.verilog_length.proofs.taps_bytes.Tie as tie
 
 abbrev Inv-loop : tie.InvT-loop
-Inv-loop taps m count₀ k₀ count k = (k ≤ m) × ((count ≡ length (linesFrom tapLine 0 (tapRowsOf taps k))) × (count ≤ tapLineBytes * k))
+Inv-loop taps m count₀ k₀ count k = (k ≤ m) × ((count ≡ length (linesFrom tapAssign 0 (tapRowsOf taps k))) × (count ≤ tapAssignBytes * k))
 
 abbrev μ-loop : tie.MeasureT-loop
 μ-loop taps m count₀ k₀ count k = m - k
@@ -50,10 +49,10 @@ loop-again c =
     let at-loop = after-read-tap-row .before .before in
     let taps = at-loop .before .before .args .taps .now in
     let k = at-loop .loop .k in
-    let line : c .tap-bytes .result ≡ length (tapLine k (tapRowAt taps k)) = c .tap-bytes .ensures .0 ∙ ap (λ (r : TapRow). length (tapLine k r)) (after-read-tap-row .read-tap-row .ensures) in (
+    let line : c .tap-bytes .result ≡ length (tapAssign k (tapRowAt taps k)) = c .tap-bytes .ensures .0 ∙ ap (λ (r : TapRow). length (tapAssign k r)) (after-read-tap-row .read-tap-row .ensures) in (
       search needs,
       (
-        omega (arith, at-loop .loop .inv .1 .0, line, length-next (λ (k : ℕ). linesFrom tapLine 0 (tapRowsOf taps k)) (λ (k : ℕ). tapLine k (tapRowAt taps k)) (lines-next tapLine (tapRowAt taps)) k),
+        omega (arith, at-loop .loop .inv .1 .0, line, length-next (λ (k : ℕ). linesFrom tapAssign 0 (tapRowsOf taps k)) (λ (k : ℕ). tapAssign k (tapRowAt taps k)) (lines-next tapAssign (tapRowAt taps)) k),
         omega (arith, at-loop .loop .inv .1 .1, c .tap-bytes .ensures .1),
       ),
     )

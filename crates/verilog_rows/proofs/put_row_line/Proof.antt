@@ -3,7 +3,7 @@ use borrow.Author.Needs.{needs}
 use mathlib.Core.Path.{_≡_, ap}
 use native.Mathlib.Omega.{arith}
 use lib.ListN.{length}
-use Rattle.verilog_text.specs.Text.{rowLine}
+use Rattle.verilog_text.specs.Text.{rowAssign}
 use Rattle.verilog_text.proofs.Lengths.{later-length, row-later}
 use Rattle.text.proofs.Puts.{put-as}
 use Rattle.verilog_rows.proofs.Parts.{row-plus, row-minus, row-reversed}
@@ -17,7 +17,7 @@ put-requires : tie.Need-put-requires
 put-requires c κs =
     let in-then-1 = c .before .before in
     let at-start = in-then-1 .before .before in
-    let first : length (rowLine (at-start .args .i) (at-start .args .row)) ≡ 15 = rw (in-then-1 .if1 .taken) in
+    let first : length (rowAssign (at-start .args .i) (at-start .args .row)) ≡ 15 = rw (in-then-1 .if1 .taken) in
     omega (arith, at-start .pre, first)
 
 same-length : tie.Need-same-length

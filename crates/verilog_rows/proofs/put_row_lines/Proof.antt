@@ -11,12 +11,12 @@ use Rattle.text.specs.Lines.{linesFrom}
 use Rattle.text.specs.Inner.{PutAll}
 use Rattle.text.proofs.Puts.{widen, then-all}
 use Rattle.text.proofs.Lines.{lines-next, nothing-put, room-next}
-use Rattle.verilog_text.specs.Text.{rowLine}
+use Rattle.verilog_text.specs.Text.{rowAssign}
 use Rattle.verilog_rows.proofs.put_row_lines.Statement.{statement}
 use Rattle.verilog_rows.proofs.put_row_lines.Tie as tie
 
 abbrev Inv-loop : tie.InvT-loop
-Inv-loop out₀ at rows n to₀ i₀ out to i = (i ≤ n) × (PutAll out₀ at (linesFrom rowLine 0 (rowsOf rows i)) out to × (length out ≡ length out₀))
+Inv-loop out₀ at rows n to₀ i₀ out to i = (i ≤ n) × (PutAll out₀ at (linesFrom rowAssign 0 (rowsOf rows i)) out to × (length out ≡ length out₀))
 
 abbrev μ-loop : tie.MeasureT-loop
 μ-loop out₀ at rows n to₀ i₀ out to i = n - i
@@ -24,7 +24,7 @@ abbrev μ-loop : tie.MeasureT-loop
 loop-holds : tie.Need-loop-holds Inv-loop μ-loop
 loop-holds c =
     let args = c .before .before .args in
-    (search needs, (widen (omega arith) (nothing-put rowLine (rowAt (args .rows .now)) _ _), refl))
+    (search needs, (widen (omega arith) (nothing-put rowAssign (rowAt (args .rows .now)) _ _), refl))
 
 cast-put-row-line : tie.Need-cast-put-row-line Inv-loop μ-loop
 cast-put-row-line c = search needs
@@ -42,8 +42,8 @@ put-row-line-requires c κs =
       at-start .pre .1,
       at-loop .loop .inv .1 .0 .next,
       at-loop .loop .inv .1 .1,
-      ap (λ (r : Row). length (rowLine (at-loop .loop .i) r)) (c .read-row .ensures),
-      room-next (λ (j : ℕ). linesFrom rowLine 0 (rowsOf rows j)) (λ (j : ℕ). rowLine j (rowAt rows j)) (lines-next rowLine (rowAt rows)) (at-loop .loop .i) (at-start .args .n) (c .before .before .loop-test .taken),
+      ap (λ (r : Row). length (rowAssign (at-loop .loop .i) r)) (c .read-row .ensures),
+      room-next (λ (j : ℕ). linesFrom rowAssign 0 (rowsOf rows j)) (λ (j : ℕ). rowAssign j (rowAt rows j)) (lines-next rowAssign (rowAt rows)) (at-loop .loop .i) (at-start .args .n) (c .before .before .loop-test .taken),
     )
 
 add-i : tie.Need-add-i Inv-loop μ-loop
@@ -60,11 +60,11 @@ loop-again c =
     let rows = at-loop .before .before .before .args .rows .now in
     let line = after-put .put-row-line in
     let i = at-loop .loop .i in
-    let put : PutAll (at-loop .loop .out) (at-loop .loop .to) (rowLine i (rowAt rows i)) (line .last .0) (line .result)
-    = subst (λ (r : Row). PutAll (at-loop .loop .out) (at-loop .loop .to) (rowLine i r) (line .last .0) (line .result)) (after-read-row .read-row .ensures) (line .ensures) in (
+    let put : PutAll (at-loop .loop .out) (at-loop .loop .to) (rowAssign i (rowAt rows i)) (line .last .0) (line .result)
+    = subst (λ (r : Row). PutAll (at-loop .loop .out) (at-loop .loop .to) (rowAssign i r) (line .last .0) (line .result)) (after-read-row .read-row .ensures) (line .ensures) in (
       search needs,
       (
-        rw (lines-next rowLine (rowAt rows) i) (then-all (at-loop .loop .inv .1 .0) put),
+        rw (lines-next rowAssign (rowAt rows) i) (then-all (at-loop .loop .inv .1 .0) put),
         line .kept .0 ∙ at-loop .loop .inv .1 .1,
       ),
     )

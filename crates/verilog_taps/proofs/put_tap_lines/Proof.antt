@@ -11,12 +11,12 @@ use Rattle.text.specs.Lines.{linesFrom}
 use Rattle.text.specs.Inner.{PutAll}
 use Rattle.text.proofs.Puts.{widen, then-all}
 use Rattle.text.proofs.Lines.{lines-next, nothing-put, room-next}
-use Rattle.verilog_text.specs.Text.{tapLine}
+use Rattle.verilog_text.specs.Text.{tapAssign}
 use Rattle.verilog_taps.proofs.put_tap_lines.Statement.{statement}
 use Rattle.verilog_taps.proofs.put_tap_lines.Tie as tie
 
 abbrev Inv-loop : tie.InvT-loop
-Inv-loop out₀ at taps m to₀ k₀ out to k = (k ≤ m) × (PutAll out₀ at (linesFrom tapLine 0 (tapRowsOf taps k)) out to × (length out ≡ length out₀))
+Inv-loop out₀ at taps m to₀ k₀ out to k = (k ≤ m) × (PutAll out₀ at (linesFrom tapAssign 0 (tapRowsOf taps k)) out to × (length out ≡ length out₀))
 
 abbrev μ-loop : tie.MeasureT-loop
 μ-loop out₀ at taps m to₀ k₀ out to k = m - k
@@ -24,7 +24,7 @@ abbrev μ-loop : tie.MeasureT-loop
 loop-holds : tie.Need-loop-holds Inv-loop μ-loop
 loop-holds c =
     let args = c .before .before .args in
-    (search needs, (widen (omega arith) (nothing-put tapLine (tapRowAt (args .taps .now)) _ _), refl))
+    (search needs, (widen (omega arith) (nothing-put tapAssign (tapRowAt (args .taps .now)) _ _), refl))
 
 cast-put-tap-line : tie.Need-cast-put-tap-line Inv-loop μ-loop
 cast-put-tap-line c = search needs
@@ -42,8 +42,8 @@ put-tap-line-requires c κs =
       at-start .pre .1,
       at-loop .loop .inv .1 .0 .next,
       at-loop .loop .inv .1 .1,
-      ap (λ (r : TapRow). length (tapLine (at-loop .loop .k) r)) (c .read-tap-row .ensures),
-      room-next (λ (j : ℕ). linesFrom tapLine 0 (tapRowsOf taps j)) (λ (j : ℕ). tapLine j (tapRowAt taps j)) (lines-next tapLine (tapRowAt taps)) (at-loop .loop .k) (at-start .args .m) (c .before .before .loop-test .taken),
+      ap (λ (r : TapRow). length (tapAssign (at-loop .loop .k) r)) (c .read-tap-row .ensures),
+      room-next (λ (j : ℕ). linesFrom tapAssign 0 (tapRowsOf taps j)) (λ (j : ℕ). tapAssign j (tapRowAt taps j)) (lines-next tapAssign (tapRowAt taps)) (at-loop .loop .k) (at-start .args .m) (c .before .before .loop-test .taken),
     )
 
 add-k : tie.Need-add-k Inv-loop μ-loop
@@ -60,11 +60,11 @@ loop-again c =
     let taps = at-loop .before .before .before .args .taps .now in
     let line = after-put .put-tap-line in
     let k = at-loop .loop .k in
-    let put : PutAll (at-loop .loop .out) (at-loop .loop .to) (tapLine k (tapRowAt taps k)) (line .last .0) (line .result)
-    = subst (λ (r : TapRow). PutAll (at-loop .loop .out) (at-loop .loop .to) (tapLine k r) (line .last .0) (line .result)) (after-read-tap-row .read-tap-row .ensures) (line .ensures) in (
+    let put : PutAll (at-loop .loop .out) (at-loop .loop .to) (tapAssign k (tapRowAt taps k)) (line .last .0) (line .result)
+    = subst (λ (r : TapRow). PutAll (at-loop .loop .out) (at-loop .loop .to) (tapAssign k r) (line .last .0) (line .result)) (after-read-tap-row .read-tap-row .ensures) (line .ensures) in (
       search needs,
       (
-        rw (lines-next tapLine (tapRowAt taps) k) (then-all (at-loop .loop .inv .1 .0) put),
+        rw (lines-next tapAssign (tapRowAt taps) k) (then-all (at-loop .loop .inv .1 .0) put),
         line .kept .0 ∙ at-loop .loop .inv .1 .1,
       ),
     )
