@@ -1,11 +1,25 @@
--- The most bytes of a line, for the contracts of those that count them. Definitions only.
-use Prim.Native.Nat.{ℕ, _+_, _*_}
+-- The bytes of lines beside the numbers that count them, for the contracts of those that add them up. Definitions only.
+use mathlib.Core.Path.{_≡_}
+use mathlib.Core.List.{List}
+use Prim.Native.Nat.{ℕ, _+_, _*_, _≤_}
+use lib.ListN.{length}
+use Rattle.text.specs.Numbers.{decimal}
+use Rattle.text.specs.Lines.{numberedFrom}
 use Rattle.text.specs.Inner.{numberBytes}
 
--- the assign of a row: 25 bytes beside four numbers
-abbrev pub rowAssignBytes : ℕ
-rowAssignBytes = 25 + 4 * numberBytes
+-- r bytes, at most so many, beside its number i: a line's
+pub record Beside (line : List ℕ) (i most r : ℕ) : Type 0 where
+  pub bytes : length line ≡ r + length (decimal i)
+  pub within : r ≤ most
 
--- the assign of a tap: 22 bytes beside three numbers
-abbrev pub tapAssignBytes : ℕ
-tapAssignBytes = 22 + 3 * numberBytes
+-- and beside the numbers below n: those of n lines
+pub record BesideAll (lines : List ℕ) (n most r : ℕ) : Type 0 where
+  pub bytes : length lines ≡ r + length (numberedFrom decimal 0 n)
+  pub within : r ≤ most
+
+-- the most of the assign of a row, and of the assign of a tap
+abbrev pub rowBytes : ℕ
+rowBytes = 25 + 3 * numberBytes
+
+abbrev pub tapBytes : ℕ
+tapBytes = 22 + 2 * numberBytes

@@ -1,17 +1,22 @@
 -- How long the lines of a text are, and the text. Assumes nothing.
 use borrow.Author.Tests.{eq-eqb, ne-eqb}
-use mathlib.Core.Path.{_≡_, refl, _∙_}
+use mathlib.Core.Path.{_≡_, refl, sym, ap, _∙_}
 use mathlib.Core.Bool.{Bool, true, false}
 use mathlib.Core.List.{List, _++_}
-use Prim.Native.Nat.{ℕ, zero, suc, _+_, _*_}
+use mathlib.Core.Logic.{⊎-elim}
+use Prim.Native.Nat.{ℕ, zero, suc, _+_, _-_, _*_, _≤_, _<_}
+use native.Mathlib.Numerals.{add-one}
 use native.Mathlib.Omega.{arith}
 use lib.Dec.{eqb}
 use lib.ListN.{length, length-append}
+use Rattle.word.proofs.Order.{lt-or-le}
 use Rattle.network.specs.declared.Row.{Row}
 use Rattle.network.specs.declared.TapRow.{TapRow}
 use Rattle.network.specs.Rows.{Network, plus, minus}
 use Rattle.text.specs.Numbers.{decimal}
 use Rattle.text.specs.Lines.{linesFrom, numberedFrom}
+use Rattle.text.proofs.Decimals.{digits-one, digits-two, digits-three, digits-four}
+use Rattle.text.proofs.Lines.{numbered-next, length-next}
 use Rattle.verilog_text.specs.Text.{port, moduleLine, wireLine, rowRight, laterAssign, rowAssign, tapRight, tapAssign, lastLine, verilogText}
 
 -- ---- the digits of a number, and of n numbers from i on
@@ -20,6 +25,26 @@ digitsOf n = length (decimal n)
 
 abbrev pub digitsFrom : ℕ → ℕ → ℕ
 digitsFrom i n = length (numberedFrom decimal i n)
+
+-- those of all numbers below n, n at most 10000, by the numbers that have a second digit, a third and a fourth
+unfoldable pub digitsBelow : ℕ → ℕ
+digitsBelow n = n + (n - 10) + (n - 100) + (n - 1000)
+
+below-next : (n : ℕ) → n < 10000 → digitsBelow n + digitsOf n ≡ digitsBelow (suc n)
+unfolding digitsBelow
+below-next n h =
+    ⊎-elim (λ (a : n < 10). omega (arith, digits-one n a))
+    (λ (b : 10 ≤ n). ⊎-elim (λ (a : n < 100). omega (arith, digits-two n b a))
+    (λ (c : 100 ≤ n). ⊎-elim (λ (a : n < 1000). omega (arith, digits-three n c a))
+    (λ (d : 1000 ≤ n). omega (arith, digits-four n d h)) (lt-or-le n 1000)) (lt-or-le n 100)) (lt-or-le n 10)
+
+pub digits-below : (n : ℕ) → n ≤ 10000 → digitsFrom 0 n ≡ digitsBelow n
+unfolding digitsBelow numberedFrom
+digits-below zero h = refl
+digits-below (suc n) h =
+    let next = length-next (numberedFrom decimal 0) decimal (numbered-next decimal) n in
+    let e : digitsFrom 0 (suc n) ≡ digitsFrom 0 n + digitsOf n = ap (digitsFrom 0) (sym (add-one n)) ∙ next in
+    e ∙ ap (λ (k : ℕ). k + digitsOf n) (digits-below n (omega arith)) ∙ below-next n (omega arith)
 
 -- a text of so many bytes beside its number, for n numbers
 numbered-length : (textOf : ℕ → List ℕ) (beside : ℕ) → ((i : ℕ) → length (textOf i) ≡ beside + digitsOf i)

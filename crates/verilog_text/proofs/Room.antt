@@ -3,7 +3,7 @@ use mathlib.Core.Path.{_≡_, refl}
 use mathlib.Core.Bool.{Bool, true, false}
 use mathlib.Core.Logic.{⊎-elim}
 use mathlib.Core.List.{List, [], _∷_, _++_}
-use Prim.Native.Nat.{ℕ, zero, suc, _+_, _-_, _*_, _≤_, _<_}
+use Prim.Native.Nat.{ℕ, suc, _+_, _*_, _≤_, _<_}
 use native.Mathlib.Omega.{arith}
 use lib.Dec.{eqb}
 use lib.IntN.{ℤ}
@@ -16,15 +16,11 @@ use Rattle.network.specs.RowRule.{RowRule, LaterRow}
 use Rattle.network.specs.TapRowRule.{TapRowRule, is-empty, is-product}
 use Rattle.network.specs.Accepted.{KeepsRules}
 use Rattle.text.specs.Numbers.{decimal}
-use Rattle.text.specs.Lines.{linesFrom, numberedFrom}
+use Rattle.text.specs.Lines.{linesFrom}
 use Rattle.text.proofs.Decimals.{decimal-le}
 use Rattle.verilog_text.specs.Text.{rowAssign, tapRight, tapAssign, verilogText}
 use Rattle.verilog_text.specs.Written.{mostBytes}
-use Rattle.verilog_text.proofs.Lengths.{digitsOf, digitsFrom, later-length, text-length}
-
--- the digits of all numbers below n, n at most 10000
-unfoldable digitsBelow : ℕ → ℕ
-digitsBelow n = n + (n - 10) + (n - 100) + (n - 1000)
+use Rattle.verilog_text.proofs.Lengths.{digitsOf, digitsBelow, digits-below, later-length, text-length}
 
 -- a number up to j has no more digits than j
 digits-up-to : (l j : ℕ) → l ≤ j → j < 10000 → digitsBelow j + digitsOf l ≤ digitsBelow (suc j)
@@ -34,13 +30,6 @@ digits-up-to l j h k =
     (λ b. ⊎-elim (λ a. omega (arith, decimal-le 2 l (omega arith) (omega arith)))
     (λ c. ⊎-elim (λ a. omega (arith, decimal-le 3 l (omega arith) (omega arith)))
     (λ d. omega (arith, decimal-le 4 l (omega arith) (omega arith))) (lt-or-le l 1000)) (lt-or-le l 100)) (lt-or-le l 10)
-
-digits-room : (i n e : ℕ) → e ≡ i + n → e ≤ 10000 → digitsBelow i + digitsFrom i n ≤ digitsBelow e
-unfolding numberedFrom
-digits-room i zero e q h = let z : e ≡ i = omega arith in rw z (omega arith)
-digits-room i (suc n) e q h =
-    let l : digitsFrom i (suc n) ≡ digitsOf i + digitsFrom (suc i) n = length-append (decimal i) (numberedFrom decimal (suc i) n) in
-    omega (arith, digits-up-to i i (omega arith) (omega arith), digits-room (suc i) n e (omega arith) h)
 
 -- ---- rows
 
@@ -153,14 +142,12 @@ pub text-room : (net : Network) (h : List ℤ) → KeepsRules net h → length (
 text-room net h p few =
     let m = length (net .taps) in
     let n = length (net .rows) in
-    let zm : m ≡ 0 + m = omega arith in
-    let zn : n ≡ 0 + n = omega arith in
     let top : n ≤ 4096 = p .rows-to in
     omega (
       arith,
       text-length net,
-      digits-room 0 m m zm (omega arith),
-      digits-room 0 n n zn (omega arith),
+      digits-below m (omega arith),
+      digits-below n (omega arith),
       digits-few m few,
       digits-most n top,
       all-rows (net .rows) (p .rows-from) top (p .rows),

@@ -1,29 +1,29 @@
--- `verilog_length::rows_bytes` meets its contract. The invariant of its loop: `count` is the length of the assigns of the first i rows, none longer than the most bytes of one. The measure
--- is the number of rows left. Assumes nothing.
+-- `verilog_length::rows_bytes` meets its contract. The invariant of its loop: `count` is the length of the assigns of the first i rows beside their numbers. The measure is the number of
+-- rows left. Assumes nothing.
 use borrow.Author.Needs.{needs}
-use mathlib.Core.Path.{_≡_, refl, ap, _∙_}
+use mathlib.Core.Path.{_≡_, refl, subst}
 use Prim.Native.Nat.{ℕ, _-_, _*_, _≤_}
 use native.Mathlib.Omega.{arith}
-use lib.ListN.{length}
 use Rattle.sequence.specs.UpTo.{upTo}
 use Rattle.network.specs.declared.Row.{Row}
 use Rattle.network.specs.Rows.{rowAt, rowsOf}
-use Rattle.text.specs.Lines.{linesFrom}
-use Rattle.text.proofs.Lines.{lines-next, length-next}
+use Rattle.text.specs.Numbers.{decimal}
+use Rattle.text.specs.Lines.{linesFrom, numberedFrom}
+use Rattle.text.proofs.Lines.{lines-next, numbered-next, length-next}
 use Rattle.verilog_text.specs.Text.{rowAssign}
-use Rattle.verilog_length.specs.Inner.{rowAssignBytes}
+use Rattle.verilog_length.specs.Inner.{Beside, BesideAll, rowBytes}
 use Rattle.verilog_length.proofs.rows_bytes.Statement.{statement}
 use Rattle.verilog_length.proofs.rows_bytes.Tie as tie
 
 abbrev Inv-loop : tie.InvT-loop
-Inv-loop rows n count₀ i₀ count i = (i ≤ n) × ((count ≡ length (linesFrom rowAssign 0 (rowsOf rows i))) × (count ≤ rowAssignBytes * i))
+Inv-loop rows n count₀ i₀ count i = (i ≤ n) × BesideAll (linesFrom rowAssign 0 (rowsOf rows i)) i (rowBytes * i) count
 
 abbrev μ-loop : tie.MeasureT-loop
 μ-loop rows n count₀ i₀ count i = n - i
 
 loop-holds : tie.Need-loop-holds Inv-loop μ-loop
-unfolding upTo linesFrom
-loop-holds c = (search needs, (refl, search needs))
+unfolding upTo linesFrom numberedFrom
+loop-holds c = (search needs, record { bytes = refl; within = search needs })
 
 cast-row-bytes : tie.Need-cast-row-bytes Inv-loop μ-loop
 cast-row-bytes c = search needs
@@ -35,7 +35,11 @@ row-bytes-requires : tie.Need-row-bytes-requires Inv-loop μ-loop
 row-bytes-requires c κs = search needs
 
 add-count : tie.Need-add-count Inv-loop μ-loop
-add-count c = search needs
+add-count c =
+    let at-loop = c .before .before .before in
+    let in-loop = c .before .before in
+    let at-start = at-loop .before .before in
+    record { fits = omega (arith, at-loop .loop .inv .1 .within, c .row-bytes .ensures .within, in-loop .loop-test .taken, at-start .pre .1) }
 
 add-i : tie.Need-add-i Inv-loop μ-loop
 add-i c = search needs
@@ -49,12 +53,18 @@ loop-again c =
     let at-loop = after-read-row .before .before in
     let rows = at-loop .before .before .args .rows .now in
     let i = at-loop .loop .i in
-    let line : c .row-bytes .result ≡ length (rowAssign i (rowAt rows i)) = c .row-bytes .ensures .0 ∙ ap (λ (r : Row). length (rowAssign i r)) (after-read-row .read-row .ensures) in (
+    let line = subst (λ (r : Row). Beside (rowAssign i r) i rowBytes (c .row-bytes .result)) (after-read-row .read-row .ensures) (c .row-bytes .ensures) in (
       search needs,
-      (
-        omega (arith, at-loop .loop .inv .1 .0, line, length-next (λ (k : ℕ). linesFrom rowAssign 0 (rowsOf rows k)) (λ (k : ℕ). rowAssign k (rowAt rows k)) (lines-next rowAssign (rowAt rows)) i),
-        omega (arith, at-loop .loop .inv .1 .1, c .row-bytes .ensures .1),
-      ),
+      record {
+        bytes = omega (
+          arith,
+          at-loop .loop .inv .1 .bytes,
+          line .bytes,
+          length-next (λ (j : ℕ). linesFrom rowAssign 0 (rowsOf rows j)) (λ (j : ℕ). rowAssign j (rowAt rows j)) (lines-next rowAssign (rowAt rows)) i,
+          length-next (numberedFrom decimal 0) decimal (numbered-next decimal) i,
+        );
+        within = omega (arith, at-loop .loop .inv .1 .within, line .within);
+      },
     )
 
 returns : tie.Need-returns Inv-loop μ-loop

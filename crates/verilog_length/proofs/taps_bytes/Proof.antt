@@ -1,29 +1,29 @@
--- `verilog_length::taps_bytes` meets its contract. The invariant of its loop: `count` is the length of the assigns of the first k taps, none longer than the most bytes of one. The measure
--- is the number of taps left. Assumes nothing.
+-- `verilog_length::taps_bytes` meets its contract. The invariant of its loop: `count` is the length of the assigns of the first k taps beside their numbers. The measure is the number of
+-- taps left. Assumes nothing.
 use borrow.Author.Needs.{needs}
-use mathlib.Core.Path.{_≡_, refl, ap, _∙_}
+use mathlib.Core.Path.{_≡_, refl, subst}
 use Prim.Native.Nat.{ℕ, _-_, _*_, _≤_}
 use native.Mathlib.Omega.{arith}
-use lib.ListN.{length}
 use Rattle.sequence.specs.UpTo.{upTo}
 use Rattle.network.specs.declared.TapRow.{TapRow}
 use Rattle.network.specs.Rows.{tapRowAt, tapRowsOf}
-use Rattle.text.specs.Lines.{linesFrom}
-use Rattle.text.proofs.Lines.{lines-next, length-next}
+use Rattle.text.specs.Numbers.{decimal}
+use Rattle.text.specs.Lines.{linesFrom, numberedFrom}
+use Rattle.text.proofs.Lines.{lines-next, numbered-next, length-next}
 use Rattle.verilog_text.specs.Text.{tapAssign}
-use Rattle.verilog_length.specs.Inner.{tapAssignBytes}
+use Rattle.verilog_length.specs.Inner.{Beside, BesideAll, tapBytes}
 use Rattle.verilog_length.proofs.taps_bytes.Statement.{statement}
 use Rattle.verilog_length.proofs.taps_bytes.Tie as tie
 
 abbrev Inv-loop : tie.InvT-loop
-Inv-loop taps m count₀ k₀ count k = (k ≤ m) × ((count ≡ length (linesFrom tapAssign 0 (tapRowsOf taps k))) × (count ≤ tapAssignBytes * k))
+Inv-loop taps m count₀ k₀ count k = (k ≤ m) × BesideAll (linesFrom tapAssign 0 (tapRowsOf taps k)) k (tapBytes * k) count
 
 abbrev μ-loop : tie.MeasureT-loop
 μ-loop taps m count₀ k₀ count k = m - k
 
 loop-holds : tie.Need-loop-holds Inv-loop μ-loop
-unfolding upTo linesFrom
-loop-holds c = (search needs, (refl, search needs))
+unfolding upTo linesFrom numberedFrom
+loop-holds c = (search needs, record { bytes = refl; within = search needs })
 
 cast-tap-bytes : tie.Need-cast-tap-bytes Inv-loop μ-loop
 cast-tap-bytes c = search needs
@@ -35,7 +35,11 @@ tap-bytes-requires : tie.Need-tap-bytes-requires Inv-loop μ-loop
 tap-bytes-requires c κs = search needs
 
 add-count : tie.Need-add-count Inv-loop μ-loop
-add-count c = search needs
+add-count c =
+    let at-loop = c .before .before .before in
+    let in-loop = c .before .before in
+    let at-start = at-loop .before .before in
+    record { fits = omega (arith, at-loop .loop .inv .1 .within, c .tap-bytes .ensures .within, in-loop .loop-test .taken, at-start .pre .1) }
 
 add-k : tie.Need-add-k Inv-loop μ-loop
 add-k c = search needs
@@ -49,12 +53,18 @@ loop-again c =
     let at-loop = after-read-tap-row .before .before in
     let taps = at-loop .before .before .args .taps .now in
     let k = at-loop .loop .k in
-    let line : c .tap-bytes .result ≡ length (tapAssign k (tapRowAt taps k)) = c .tap-bytes .ensures .0 ∙ ap (λ (r : TapRow). length (tapAssign k r)) (after-read-tap-row .read-tap-row .ensures) in (
+    let line = subst (λ (r : TapRow). Beside (tapAssign k r) k tapBytes (c .tap-bytes .result)) (after-read-tap-row .read-tap-row .ensures) (c .tap-bytes .ensures) in (
       search needs,
-      (
-        omega (arith, at-loop .loop .inv .1 .0, line, length-next (λ (k : ℕ). linesFrom tapAssign 0 (tapRowsOf taps k)) (λ (k : ℕ). tapAssign k (tapRowAt taps k)) (lines-next tapAssign (tapRowAt taps)) k),
-        omega (arith, at-loop .loop .inv .1 .1, c .tap-bytes .ensures .1),
-      ),
+      record {
+        bytes = omega (
+          arith,
+          at-loop .loop .inv .1 .bytes,
+          line .bytes,
+          length-next (λ (j : ℕ). linesFrom tapAssign 0 (tapRowsOf taps j)) (λ (j : ℕ). tapAssign j (tapRowAt taps j)) (lines-next tapAssign (tapRowAt taps)) k,
+          length-next (numberedFrom decimal 0) decimal (numbered-next decimal) k,
+        );
+        within = omega (arith, at-loop .loop .inv .1 .within, line .within);
+      },
     )
 
 returns : tie.Need-returns Inv-loop μ-loop

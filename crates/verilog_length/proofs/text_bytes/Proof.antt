@@ -14,6 +14,9 @@ mul-ports c = search needs
 digits-below-requires : tie.Need-digits-below-requires
 digits-below-requires c κs = search needs
 
+mul-ports-2 : tie.Need-mul-ports-2
+mul-ports-2 c = search needs
+
 add-ports : tie.Need-add-ports
 add-ports c = search needs
 
@@ -22,6 +25,9 @@ mul-wires c = search needs
 
 digits-below-requires-2 : tie.Need-digits-below-requires-2
 digits-below-requires-2 c κs = search needs
+
+mul-wires-2 : tie.Need-mul-wires-2
+mul-wires-2 c = search needs
 
 add-wires : tie.Need-add-wires
 add-wires c = search needs
@@ -61,8 +67,8 @@ returns c =
       ap (digitsFrom 0) m,
       after-ports .digits-below .ensures .0,
       after-wires .digits-below2 .ensures .0,
-      after-rows-bytes .rows-bytes .ensures .0,
-      c .taps-bytes .ensures .0,
+      after-rows-bytes .rows-bytes .ensures .bytes,
+      c .taps-bytes .ensures .bytes,
     )
 
 pub text-bytes-spec : {M : Type 1} → statement M
@@ -71,9 +77,11 @@ text-bytes-spec =
     (tie.spec
     mul-ports
     digits-below-requires
+    mul-ports-2
     add-ports
     mul-wires
     digits-below-requires-2
+    mul-wires-2
     add-wires
     add-result
     add-result-2
