@@ -11,6 +11,7 @@ use fir_tests::random::Random;
 use fir_tests::running::{core, mixture as running, REGISTERS};
 use fir_tests::verilog::hard::{ends_of_range, largest, row_numbers, smallest};
 use fir_tests::verilog::reader::{self, Module};
+use fir_tests::verilog::samples::{self, Sample};
 use fir_tests::verilog::{examples, mixture, LEAST_BYTES, MOST_BYTES};
 use verilog_check::{check, show, Tally};
 
@@ -336,6 +337,23 @@ fn rules_at_work() {
         let module = module.unwrap_or_else(|| panic!("{}", example.text));
         let values = module.output_values(example.x as i64).unwrap();
         assert_eq!(values, [example.value], "{}", example.text);
+    }
+}
+
+/// The reader has the values that are proved of the definition, on every net.
+#[test]
+fn proved_samples() {
+    let samples = samples::samples();
+    assert_eq!(samples.len(), 17);
+    for Sample { name, text, values } in samples {
+        let module = reader::read(text.as_bytes());
+        assert_eq!(module.is_some(), values.is_some(), "{name}");
+        let Some((x, patterns)) = values else {
+            continue;
+        };
+        let values = module.unwrap().values(x as i64).unwrap();
+        let read: Vec<u64> = values.iter().map(|value| value.pattern).collect();
+        assert_eq!(read, patterns, "{name}");
     }
 }
 

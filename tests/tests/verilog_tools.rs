@@ -7,6 +7,7 @@ use fir_tests::random::Random;
 use fir_tests::verilog::call::run;
 use fir_tests::verilog::hard::{ends_of_range, largest, smallest, ROW_LEFT_OVER};
 use fir_tests::verilog::reader::{self, Module};
+use fir_tests::verilog::samples::{self, Sample};
 use fir_tests::verilog::tools::icarus::{self, Inputs};
 use fir_tests::verilog::tools::{goes_without, verilator, yosys};
 use fir_tests::verilog::{core, examples, mixture, modules, MOST_BYTES};
@@ -91,6 +92,24 @@ fn icarus_on_the_rules() {
         let module = module(&example.text);
         let outputs = icarus::outputs(&example.text, &module, &Inputs::These(&[example.x]));
         assert_eq!(outputs, [[example.value]], "{}", example.text);
+    }
+}
+
+/// Icarus has the outputs that are proved of the definition; they are all signed and of 64 bits.
+#[test]
+fn icarus_on_the_proved_samples() {
+    if goes_without(icarus::NAME) {
+        return;
+    }
+    for Sample { name, text, values } in samples::samples() {
+        let Some((x, patterns)) = values else {
+            continue;
+        };
+        let module = module(&text);
+        let outputs = icarus::outputs(&text, &module, &Inputs::These(&[x]));
+        let proved = patterns[1..1 + module.outputs].iter();
+        let proved: Vec<i128> = proved.map(|pattern| *pattern as i64 as i128).collect();
+        assert_eq!(outputs, [proved], "{name}");
     }
 }
 

@@ -15,7 +15,7 @@ pub record Put (l : List ℕ) (at : ℕ) (bytes : List ℕ) (most : ℕ) (e : Li
 abbrev pub PutAll : List ℕ → ℕ → List ℕ → List ℕ → ℕ → Type 0
 PutAll l at bytes e r = Put l at bytes (length bytes) e r
 
--- the two last digits of a number, which n is the number of
+-- two digits: n in decimal, after a zero where it is below 10
 abbrev pub pairOf : ℕ → List ℕ
 pairOf n = (48 + n / 10) ∷ (48 + n % 10) ∷ []
 

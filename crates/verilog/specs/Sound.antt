@@ -46,7 +46,7 @@ abbrev pub anyKeyword : List (List ℕ) → Bool
 anyKeyword [] = false
 anyKeyword (s ∷ ss) = cond (amongst s keywords) true (anyKeyword ss)
 
--- the names of an expression are declared, and its numbers are below 2^31, where their width, at least 32, cannot matter
+-- the names of an expression are declared, and its numbers are below 2^31: the standard says that an unsized number has at least 32 bits, and 32 are taken here
 unfoldable pub closed : List (List ℕ) → Expression → Bool
 closed names (net s) = amongst s names
 closed names (literal n) = ltb n 2147483648

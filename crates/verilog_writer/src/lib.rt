@@ -1,4 +1,4 @@
-// A network as Verilog text, for chips.
+// Writing a network as Verilog text.
 ghost use mathlib.Core.Path.{_≡_};
 ghost use Prim.Native.Nat.{_+_, _≤_};
 ghost use lib.Dec.{ltb};

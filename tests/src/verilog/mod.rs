@@ -10,6 +10,7 @@ pub mod literal;
 pub mod mixture;
 pub mod modules;
 pub mod reader;
+pub mod samples;
 pub mod tools;
 
 /// The bytes of the largest text, and of the smallest: row 0 alone and one empty tap.
