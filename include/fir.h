@@ -181,8 +181,8 @@ uint64_t fir_run(const uint32_t *rows, size_t rows_length, size_t row_count, con
 
 /* Such a network as text of IEEE 1364-2005: one module, smoother, each line closed by LF. Its input x
  * is the sample, signed and of 16 bits; its outputs t0, t1 and so on, one for each tap, are signed and
- * of 64 bits, and each is the sample times the tap's coefficient. The text depends on the network alone
- * and holds no byte of 0. It is written from the start of text[text_length], which is untouched past
+ * of 64 bits, and each is the sample times the tap's coefficient. The text depends on the network alone,
+ * and no byte of 0 closes it. It is written from the start of text[text_length], which is untouched past
  * it, and *length is how many bytes it has, at most FIR_VERILOG_BYTES. Turned down with 1, 2, 3 (rows or
  * taps are short), 10, 11 or 13 (the text has more than text_length bytes). */
 uint64_t fir_verilog(const uint32_t *rows, size_t rows_length, size_t row_count,

@@ -344,15 +344,12 @@ fn rules_at_work() {
 #[test]
 fn proved_samples() {
     let samples = samples::samples();
-    assert_eq!(samples.len(), 17);
+    assert_eq!(samples.len(), 30);
     for Sample { name, text, values } in samples {
+        let (x, patterns) = values.unzip();
         let module = reader::read(text.as_bytes());
-        assert_eq!(module.is_some(), values.is_some(), "{name}");
-        let Some((x, patterns)) = values else {
-            continue;
-        };
-        let values = module.unwrap().values(x as i64).unwrap();
-        let read: Vec<u64> = values.iter().map(|value| value.pattern).collect();
+        let values = module.and_then(|module| module.values(x.unwrap_or(0) as i64));
+        let read = values.map(|values| values.iter().map(|value| value.pattern).collect());
         assert_eq!(read, patterns, "{name}");
     }
 }

@@ -5,6 +5,7 @@ use fir_tests::sheet::program::{root, run, Delivery};
 use std::fs::{read_to_string, set_permissions, write, Permissions};
 use std::os::unix::fs::{symlink, PermissionsExt};
 use std::process::Command;
+use std::sync::Mutex;
 
 /// Notes its call, and installs all but verilator.
 const APT_GET: &str = "#!/bin/sh
@@ -41,6 +42,10 @@ fn machine(tools: &[&str], user: u32, apt_get: bool) -> Folder {
     folder
 }
 
+/// One test at a time: a program just written cannot be run while a process that another test began
+/// still has it open.
+static TURN: Mutex<()> = Mutex::new(());
+
 /// What tools/verilog prints there, and the calls of apt-get.
 fn printed(machine: &Folder) -> (String, String) {
     let mut command = Command::new(root().join("tools/verilog"));
@@ -52,12 +57,14 @@ fn printed(machine: &Folder) -> (String, String) {
 
 #[test]
 fn nothing_is_installed_where_all_are_there() {
+    let _turn = TURN.lock();
     let machine = machine(&["iverilog", "verilator", "yosys"], 0, true);
     assert_eq!(printed(&machine), (String::new(), String::new()));
 }
 
 #[test]
 fn missing_ones_are_installed() {
+    let _turn = TURN.lock();
     let machine = machine(&[], 0, true);
     let (still_missing, calls) = printed(&machine);
     assert_eq!(still_missing, "verilator\n");
@@ -68,6 +75,7 @@ fn missing_ones_are_installed() {
 
 #[test]
 fn those_that_may_not_be_installed_are_named() {
+    let _turn = TURN.lock();
     let all = "iverilog verilator yosys\n";
     let none = String::new();
     assert_eq!(

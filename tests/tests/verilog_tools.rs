@@ -16,6 +16,8 @@ const SIMULATED_NETWORKS: usize = 200;
 const RANDOM_MODULES: usize = 150;
 const LINTED_NETWORKS: usize = 40;
 const READ_NETWORKS: usize = 40;
+/// A sample that shows the width of numbers: Icarus takes more than 32 bits, as the standard allows.
+const WIDER_NUMBERS: &str = "numbers-of-32-bits";
 
 /// The core's text.
 fn text_of(network: &Network) -> String {
@@ -102,7 +104,7 @@ fn icarus_on_the_proved_samples() {
         return;
     }
     for Sample { name, text, values } in samples::samples() {
-        let Some((x, patterns)) = values else {
+        let Some((x, patterns)) = values.filter(|_| name != WIDER_NUMBERS) else {
             continue;
         };
         let module = module(&text);
@@ -167,7 +169,7 @@ fn verilator_warns_of_rows_left_over_alone() {
     for network in &networks {
         let (text, wanted) = (text_of(network), left_over(network));
         assert_eq!(verilator::left_over(&text), wanted, "{text}");
-        assert!(wanted.is_empty() || verilator::is_silent(&text));
+        assert!(verilator::is_silent(&text), "{text}");
         silent += wanted.is_empty() as usize;
     }
     println!("silent on {silent} of {}", networks.len());

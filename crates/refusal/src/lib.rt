@@ -1,5 +1,5 @@
-// Why an entry turned its input down: one case for each number of document 01's table "Turned down", and of those
-// that document 02 adds.
+// Why an entry turned its input down: one case for each number of document 01's table "Turned down", and for 13,
+// which document 02 adds.
 ghost use mathlib.Core.Path.{_≡_};
 ghost use Rattle.refusal.specs.Table.{numberOf, placeOf};
 

@@ -11,7 +11,7 @@ pub record Put (l : List ℕ) (at : ℕ) (bytes : List ℕ) (most : ℕ) (e : Li
   pub text : e ≡ sets l at bytes
   pub within : r ≤ at + most
 
--- the same of bytes that may take all the room that they need: no bound is said
+-- the same, where the area may have room for just these bytes
 abbrev pub PutAll : List ℕ → ℕ → List ℕ → List ℕ → ℕ → Type 0
 PutAll l at bytes e r = Put l at bytes (length bytes) e r
 

@@ -1,7 +1,7 @@
 -- What a module that is read must keep besides its grammar. A net of the subset has one driver. Definitions only.
 use mathlib.Core.Bool.{Bool, true, false, cond, not, _&&_}
 use mathlib.Core.List.{List, [], _∷_, _++_, map}
-use Prim.Native.Nat.{ℕ}
+use Prim.Native.Nat.{ℕ, _^_}
 use lib.Dec.{ltb}
 use Rattle.text.specs.Ascii.{ascii}
 use Rattle.verilog.specs.Expressions.{Expression, net, literal, negated, sum, difference, shifted}
@@ -49,7 +49,7 @@ anyKeyword (s ∷ ss) = cond (amongst s keywords) true (anyKeyword ss)
 -- the names of an expression are declared, and its numbers are below 2^31: the standard says that an unsized number has at least 32 bits, and 32 are taken here
 unfoldable pub closed : List (List ℕ) → Expression → Bool
 closed names (net s) = amongst s names
-closed names (literal n) = ltb n 2147483648
+closed names (literal n) = ltb n (2 ^ 31)
 closed names (negated e) = closed names e
 closed names (sum e f) = closed names e && closed names f
 closed names (difference e f) = closed names e && closed names f
@@ -65,6 +65,22 @@ calledIn ns = map (λ (n : Net). n .called) ns
 abbrev pub leftIn : List Assign → List (List ℕ)
 leftIn bs = map (λ (a : Assign). a .left) bs
 
+-- an expression uses none of these names
+unfoldable pub usesNone : List (List ℕ) → Expression → Bool
+usesNone names (net s) = not (amongst s names)
+usesNone names (literal n) = true
+usesNone names (negated e) = usesNone names e
+usesNone names (sum e f) = usesNone names e && usesNone names f
+usesNone names (difference e f) = usesNone names e && usesNone names f
+usesNone names (shifted e f) = usesNone names e && usesNone names f
+
+-- no assign uses what it assigns itself, or what a later one does: no net depends on itself, so no bit is unknown. The standard asks for no order; texts in another one
+-- are outside of the subset
+unfoldable pub ordered : List Assign → Bool
+unfolding usesNone
+ordered [] = true
+ordered (a ∷ bs) = usesNone (a .left ∷ leftIn bs) (a .right) && not (amongst (a .left) (leftIn bs)) && ordered bs
+
 -- outputs and wires: what is assigned
 abbrev pub targets : Module → List Net
 targets m = m .outputs ++ m .wires
@@ -72,7 +88,8 @@ targets m = m .outputs ++ m .wires
 abbrev pub netsOf : Module → List Net
 netsOf m = m .input ∷ targets m
 
--- nets have names of their own, which are no keywords; every output and wire is assigned once, and nothing else is; only declared names are used
+-- nets have names of their own, which are no keywords; every output and wire is assigned once, and nothing else is; only declared names are used, and only what the
+-- assigns before have assigned
 unfoldable pub sound : Module → Bool
 sound m =
     not (anyKeyword (m .called ∷ calledIn (netsOf m)))
@@ -81,3 +98,4 @@ sound m =
     && within (leftIn (m .assigns)) (calledIn (targets m))
     && within (calledIn (targets m)) (leftIn (m .assigns))
     && allClosed (calledIn (netsOf m)) (m .assigns)
+    && ordered (m .assigns)

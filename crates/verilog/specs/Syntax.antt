@@ -1,9 +1,9 @@
 -- A module, read from tokens. IEEE 1364-2005, 12.3.4: ports declared in the module line, an output being a net; 4.3: `[15:0]` is 16 bits wide. Statements
 -- are cut at `;` and ports at `,`, and each is read by itself: neither mark occurs in an expression. Definitions only.
-use mathlib.Core.Bool.{Bool, true, false, cond}
+use mathlib.Core.Bool.{Bool, true, false, cond, _&&_}
 use mathlib.Core.List.{List, [], _∷_}
-use Prim.Native.Nat.{ℕ, suc, _+_, _*_}
-use lib.Dec.{eqb}
+use Prim.Native.Nat.{ℕ, suc, _+_, _*_, _^_}
+use lib.Dec.{eqb, ltb}
 use lib.ListN.{length}
 use Rattle.text.specs.Ascii.{ascii}
 use Rattle.verilog.specs.Reading.{Reading, reads, nothing, whenRead}
@@ -93,13 +93,13 @@ abbrev pub startsWith : List ℕ → List Token → Bool
 startsWith s [] = false
 startsWith s (t ∷ ts) = isWord s t
 
--- ---- declarations: `signed [h:0] name`, or the same without `signed`
+-- ---- declarations: `signed [h:0] name`, h below 2^31, or the same without `signed`, which is unsigned
 
 abbrev pub netOf : List ℕ → ℕ → Bool → Net
 netOf s w g = record { called = s; width = w; signed = g }
 
 abbrev pub ranged : Bool → List Token → Reading Net
-ranged g ts = afterMark 91 (afterNumber (λ h. afterMark 58 (afterNumber (λ l. whenTrue (eqb l 0) (afterMark 93 (afterName (λ s. atEnd (netOf s (suc h) g)))))))) ts
+ranged g ts = afterMark 91 (afterNumber (λ h. afterMark 58 (afterNumber (λ l. whenTrue (eqb l 0 && ltb h (2 ^ 31)) (afterMark 93 (afterName (λ s. atEnd (netOf s (suc h) g)))))))) ts
 
 abbrev pub declaredBy : Bool → List Token → Reading Net
 declaredBy true ts = ranged true (rest ts)

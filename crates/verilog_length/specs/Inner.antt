@@ -7,12 +7,12 @@ use Rattle.text.specs.Numbers.{decimal}
 use Rattle.text.specs.Lines.{numberedFrom}
 use Rattle.text.specs.Inner.{numberBytes}
 
--- r bytes, at most so many, beside its number i: a line's
+-- a line has r bytes beside its number i, and r is at most `most`
 pub record Beside (line : List ℕ) (i most r : ℕ) : Type 0 where
   pub bytes : length line ≡ r + length (decimal i)
   pub within : r ≤ most
 
--- and beside the numbers below n: those of n lines
+-- so have n lines, beside the numbers below n
 pub record BesideAll (lines : List ℕ) (n most r : ℕ) : Type 0 where
   pub bytes : length lines ≡ r + length (numberedFrom decimal 0 n)
   pub within : r ≤ most

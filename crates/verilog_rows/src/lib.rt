@@ -71,11 +71,11 @@ pub fn put_wires(out: &mut [u8], at: usize, n: usize) -> usize
     ensures { λ r. ⌜ PutAll (now (out .entry)) at (numberedFrom wireLine 0 n) (now (out .exit)) r ⌝ }
 {
     let mut to = at;
-    let mut i: usize = 0;
-    while i < n {
-        to = put_with(out, to, b"wire signed [63:0] n", i as u32);
+    let mut row: usize = 0;
+    while row < n {
+        to = put_with(out, to, b"wire signed [63:0] n", row as u32);
         to = put(out, to, b";\n");
-        i += 1;
+        row += 1;
     }
     to
 }

@@ -8,8 +8,7 @@ use Rattle.network.specs.declared.TapRow.{TapRow}
 use Rattle.network.specs.Rows.{plus, minus}
 use Rattle.text.specs.Ascii.{ascii}
 use Rattle.text.specs.Numbers.{decimal}
-use Rattle.verilog_text.specs.Text.{tapAssign}
-use Rattle.verilog_taps.specs.Inner.{tapBy}
+use Rattle.verilog_text.specs.Text.{tapBy, tapAssign}
 
 pub product-parts : (k : ℕ) (t : TapRow) → tapBy true false k t
     ≡ (ascii "assign t" ++ decimal k) ++ ((ascii " = n" ++ decimal (t .row)) ++ ((ascii " <<< " ++ decimal (t .shift)) ++ ascii ";\n"))

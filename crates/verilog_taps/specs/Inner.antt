@@ -1,18 +1,10 @@
--- The assign of a tap by its sign, for the contracts of its writers. Definitions only.
-use mathlib.Core.Bool.{Bool}
-use mathlib.Core.List.{List, _++_}
+-- The bytes of the assign of a tap by its sign, for the contracts of its writers. Definitions only.
 use Prim.Native.Nat.{ℕ, _+_}
 use lib.ListN.{length}
 use Rattle.network.specs.declared.TapRow.{TapRow}
-use Rattle.text.specs.Ascii.{ascii}
 use Rattle.text.specs.Numbers.{decimal}
-use Rattle.verilog_text.specs.Text.{tapRight}
 
--- the first Bool says that the sign is `+`, the second that it is `-`
-abbrev pub tapBy : Bool → Bool → ℕ → TapRow → List ℕ
-tapBy p q k t = ascii "assign t" ++ (decimal k ++ (ascii " = " ++ (tapRight p q t ++ ascii ";\n")))
-
--- its bytes: of a tap of sign `+`, of one of sign `-`, of an empty one
+-- the bytes of a tap of sign `+`, of one of sign `-`, of an empty one
 abbrev pub productBytes : ℕ → TapRow → ℕ
 productBytes k t = 19 + (length (decimal k) + (length (decimal (t .row)) + length (decimal (t .shift))))
 

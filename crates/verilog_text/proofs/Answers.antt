@@ -3,20 +3,14 @@ use mathlib.Core.Path.{_≡_, ap}
 use mathlib.Core.Bool.{false}
 use mathlib.Core.List.{List}
 use Prim.Native.Nat.{ℕ}
-use lib.Dec.{ltb}
 use lib.IntN.{ℤ}
-use lib.ListN.{length}
-use Rattle.refusal.specs.Answer.{Answer, given, refused, refuseIf, andThen}
+use Rattle.refusal.specs.Answer.{Answer, given, refused, andThen}
 use Rattle.network.specs.Check.{networkAnswer}
-use Rattle.verilog_text.specs.Written.{textIn, verilogAnswer}
+use Rattle.verilog_text.specs.Written.{textIn, lengthAnswer, verilogAnswer}
 
 module _ (rows : List ℕ) (n : ℕ) (taps : List ℕ) (m room : ℕ) where
-  -- the check of the area
-  abbrev pub roomAnswer : Answer ℕ
-  roomAnswer = refuseIf (ltb room (length (textIn rows n taps m))) 13 (given (length (textIn rows n taps m)))
-
-  pub answer-given : (h : List ℤ) → networkAnswer false rows n taps m ≡ given h → verilogAnswer rows n taps m room ≡ roomAnswer
-  answer-given h e = ap (λ (a : Answer (List ℤ)). andThen a (λ (g : List ℤ). roomAnswer)) e
+  pub answer-given : (h : List ℤ) → networkAnswer false rows n taps m ≡ given h → verilogAnswer rows n taps m room ≡ lengthAnswer room (textIn rows n taps m)
+  answer-given h e = ap (λ (a : Answer (List ℤ)). andThen a (λ (g : List ℤ). lengthAnswer room (textIn rows n taps m))) e
 
   pub answer-refused : (number place : ℕ) → networkAnswer false rows n taps m ≡ refused number place → verilogAnswer rows n taps m room ≡ refused number place
-  answer-refused number place e = ap (λ (a : Answer (List ℤ)). andThen a (λ (g : List ℤ). roomAnswer)) e
+  answer-refused number place e = ap (λ (a : Answer (List ℤ)). andThen a (λ (g : List ℤ). lengthAnswer room (textIn rows n taps m))) e

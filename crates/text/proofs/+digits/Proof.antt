@@ -8,7 +8,8 @@ use Prim.Native.Nat.{ℕ, _+_, _≤_, _<_}
 use native.Mathlib.Omega.{arith}
 use lib.Dec.{lit≤, ltb}
 use lib.ListN.{length}
-use mir.Val.{boolByte}
+use mir.Syntax.{w64}
+use mir.Val.{Fits, boolByte}
 use borrow.Fn.Kinds.{In}
 use borrow.Fn.PlainCycle.{Measures, is, falls, and}
 use Rattle.word.proofs.Order.{lt-or-le}
@@ -24,6 +25,18 @@ use Rattle.text.proofs.+digits.Tie.{close}
 at-most-one : (b : Bool) → boolByte b ≤ 1
 at-most-one true = omega arith
 at-most-one false = omega arith
+
+one-fits : (a : Bool) → Fits w64 (1 + boolByte a)
+one-fits a = record { fits = omega (arith, at-most-one a) }
+
+two-fit : (a b : Bool) → Fits w64 (1 + boolByte a + boolByte b)
+two-fit a b = record { fits = omega (arith, at-most-one a, at-most-one b) }
+
+three-fit : (a b c : Bool) → Fits w64 (1 + boolByte a + boolByte b + boolByte c)
+three-fit a b c = record { fits = omega (arith, at-most-one a, at-most-one b, at-most-one c) }
+
+at-most-four : (a b c : Bool) → 1 + boolByte a + boolByte b + boolByte c ≤ numberBytes
+at-most-four a b c = omega (arith, at-most-one a, at-most-one b, at-most-one c)
 
 up-to-four : (n : ℕ) → n < 10000 → 1 + boolByte (ltb 9 n) + boolByte (ltb 99 n) + boolByte (ltb 999 n) ≡ length (decimal n)
 up-to-four n h =
@@ -48,7 +61,7 @@ digits-cast-result t c = search needs
 
 digits-add-result :
     (t : ℕ) → digits-lts.Need-add-result (digits-below t, digits.Post) (digits-at t) digits.Post
-digits-add-result t c = record { fits = omega (arith, at-most-one (ltb 9 (c .before .args .n))) }
+digits-add-result t c = one-fits (ltb 9 (c .before .args .n))
 
 digits-cast-result-2 :
     (t : ℕ) →
@@ -57,7 +70,7 @@ digits-cast-result-2 t c = search needs
 
 digits-add-result-2 :
     (t : ℕ) → digits-lts.Need-add-result-2 (digits-below t, digits.Post) (digits-at t) digits.Post
-digits-add-result-2 t c = let n = c .before .args .n in record { fits = omega (arith, at-most-one (ltb 9 n), at-most-one (ltb 99 n)) }
+digits-add-result-2 t c = let n = c .before .args .n in two-fit (ltb 9 n) (ltb 99 n)
 
 digits-cast-result-3 :
     (t : ℕ) →
@@ -66,13 +79,13 @@ digits-cast-result-3 t c = search needs
 
 digits-add-result-3 :
     (t : ℕ) → digits-lts.Need-add-result-3 (digits-below t, digits.Post) (digits-at t) digits.Post
-digits-add-result-3 t c = let n = c .before .args .n in record { fits = omega (arith, at-most-one (ltb 9 n), at-most-one (ltb 99 n), at-most-one (ltb 999 n)) }
+digits-add-result-3 t c = let n = c .before .args .n in three-fit (ltb 9 n) (ltb 99 n) (ltb _ n)
 
 digits-returns :
     (t : ℕ) → digits-lts.Need-returns (digits-below t, digits.Post) (digits-at t) digits.Post
 digits-returns t c =
     let n = c .before .args .n in
-    (up-to-four n (c .if1 .taken), omega (arith, at-most-one (ltb 9 n), at-most-one (ltb 99 n), at-most-one (ltb 999 n)))
+    (up-to-four n (c .if1 .taken), at-most-four (ltb 9 n) (ltb 99 n) (ltb _ n))
 
 digits-digits-requires :
     (t : ℕ) →

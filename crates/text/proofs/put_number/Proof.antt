@@ -11,17 +11,14 @@ use Rattle.text.proofs.put_number.Reads as reads
 use Rattle.text.proofs.put_number.Lts as lts
 use Rattle.text.proofs.put_decimal.Reads as put-decimal-reads
 
--- src/lib.rt:66:5
 put-decimal-requires : tie.Need-put-decimal-requires
 put-decimal-requires c κs =
     let at-start = c .before .before in
     omega (arith, at-start .pre, decimal-le numberBytes (at-start .args .n) (lit≤ tt) (omega (arith, at-start .fits .n)))
 
--- src/lib.rt:62:1
 same-length : tie.Need-same-length
 same-length c = search needs
 
--- src/lib.rt:62:1
 returns : tie.Need-returns
 returns c =
     let after-put-decimal = c .before .before in

@@ -1,4 +1,4 @@
--- `verilog_rows::put_wires` meets its contract. The invariant of its loop: the wires of the numbers below i stand from `at` to `to`. The measure is the count of numbers left. Assumes nothing.
+-- `verilog_rows::put_wires` meets its contract. The invariant of its loop: the wires of the numbers below `row` stand from `at` to `to`. The measure is the count of numbers left. Assumes nothing.
 use borrow.Author.Needs.{needs}
 use mathlib.Core.Path.{_≡_, refl, sym, _∙_}
 use mathlib.Core.List.{append-assoc}
@@ -17,10 +17,10 @@ use Rattle.verilog_rows.proofs.put_wires.Statement.{statement}
 use Rattle.verilog_rows.proofs.put_wires.Tie as tie
 
 abbrev Inv-loop : tie.InvT-loop
-Inv-loop out₀ at n to₀ i₀ t6 t7 out to i = (i ≤ n) × (PutAll out₀ at (numberedFrom wireLine 0 i) out to × (length out ≡ length out₀))
+Inv-loop out₀ at n to₀ row₀ t6 t7 out to row = (row ≤ n) × (PutAll out₀ at (numberedFrom wireLine 0 row) out to × (length out ≡ length out₀))
 
 abbrev μ-loop : tie.MeasureT-loop
-μ-loop out₀ at n to₀ i₀ t6 t7 out to i = n - i
+μ-loop out₀ at n to₀ row₀ t6 t7 out to row = n - row
 
 loop-holds : tie.Need-loop-holds Inv-loop μ-loop
 loop-holds c = (search needs, (none-put wireLine _ _, refl))
@@ -36,14 +36,14 @@ put-with-requires c κs =
     let in-loop = c .before .before in
     let at-loop = in-loop .before in
     let at-start = at-loop .before .before in
-    let i = at-loop .loop .i in
+    let row = at-loop .loop .row in
     omega (
       arith,
       at-start .pre .1,
       at-loop .loop .inv .1 .0 .next,
       at-loop .loop .inv .1 .1,
-      wire-length i,
-      room-next (numberedFrom wireLine 0) wireLine (numbered-next wireLine) i (at-start .args .n) (in-loop .loop-test .taken),
+      wire-length row,
+      room-next (numberedFrom wireLine 0) wireLine (numbered-next wireLine) row (at-start .args .n) (in-loop .loop-test .taken),
     )
 
 slice-aggregate-put : tie.Need-slice-aggregate-put Inv-loop μ-loop
@@ -55,7 +55,7 @@ put-requires c κs =
     let in-loop = after-number .before .before .before in
     let at-loop = in-loop .before in
     let at-start = at-loop .before .before in
-    let i = at-loop .loop .i in
+    let row = at-loop .loop .row in
     omega (
       arith,
       after-number .put-with .ensures .1,
@@ -63,12 +63,12 @@ put-requires c κs =
       at-start .pre .1,
       at-loop .loop .inv .1 .0 .next,
       at-loop .loop .inv .1 .1,
-      wire-length i,
-      room-next (numberedFrom wireLine 0) wireLine (numbered-next wireLine) i (at-start .args .n) (in-loop .loop-test .taken),
+      wire-length row,
+      room-next (numberedFrom wireLine 0) wireLine (numbered-next wireLine) row (at-start .args .n) (in-loop .loop-test .taken),
     )
 
-add-i : tie.Need-add-i Inv-loop μ-loop
-add-i c = search needs
+add-row : tie.Need-add-row Inv-loop μ-loop
+add-row c = search needs
 
 loop-less : tie.Need-loop-less Inv-loop μ-loop
 loop-less c = search needs
@@ -78,11 +78,11 @@ loop-again c =
     let after-put = c .before .before in
     let after-number = after-put .before .before .before .before .before in
     let at-loop = after-number .before .before .before .before in
-    let i = at-loop .loop .i in
-    let line = put-as (sym (append-assoc (ascii "wire signed [63:0] n") (decimal i) (ascii ";\n"))) (then-all (after-number .put-with .ensures .0) (after-put .put .ensures)) in (
+    let row = at-loop .loop .row in
+    let line = put-as (sym (append-assoc (ascii "wire signed [63:0] n") (decimal row) (ascii ";\n"))) (then-all (after-number .put-with .ensures .0) (after-put .put .ensures)) in (
       search needs,
       (
-        rw (numbered-next wireLine i) (then-all (at-loop .loop .inv .1 .0) line),
+        rw (numbered-next wireLine row) (then-all (at-loop .loop .inv .1 .0) line),
         after-put .put .kept .0 ∙ after-number .put-with .kept .0 ∙ at-loop .loop .inv .1 .1,
       ),
     )
@@ -94,7 +94,7 @@ returns : tie.Need-returns Inv-loop μ-loop
 returns c =
     let at-loop = c .before in
     let start = at-loop .before .before .args in
-    let all : at-loop .loop .i ≡ start .n = omega (arith, c .loop-test .left, at-loop .loop .inv .0) in
+    let all : at-loop .loop .row ≡ start .n = omega (arith, c .loop-test .left, at-loop .loop .inv .0) in
     rw all at (at-loop .loop .inv .1 .0)
 
 pub put-wires-spec : {M : Type 1} → statement M
@@ -109,7 +109,7 @@ put-wires-spec =
     put-with-requires
     slice-aggregate-put
     put-requires
-    add-i
+    add-row
     loop-less
     loop-again
     same-length

@@ -39,13 +39,13 @@ fn bench(module: &Module, inputs: &Inputs) -> String {
     let names: Vec<&str> = outputs.iter().map(|net| net.name.as_str()).collect();
     let (names, fields) = (names.join(", "), vec!["%0d"; names.len()].join(" "));
     let wires: String = outputs.iter().map(|net| declared("wire", net)).collect();
-    let (dut, x) = (&module.name, &input.name);
+    let (name, x) = (&module.name, &input.name);
     [
         format!(
             "module bench;\ninteger i;\n{}{wires}",
             declared("reg", input)
         ),
-        format!("{dut} dut({x}, {names});\n"),
+        format!("{name} tried({x}, {names});\n"),
         format!("task show;\ninput [15:0] next;\nbegin\n{x} = 16'bx; #1 {x} = next; #1\n"),
         format!("$display(\"{fields}\", {names});\nend\nendtask\n"),
         format!("initial begin\n{}end\nendmodule\n", calls(inputs)),

@@ -31,6 +31,7 @@ pub fn left_over(text: &str) -> Vec<String> {
         rest.trim_end_matches('\'').to_string()
     };
     let said = said(text, &[]);
+    assert!(!said.contains("%Error:"), "{said}");
     let warnings = said.lines().filter(|line| line.starts_with("%Warning"));
     warnings.map(name).collect()
 }
