@@ -41,15 +41,14 @@ apart : (b d : Bool) → cond b false d ≡ true → b ≡ false
 apart true d e = absurd (true≢false (sym e))
 apart false d e = refl
 
--- the second, the fourth and the last of seven
-chosen : (a b c d e f g : Bool) → (a && b && c && d && e && f && g) ≡ true → (b ≡ true) × (d ≡ true) × (g ≡ true)
-chosen a b c d e f g q =
-    let last = both (a && b && c && d && e && f) g q in
-    let sixth = both (a && b && c && d && e) f (last .0) in
-    let fifth = both (a && b && c && d) e (sixth .0) in
+-- the second, the third and the last of six
+chosen : (a b c d e f : Bool) → (a && b && c && d && e && f) ≡ true → (b ≡ true) × (c ≡ true) × (f ≡ true)
+chosen a b c d e f q =
+    let last = both (a && b && c && d && e) f q in
+    let fifth = both (a && b && c && d) e (last .0) in
     let fourth = both (a && b && c) d (fifth .0) in
     let third = both (a && b) c (fourth .0) in
-    (both a b (third .0) .1, fourth .1, last .1)
+    (both a b (third .0) .1, third .1, last .1)
 
 module _ (m : Module) where
   abbrev inputName : List ℕ
@@ -61,7 +60,7 @@ module _ (m : Module) where
       let nets = calledIn (netsOf m) in
       let its = calledIn (targets m) in
       let lefts = leftIn (m .assigns) in
-      let w = chosen (not (anyKeyword (m .called ∷ nets))) (distinct nets) _ (within lefts its) (within its lefts) (allClosed nets (m .assigns)) (ordered (m .assigns)) e in
+      let w = chosen (not (anyKeyword (m .called ∷ nets))) (distinct nets) (within lefts its) (within its lefts) (allClosed nets (m .assigns)) (ordered (m .assigns)) e in
       (outside inputName lefts its (w .1) (apart (amongst inputName its) (distinct its) (w .0)), w .2)
 
 in-order : (text : List ℕ) (m : Module) → meaning text ≡ reads m → (x : ℤ) → Settled m x (evaluated m x)

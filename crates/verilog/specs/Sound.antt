@@ -74,8 +74,8 @@ usesNone names (sum e f) = usesNone names e && usesNone names f
 usesNone names (difference e f) = usesNone names e && usesNone names f
 usesNone names (shifted e f) = usesNone names e && usesNone names f
 
--- no assign uses what it assigns itself, or what a later one does: no net depends on itself, so no bit is unknown. The standard asks for no order; texts in another one
--- are outside of the subset
+-- no assign uses what it assigns itself, or what a later one does, and no later one assigns the same: a net has one driver and does not depend on itself, so no bit is
+-- unknown. The standard asks for no order; texts in another one are outside of the subset
 unfoldable pub ordered : List Assign → Bool
 unfolding usesNone
 ordered [] = true
@@ -94,7 +94,6 @@ unfoldable pub sound : Module → Bool
 sound m =
     not (anyKeyword (m .called ∷ calledIn (netsOf m)))
     && distinct (calledIn (netsOf m))
-    && distinct (leftIn (m .assigns))
     && within (leftIn (m .assigns)) (calledIn (targets m))
     && within (calledIn (targets m)) (leftIn (m .assigns))
     && allClosed (calledIn (netsOf m)) (m .assigns)

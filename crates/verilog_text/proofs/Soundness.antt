@@ -139,17 +139,16 @@ module _ (net : Network) (h : List ℤ) (passed : KeepsRules net h) where
       (λ i l k q. let e : k ≡ i = omega arith in rw e (right-closed i l (passed .rows i l)))
       (closed-taps (ascii "x" ∷ tapsRows) 0 (net .taps) (λ k l. tap-closed (tapRowIn (net .taps) k) (passed .taps k l)))
 
-  seven : (a b c d e f g : Bool) → a ≡ true → b ≡ true → c ≡ true → d ≡ true → e ≡ true → f ≡ true → g ≡ true → (a && b && c && d && e && f && g) ≡ true
-  seven a b c d e f g pa pb pc pd pe pf pg = rw (pa, pb, pc, pd, pe, pf, pg)
+  six : (a b c d e f : Bool) → a ≡ true → b ≡ true → c ≡ true → d ≡ true → e ≡ true → f ≡ true → (a && b && c && d && e && f) ≡ true
+  six a b c d e f pa pb pc pd pe pf = rw (pa, pb, pc, pd, pe, pf)
 
   pub text-sound : sound (moduleFor net) ≡ true
   unfolding sound
   text-sound =
       rw (targets-are, lefts-are)
-      (seven _ _ _ _ _ _ _
+      (six _ _ _ _ _ _
       (ap not (keyword-free 0 m 0 n))
       (rw (in-neither (ascii "x") (names 116 0 m) (names 110 0 n) (other 120 116 [] 0 m (λ e. omega arith)) (other 120 110 [] 0 n (λ e. omega arith))) (distinct-two 116 0 m 110 0 n (λ e. omega arith)))
-      (distinct-two 110 0 n 116 0 m (λ e. omega arith))
       (within-names tapsRows (names 116 0 m) 110 0 n (λ i l k. in-second (rowNet i) (names 116 0 m) (names 110 0 n) (hit 110 i 0 n l k))
       (within-only tapsRows 116 0 m (λ i l k. in-first (tapNet i) (names 116 0 m) (names 110 0 n) (hit 116 i 0 m l k))))
       (within-names rowsTaps (names 110 0 n) 116 0 m (λ i l k. in-second (tapNet i) (names 110 0 n) (names 116 0 m) (hit 116 i 0 m l k))

@@ -23,7 +23,7 @@ fn said(text: &str, more: &[&str]) -> String {
     said
 }
 
-/// The nets that nothing uses; there is no other warning.
+/// The nets that nothing uses; there is no other warning. `is_silent` says whether there are errors.
 pub fn left_over(text: &str) -> Vec<String> {
     let name = |line: &str| {
         let rest = line.split_once("Signal is not used: '");
@@ -31,7 +31,6 @@ pub fn left_over(text: &str) -> Vec<String> {
         rest.trim_end_matches('\'').to_string()
     };
     let said = said(text, &[]);
-    assert!(!said.contains("%Error:"), "{said}");
     let warnings = said.lines().filter(|line| line.starts_with("%Warning"));
     warnings.map(name).collect()
 }
