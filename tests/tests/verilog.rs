@@ -344,7 +344,7 @@ fn rules_at_work() {
 #[test]
 fn proved_samples() {
     let samples = samples::samples();
-    assert_eq!(samples.len(), 30);
+    assert_eq!(samples.len(), 31);
     for Sample { name, text, values } in samples {
         let (x, patterns) = values.unzip();
         let module = reader::read(text.as_bytes());

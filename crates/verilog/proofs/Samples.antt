@@ -22,6 +22,7 @@ rules-at-work = record {
   low-bits = refl;
   wider-operand = refl;
   own-width = refl;
+  no-narrower-number = refl;
   numbers-of-32-bits = refl;
   signed-number = refl;
   unsigned-sum = refl;

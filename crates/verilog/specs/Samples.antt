@@ -44,7 +44,9 @@ pub record RulesAtWork : Type 0 where
   pub own-width : shown (negℤ (pos 3))
       (meaning (withLines (ascii "wire [3:0] a;\nwire [7:0] b;\nwire [3:0] c;\nassign a = 8;\nassign b = 1;\nassign c = 1;\nassign t0 = x <<< (a <<< b);\nassign t1 = x <<< -c;\n")))
       ≡ (2 ^ 16 - 3) ∷ (2 ^ 64 - 3) ∷ (2 ^ 64 - 98304) ∷ 8 ∷ 1 ∷ 1 ∷ []
-  -- a number is 32 bits wide: a shift by 2^32 modulo 2^32, which is 0. Other readers may take more bits
+  -- a number is no narrower than its 32 bits: 65535 + 1 is 65536, and a shift by so much leaves nothing
+  pub no-narrower-number : shown (negℤ (pos 3)) (meaning (withOutput (ascii "n0 <<< 65535 + 1"))) ≡ (2 ^ 16 - 3) ∷ 0 ∷ (2 ^ 64 - 3) ∷ []
+  -- and no wider: a shift by 2^32 modulo 2^32, which is 0. Other readers may take more bits
   pub numbers-of-32-bits : shown (negℤ (pos 3)) (meaning (withOutput (ascii "n0 <<< 2147483647 + 2147483647 + 2"))) ≡ (2 ^ 16 - 3) ∷ (2 ^ 64 - 3) ∷ (2 ^ 64 - 3) ∷ []
   -- ---- signs; x = -3
   -- a number is signed
