@@ -1,6 +1,6 @@
 -- The first and the last nonzero of a list are where the definitions have them. Assumes nothing.
 use mathlib.Core.Path.{_≡_, refl, ap, _∙_}
-use mathlib.Core.Bool.{false, cond}
+use mathlib.Core.Bool.{cond}
 use mathlib.Core.List.{List, [], _∷_}
 use mathlib.Core.Logic.{_≢_, _⊎_, inl, inr}
 use Prim.Native.Nat.{ℕ, zero, suc, _+_, _<_}
@@ -8,7 +8,8 @@ use native.Mathlib.Nat.{zero-add}
 use native.Mathlib.Omega.{arith}
 use lib.IntN.{ℤ, pos, negsuc, natAbs}
 use lib.ListN.{getD}
-use Rattle.coefficient.specs.Zero.{isZero}
+use Rattle.word.specs.Zero.{isZero}
+use Rattle.word.proofs.Zero.{nonzero-is}
 use Rattle.coefficient.specs.Stretch.{firstFrom, startOf, endWith, endOf}
 use Rattle.coefficient.specs.Claims.{AllZero}
 
@@ -27,11 +28,6 @@ pub data Nonzeros (h : List ℤ) : Type 0 where
   some : (a b : ℕ) → First h a → Last h b → Nonzeros h
 
 -- ---- one element in front
-nonzero-is : (x : ℤ) → x ≢ pos 0 → isZero x ≡ false
-nonzero-is (pos zero) n = absurd (n refl)
-nonzero-is (pos (suc m)) n = refl
-nonzero-is (negsuc m) n = refl
-
 zero-or-not : (x : ℤ) → (x ≡ pos 0) ⊎ (x ≢ pos 0)
 zero-or-not (pos zero) = inl refl
 zero-or-not (pos (suc m)) = inr (λ e. omega (arith, ap natAbs e))

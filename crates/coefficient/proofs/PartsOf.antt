@@ -8,11 +8,11 @@ use native.Mathlib.Omega.{arith}
 use lib.Count.{trailingZeros}
 use lib.IntN.{ℤ, pos, negsuc, negℤ, natAbs, _*ℤ_}
 use lib.Pow.{shl-shr}
+use Rattle.word.specs.Zero.{isZero}
 use Rattle.word.proofs.LowZeros.{low-zeros, product-above, power-above, exponent-below}
 use Rattle.word.proofs.Multiples.{negative-times}
 use Rattle.signed_digit.specs.Reduction.{Sign, positive, negative, signValue, Reduction}
 use Rattle.signed_digit.proofs.Reduction.{zero-irreducible}
-use Rattle.coefficient.specs.Zero.{isZero}
 use Rattle.coefficient.specs.Parts.{no-odd-part, parts, signOf, shiftOf, oddPartOf, partsOf}
 
 -- ---- a sign and a magnitude

@@ -8,7 +8,7 @@ use native.Mathlib.Omega.{arith}
 use lib.IntN.{ℤ, pos}
 use lib.ListN.{length, take, drop, getD, drop-of-length-le}
 use lib.Seq.{drop-cons, take-suc, length-take-le}
-use Rattle.coefficient.specs.Zero.{isZero}
+use Rattle.word.specs.Zero.{isZero}
 use Rattle.coefficient.specs.Stretch.{firstFrom, endWith, endOf}
 
 -- ---- forwards: what is passed is zero

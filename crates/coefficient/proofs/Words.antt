@@ -1,7 +1,6 @@
--- What the 32 bits of a coefficient tell: whether it is zero, and its parts. Assumes nothing.
+-- What the 32 bits of a coefficient tell of its parts. Assumes nothing.
 use mathlib.Core.Path.{_≡_, refl, sym, ap, _∙_}
-use mathlib.Core.Bool.{true, false}
-use Prim.Native.Nat.{ℕ, zero, suc, _/_, _^_, _<_}
+use Prim.Native.Nat.{ℕ, _/_, _^_, _<_}
 use native.Mathlib.Omega.{arith}
 use borrow.Author.Tests.{le-ltb}
 use lib.Count.{trailingZeros}
@@ -10,21 +9,11 @@ use lib.Signed.{natAbs-le, ltZ}
 use mir.Syntax.{w32}
 use mir.Val.{SFits, ofZ, toZ}
 use mir.ValLaws.{toZ-ofZ}
+use Rattle.word.proofs.Zero.{nonzero-word}
 use Rattle.signed_digit.specs.Reduction.{Reduction}
 use Rattle.signed_digit.proofs.Reduction.{reduction}
-use Rattle.coefficient.specs.Zero.{isZero}
 use Rattle.coefficient.specs.Parts.{parts, signOf, shiftOf, oddPartOf, partsOf, signIf}
 use Rattle.coefficient.proofs.PartsOf.{zeros-are, shift-is, reduction-bounds}
-
-pub zero-word : (n : ℤ) → SFits w32 n → ofZ w32 n ≡ 0 → isZero n ≡ true
-zero-word (pos zero) f e = refl
-zero-word (pos (suc m)) f e = absurd (omega arith)
-zero-word (negsuc m) f e = absurd (omega (arith, f .sfits))
-
-pub nonzero-word : (n : ℤ) → (ofZ w32 n ≡ 0 → ⊥) → isZero n ≡ false
-nonzero-word (pos zero) h = absurd (h refl)
-nonzero-word (pos (suc m)) h = refl
-nonzero-word (negsuc m) h = refl
 
 below-zero : (n : ℤ) → signIf (ltZ n (pos 0)) ≡ signOf n
 below-zero (pos m) = ap signIf (le-ltb m 0 (omega arith))

@@ -1,4 +1,3 @@
-pub mod Zero
 pub mod Parts
 pub mod Stretch
 pub mod Claims

@@ -4,10 +4,10 @@ use mathlib.Core.Bool.{Bool, true, false, cond}
 use Prim.Native.Nat.{ℕ, _/_, _^_}
 use lib.Count.{trailingZeros}
 use lib.IntN.{ℤ, pos, negsuc, natAbs}
+use Rattle.word.specs.Zero.{isZero}
 use Rattle.signed_digit.specs.Reduction.{Sign, positive, negative}
 use Rattle.coefficient.specs.declared.Reduced.{Reduced}
 use Rattle.coefficient.specs.declared.Reduced.the-variants.{Zero, Split}
-use Rattle.coefficient.specs.Zero.{isZero}
 
 -- "sign"
 abbrev pub signOf : ℤ → Sign

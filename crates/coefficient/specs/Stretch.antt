@@ -6,7 +6,7 @@ use mathlib.Core.List.{List, [], _∷_}
 use Prim.Native.Nat.{ℕ, zero, suc, _+_, _*_, _-_}
 use lib.IntN.{ℤ}
 use lib.ListN.{take, drop}
-use Rattle.coefficient.specs.Zero.{isZero}
+use Rattle.word.specs.Zero.{isZero}
 
 -- "the first nonzero": its place, that of the first element being k; 0 where there is none
 unfoldable pub firstFrom : ℕ → List ℤ → ℕ

@@ -4,3 +4,4 @@ pub mod LowZeros
 pub mod Multiples
 pub mod Signed
 pub mod Bounds
+pub mod Zero

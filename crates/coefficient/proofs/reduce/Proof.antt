@@ -1,7 +1,8 @@
 -- `coefficient::reduce` meets its contract. Assumes nothing.
 use borrow.Author.Needs.{needs}
+use Rattle.word.proofs.Zero.{zero-word}
 use Rattle.coefficient.specs.Parts.{partsOf}
-use Rattle.coefficient.proofs.Words.{zero-word, places-32, parts-32}
+use Rattle.coefficient.proofs.Words.{places-32, parts-32}
 use Rattle.coefficient.proofs.reduce.Statement.{statement}
 use Rattle.coefficient.proofs.reduce.Tie as tie
 

@@ -7,8 +7,8 @@ use native.Mathlib.Omega.{arith}
 use lib.IntN.{pos}
 use lib.ListN.{length, take, getD}
 use lib.Seq.{take-length}
+use Rattle.word.proofs.Zero.{zero-word, nonzero-word}
 use Rattle.coefficient.specs.Stretch.{endOf}
-use Rattle.coefficient.proofs.Words.{zero-word, nonzero-word}
 use Rattle.coefficient.proofs.Scans.{end-earlier, end-here, end-none}
 use Rattle.coefficient.proofs.trim.end_of_nonzero.Statement.{statement}
 use Rattle.coefficient.proofs.trim.end_of_nonzero.Tie as tie

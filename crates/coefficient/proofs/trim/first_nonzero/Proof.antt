@@ -5,8 +5,8 @@ use Prim.Native.Nat.{_-_, _≤_}
 use borrow.Author.Needs.{needs}
 use lib.IntN.{pos}
 use lib.ListN.{length, drop, getD}
+use Rattle.word.proofs.Zero.{zero-word, nonzero-word}
 use Rattle.coefficient.specs.Stretch.{firstFrom, startOf}
-use Rattle.coefficient.proofs.Words.{zero-word, nonzero-word}
 use Rattle.coefficient.proofs.Scans.{first-later, first-here, first-none}
 use Rattle.coefficient.proofs.trim.first_nonzero.Statement.{statement}
 use Rattle.coefficient.proofs.trim.first_nonzero.Tie as tie
