@@ -1,3 +1,4 @@
 pub mod UpTo
+pub mod Count
 pub mod Front
 pub mod Ordered

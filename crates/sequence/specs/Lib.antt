@@ -1,3 +1,4 @@
 pub mod Sum
 pub mod UpTo
+pub mod Count
 pub mod Inner
