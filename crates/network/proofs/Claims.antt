@@ -18,6 +18,7 @@ use Rattle.network.proofs.Rules.{row-rule, row-kept, tap-rule, tap-kept
 use Rattle.network.proofs.Refusals.{network-refusals, outcome-refusals}
 use Rattle.network.proofs.Passed.{given-accepted, accepted-given}
 use Rattle.network.proofs.Given.{length-coefficients, coefficient-is, given-within, outcome-given, same-coefficients}
+use Rattle.network.proofs.Adders.{empty-zero, zero-empty, taps-counted}
 use Rattle.network.proofs.Evaluation.{rows-multiply, taps-multiply}
 
 untouched : (a : Answer (List ℤ)) (number place : ℕ) (results old : List ℤ) → refused number place ≡ outcome a → filled a results old ≡ old
@@ -78,6 +79,9 @@ network-claims = record {
   coefficient-is = coefficient-is;
   given-fits = given-within;
   same-coefficients = same-coefficients;
+  empty-zero = λ net h p j l e. empty-zero net h p j l e;
+  zero-empty = λ net h p j l e. zero-empty net h p j l e;
+  taps-counted = λ net h p. taps-counted net h p;
   rows-multiply = λ net h p sample i l. rows-multiply net h p sample i l;
   taps-multiply = λ net h p sample. taps-multiply net h p sample;
 }

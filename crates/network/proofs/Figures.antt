@@ -22,6 +22,7 @@ use Rattle.network.specs.Checked.{NetworkChecked, CoefficientsRead}
 use Rattle.network.specs.Evaluation.{rowResults, tapResults}
 use Rattle.network.specs.Figures.{sheetRows, sheetTapRows, sheetCoefficients, NetworkFigures}
 use Rattle.network.proofs.NearFigures.{own-row, two-broken-rows, rows-before-taps, two-broken-taps, no-row, no-such-row, least, too-large, above-2^31}
+use Rattle.network.proofs.AdderFigures.{sheet-adders, zero-taps, one-tap, equal-taps, one-odd-part}
 use Rattle.network.proofs.Passed.{checked-passed, given-accepted}
 use Rattle.network.proofs.Given.{coefficient-within}
 
@@ -80,6 +81,11 @@ network-figures = record {
   sheet-checked = sheet-checked;
   sheet-read = sheet-read;
   sheet-sample = sheet-sample;
+  sheet-adders = sheet-adders;
+  zero-taps = zero-taps;
+  one-tap = one-tap;
+  equal-taps = equal-taps;
+  one-odd-part = one-odd-part;
   own-row = own-row;
   two-broken-rows = two-broken-rows;
   rows-before-taps = rows-before-taps;

@@ -28,7 +28,7 @@ length-coefficients rows n taps m = length-map (tapRowsOf taps m) (coefficientOf
 
 -- ---- the coefficient of each tap is within bounds
 
-empty-is : (rows : List Row) (t : TapRow) → t .sign ≡ none → coefficientOf rows t ≡ pos 0
+pub empty-is : (rows : List Row) (t : TapRow) → t .sign ≡ none → coefficientOf rows t ≡ pos 0
 unfolding coefficientOf
 empty-is rows t e = rw e
 

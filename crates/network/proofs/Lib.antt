@@ -1,5 +1,6 @@
 -- What specs/Claims.antt and specs/Figures.antt state:
 pub mod NearFigures
+pub mod AdderFigures
 pub mod Claims
 pub mod Figures
 -- What they and the proofs of the functions rest on:
@@ -7,6 +8,7 @@ pub mod Rules
 pub mod Refusals
 pub mod Passed
 pub mod Given
+pub mod Adders
 pub mod Evaluation
 pub mod Booleans
 pub mod RowTests

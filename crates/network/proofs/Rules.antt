@@ -97,7 +97,7 @@ row-kept rows (suc i) w = later-kept rows (suc i) (rowIn rows (suc i)) w
 
 -- ---- tap rows
 
-empty-tap : (t : TapRow) → isEmpty t ≡ true → EmptyTap t
+pub empty-tap : (t : TapRow) → isEmpty t ≡ true → EmptyTap t
 empty-tap t e =
     let p = three (eqb (t .sign) none) (eqb (t .row) 0) (eqb (t .shift) 0) e in
     record { sign = eqb-true (t .sign) none (p .0); row = eqb-true (t .row) 0 (p .1); shift = eqb-true (t .shift) 0 (p .2) }

@@ -13,7 +13,8 @@ use Rattle.network.specs.declared.TapRow.{TapRow}
 use Rattle.network.specs.Rows.{Network, networkOf, rowIn, tapRowIn, rowTable, tapTable}
 use Rattle.network.specs.RowRule.{RowRule, keepsRowRule}
 use Rattle.network.specs.Coefficients.{coefficientOf, coefficients}
-use Rattle.network.specs.TapRowRule.{TapRowRule, keepsTapRowRule}
+use Rattle.network.specs.TapRowRule.{EmptyTap, TapRowRule, keepsTapRowRule}
+use Rattle.network.specs.Adders.{nonzeroTaps, usedTapRows}
 use Rattle.network.specs.Check.{networkAnswer}
 use Rattle.network.specs.Accepted.{KeepsRules, Accepted}
 use Rattle.network.specs.Checked.{NetworkChecked, CoefficientsRead}
@@ -115,6 +116,13 @@ pub record NetworkClaims : Type 0 where
   pub same-coefficients : (short short′ : Bool) (rows rows′ : List ℕ) (n n′ : ℕ) (taps taps′ : List ℕ) (m m′ : ℕ) (h h′ : List ℤ)
       → networkOf rows n taps m ≡ networkOf rows′ n′ taps′ m′ → networkAnswer short rows n taps m ≡ given h → networkAnswer short′ rows′ n′ taps′ m′ ≡ given h′
       → h ≡ h′
+  -- ---- "nonzero taps" (document 02, request 2): of a network that passes, the coefficients that are 0 are those of the empty tap rows, so that either
+  -- may be counted
+  pub empty-zero : (net : Network) (h : List ℤ) → KeepsRules net h → (j : ℕ) → j < length (net .taps) → EmptyTap (tapRowIn (net .taps) j)
+      → getD h j (pos 0) ≡ pos 0
+  pub zero-empty : (net : Network) (h : List ℤ) → KeepsRules net h → (j : ℕ) → j < length (net .taps) → getD h j (pos 0) ≡ pos 0
+      → EmptyTap (tapRowIn (net .taps) j)
+  pub taps-counted : (net : Network) (h : List ℤ) → KeepsRules net h → usedTapRows (net .taps) ≡ nonzeroTaps h
   -- ---- "multiplierless": by shifts, sums and differences alone every row gives its value times the sample, every tap its coefficient times the sample
   pub rows-multiply : (net : Network) (h : List ℤ) → KeepsRules net h → (sample : ℤ) (i : ℕ) → i < length (net .rows)
       → getD (rowResults (net .rows) sample (length (net .rows))) i (pos 0) ≡ pos (rowIn (net .rows) i .value) *ℤ sample

@@ -8,6 +8,7 @@ use lib.IntN.{ℤ, pos, negℤ}
 use lib.ListN.{length}
 use Rattle.refusal.specs.Answer.{given, refused}
 use Rattle.network.specs.Rows.{plus, minus, none, wordsOfRow, rowTable, wordsOfTapRow, tapTable, networkOf}
+use Rattle.network.specs.Adders.{adders}
 use Rattle.network.specs.Check.{checked, networkAnswer}
 use Rattle.network.specs.Accepted.{KeepsRules, Accepted}
 use Rattle.network.specs.Checked.{NetworkChecked, CoefficientsRead}
@@ -44,6 +45,15 @@ pub record NetworkFigures : Type 0 where
       → CoefficientsRead (sheetRows r) 3 (sheetTapRows t) 4 (a ∷ b ∷ c ∷ d ∷ more) (given tt) (sheetCoefficients ++ more)
   -- what its taps give for a sample of 7 by shifts and sums
   pub sheet-sample : (r t : List ℕ) → tapResults (networkOf (sheetRows r) 3 (sheetTapRows t) 4) (pos 7) ≡ pos 21 ∷ negℤ (pos 42) ∷ pos 315 ∷ pos 0 ∷ []
+  -- ---- adders, of the rows and joining the taps (document 02, request 2): "The sheet in 01 then ends `total,4,,,,,`"
+  pub sheet-adders : (r t : List ℕ) → adders (networkOf (sheetRows r) 3 (sheetTapRows t) 4) ≡ 2 + 2
+  -- all taps 0: one row, and nothing to join
+  pub zero-taps : adders (networkOf (sheetRows []) 1 (tap none 0 0 (tap none 0 0 (tap none 0 0 []))) 3) ≡ 0
+  -- one tap that is not 0: nothing to join
+  pub one-tap : adders (networkOf (sheetRows []) 3 (tap none 0 0 (tap minus 2 1 (tap none 0 0 []))) 3) ≡ 2 + 0
+  -- four equal taps, and four of one odd part: each counts
+  pub equal-taps : adders (networkOf (sheetRows []) 2 (tap plus 1 0 (tap plus 1 0 (tap plus 1 0 (tap plus 1 0 [])))) 4) ≡ 1 + 3
+  pub one-odd-part : adders (networkOf (sheetRows []) 2 (tap plus 1 0 (tap minus 1 0 (tap plus 1 1 (tap minus 1 2 [])))) 4) ≡ 1 + 3
   -- ---- near it: each breaks one rule
   -- row 2 names itself
   pub own-row : checked (networkOf (row 0 0 0 plus 1 (row 0 0 1 plus 3 (row 2 1 4 minus 45 []))) 3 (sheetTapRows []) 4) ≡ refused 10 2

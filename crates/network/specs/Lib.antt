@@ -2,6 +2,7 @@ pub mod Rows
 pub mod RowRule
 pub mod Coefficients
 pub mod TapRowRule
+pub mod Adders
 pub mod Check
 pub mod Accepted
 pub mod Checked
