@@ -10,6 +10,8 @@ use Rattle.build_steps.proofs.TheStep.{the-step}
 use Rattle.build_steps.proofs.TheRows.{the-rows}
 use Rattle.build_steps.proofs.TapRow.{tap-row}
 use Rattle.build_steps.proofs.Passes.{built-few, built-passes}
+use Rattle.build_steps.proofs.Adders.{built-adders, most-adders}
+use Rattle.build_steps.proofs.Unshared.{no-more-than-digits}
 use Rattle.build_steps.proofs.Refusals.{built-refusals}
 use Rattle.build_steps.proofs.BuiltTables.{tables-hold, given-only, tables-untouched}
 
@@ -28,6 +30,9 @@ building-claims = record {
   tap-row = tap-row;
   built-passes = built-passes;
   built-few = built-few;
+  built-adders = built-adders;
+  no-more-than-digits = no-more-than-digits;
+  most-adders = most-adders;
   built-accepted = tables-hold;
   built-only = given-only;
   built-refusals = λ cs ks rows taps number place rows′ taps′ left. built-refusals cs ks rows taps number place (left .answer);

@@ -11,12 +11,15 @@ use lib.IntN.{pos}
 use lib.ListN.{length, getD, drop}
 use Rattle.refusal.specs.Answer.{Answer, given, refused, at-place, filled, lowestFrom}
 use Rattle.sequence.specs.UpTo.{upTo}
+use Rattle.sequence.specs.Count.{howMany}
 use Rattle.signed_digit.specs.String.{DigitString}
 use Rattle.signed_digit.specs.CanonicalForm.{canonicalNat}
 use Rattle.signed_digit.specs.Forms.{listing}
 use Rattle.signed_digit.proofs.Figures.{figures}
 use Rattle.coefficient.specs.Parts.{partsOf, oddPartOf, shiftOf}
 use Rattle.network.specs.Rows.{Network, plus, minus, rowWords, rowTable, tapWords, tapTable, wordsOfRows, wordsOfTapRows, firstRow}
+use Rattle.network.specs.Coefficients.{coefficientOf}
+use Rattle.network.specs.Adders.{adders}
 use Rattle.network.specs.Figures.{sheetRows, sheetTapRows, sheetCoefficients}
 use Rattle.network.proofs.Figures.{sheet-within}
 use Rattle.build_steps.specs.Parts.{leastWeight, comesBefore, insert, insertTap, takenFrom, partsToBuild}
@@ -28,6 +31,7 @@ use Rattle.build_steps.specs.PartOrder.{PartsInOrder}
 use Rattle.build_steps.specs.RowSteps.{FirstFit, Lawful}
 use Rattle.build_steps.specs.CanBuild.{CanBuild}
 use Rattle.build_steps.specs.Built.{BuiltInto}
+use Rattle.build_steps.specs.Digits.{nonzeroDigits}
 use Rattle.build_steps.specs.Figures.{sheetChoices, rowThen, sheetNetwork, part, BuildingFigures}
 use Rattle.build_steps.proofs.PartsInOrder.{parts-in-order}
 use Rattle.build_steps.proofs.FirstFit.{fit-is-first}
@@ -56,6 +60,14 @@ pub above-2^31 : firstFit (firstRow ∷ rowThen 0 1 plus 0 3 (rowThen 0 28 plus 
     ≡ fit (record { left = 1; right = 3; shift = 30; sign = minus; value = 2 ^ 31 - 5 })
 unfolding lowestFrom firstFit fitAtLeft fitAtShift firstOver orElse tried rowOver upTo
 above-2^31 = refl
+
+sheet-digits : nonzeroDigits sheetCoefficients ≡ 2 + 2 + 4
+unfolding nonzeroDigits canonicalNat
+sheet-digits = refl
+
+nothing-shared : adders (built (pos 3 ∷ pos 1 ∷ []) (0 ∷ 0 ∷ [])) ≡ nonzeroDigits (pos 3 ∷ pos 1 ∷ []) - 1
+unfolding built builtRows steps step lookedUp searched takenFrom insertTap insert comesBefore leastWeight partsOf oddPartOf shiftOf trailingZeros rowWith lowestFrom firstFit fitAtLeft fitAtShift firstOver orElse tried rowOver upTo tapRowOf canonicalNat coefficientOf howMany nonzeroDigits
+nothing-shared = refl
 
 -- ---- what the claims take holds of the sheet's taps
 
@@ -128,6 +140,8 @@ building-figures = record {
   minus-before-reversed = minus-before-reversed;
   plus-before-reversed = plus-before-reversed;
   above-2^31 = above-2^31;
+  sheet-digits = sheet-digits;
+  nothing-shared = nothing-shared;
   sheet-can-build = can-build;
   sheet-parts = subst (PartsInOrder sheetCoefficients sheetChoices) parts-are (parts-in-order sheetCoefficients sheetChoices (omega arith));
   sheet-buildable = record { odd = refl; below = omega arith; choice = of-45 };

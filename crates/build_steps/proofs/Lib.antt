@@ -3,6 +3,9 @@ pub mod Claims
 pub mod Figures
 -- What they rest on, and the proofs of the crates above may cite:
 pub mod Passes
+pub mod Adders
+pub mod PartDigits
+pub mod Unshared
 pub mod BuiltTables
 pub mod Refusals
 pub mod TheRows

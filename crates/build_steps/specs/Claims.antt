@@ -2,7 +2,7 @@
 use mathlib.Core.Path.{_≡_}
 use mathlib.Core.Bool.{Bool}
 use mathlib.Core.List.{List}
-use Prim.Native.Nat.{ℕ, _%_, _^_, _≤_, _<_}
+use Prim.Native.Nat.{ℕ, _+_, _-_, _%_, _^_, _≤_, _<_}
 use lib.Dec.{ltb}
 use lib.IntN.{ℤ, pos}
 use lib.ListN.{length, getD}
@@ -18,6 +18,7 @@ use Rattle.network.specs.declared.TapRow.{TapRow}
 use Rattle.network.specs.RowRule.{LaterRow}
 use Rattle.network.specs.Coefficients.{coefficientOf}
 use Rattle.network.specs.TapRowRule.{TapRowRule}
+use Rattle.network.specs.Adders.{rowAdders, joiningAdders, adders}
 use Rattle.network.specs.Check.{checked}
 use Rattle.network.specs.Claims.{UnderLength, TablesFit}
 use Rattle.build_steps.specs.Parts.{Part, leastWeight, partsToBuild}
@@ -29,6 +30,7 @@ use Rattle.build_steps.specs.PartOrder.{HasOddPart, PartsInOrder}
 use Rattle.build_steps.specs.RowSteps.{FirstFit, Lawful, HasRow, TheStep, Growth, mostRows, TheRows}
 use Rattle.build_steps.specs.CanBuild.{Listed, CanBuild, CanBuildInto, Buildable, Chosen}
 use Rattle.build_steps.specs.Built.{BuiltInto, HoldsNetwork}
+use Rattle.build_steps.specs.Digits.{nonzeroDigits}
 
 -- the tap row t of the coefficient n
 pub record TapOf (rows : List Row) (n : ℤ) (t : TapRow) : Type 0 where
@@ -89,6 +91,13 @@ pub record BuildingClaims : Type 0 where
   -- ---- the network: it passes the checks, and its coefficients are those given; nothing runs out
   pub built-passes : (coefficients : List ℤ) (choices : List ℕ) → CanBuild coefficients choices → checked (built coefficients choices) ≡ given coefficients
   pub built-few : (coefficients : List ℤ) (choices : List ℕ) → CanBuild coefficients choices → length (built coefficients choices .rows) ≤ mostRows
+  -- ---- its adders (document 02, request 2): "rows less one, plus nonzero taps less one" of the coefficients given
+  pub built-adders : (coefficients : List ℤ) (choices : List ℕ) → CanBuild coefficients choices
+      → adders (built coefficients choices) ≡ rowAdders (built coefficients choices) + joiningAdders coefficients
+  -- never above N_b - 1, what source document 004 counts where nothing is shared
+  pub no-more-than-digits : (coefficients : List ℤ) (choices : List ℕ) → CanBuild coefficients choices
+      → adders (built coefficients choices) ≤ nonzeroDigits coefficients - 1
+  pub most-adders : (coefficients : List ℤ) (choices : List ℕ) → CanBuild coefficients choices → adders (built coefficients choices) ≤ 3840 + 255
   -- ---- the tables that `build` leaves: it accepts what can be built ("a number is returned in no other circumstances"), returns the number of rows,
   -- and the tables hold the network
   pub built-accepted : (coefficients : List ℤ) (choices rows taps : List ℕ) (a : Answer ℕ) (rows′ taps′ : List ℕ)

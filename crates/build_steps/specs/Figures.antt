@@ -8,6 +8,7 @@ use lib.ListN.{length, drop}
 use Rattle.refusal.specs.Answer.{given, refused}
 use Rattle.network.specs.declared.Row.{Row}
 use Rattle.network.specs.Rows.{Network, plus, minus, noTap, rowWords, rowTable, tapWords, tapTable, firstRow}
+use Rattle.network.specs.Adders.{adders}
 use Rattle.network.specs.Figures.{sheetRows, sheetTapRows, sheetCoefficients}
 use Rattle.build_steps.specs.Parts.{Part}
 use Rattle.build_steps.specs.Search.{fit, firstFit}
@@ -17,6 +18,7 @@ use Rattle.build_steps.specs.PartOrder.{PartsInOrder}
 use Rattle.build_steps.specs.RowSteps.{FirstFit, Lawful}
 use Rattle.build_steps.specs.CanBuild.{CanBuild, Buildable}
 use Rattle.build_steps.specs.Built.{BuiltInto}
+use Rattle.build_steps.specs.Digits.{nonzeroDigits}
 
 -- choices 0
 abbrev pub sheetChoices : List ℕ
@@ -46,6 +48,10 @@ pub record BuildingFigures : Type 0 where
   -- 2^31 - 5 is 2^30·3 - (2^30 + 5): 2^s·left is above 2^31
   pub above-2^31 : firstFit (firstRow ∷ rowThen 0 1 plus 0 3 (rowThen 0 28 plus 0 (2 ^ 28 + 1) (rowThen 2 2 plus 0 (2 ^ 30 + 5) []))) (2 ^ 31 - 5)
       ≡ fit (record { left = 1; right = 3; shift = 30; sign = minus; value = 2 ^ 31 - 5 })
+  -- 3, -6 and 45 have 2, 2 and 4 nonzero digits: 7 adders where nothing is shared, and the sheet's network takes 4
+  pub sheet-digits : nonzeroDigits sheetCoefficients ≡ 2 + 2 + 4
+  -- 3 and 1 have nothing to share
+  pub nothing-shared : adders (built (pos 3 ∷ pos 1 ∷ []) (0 ∷ 0 ∷ [])) ≡ nonzeroDigits (pos 3 ∷ pos 1 ∷ []) - 1
   -- ---- what the claims take holds of the sheet's taps
   pub sheet-can-build : CanBuild sheetCoefficients sheetChoices
   pub sheet-parts : PartsInOrder sheetCoefficients sheetChoices (part 3 ∷ part 45 ∷ [])

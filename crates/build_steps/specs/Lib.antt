@@ -8,5 +8,6 @@ pub mod TapRows
 pub mod Answer
 pub mod CanBuild
 pub mod Built
+pub mod Digits
 pub mod Claims
 pub mod Figures
