@@ -2,3 +2,4 @@ pub mod Demand3
 pub mod SheetCalls
 pub mod SheetFilter
 pub mod Figures
+pub mod Joining
