@@ -3,7 +3,8 @@
  *
  * SHEET is a sheet that ./sheet or ./fir sheet has printed. It is checked first: every row by the row
  * rule, every tap by the tap row rule, the value of each tap, the total. x is the sample and << a shift
- * to the left. The depth of a row is the number of adders on the longest path to it.
+ * to the left. The depth of a row is the number of adders on the longest path to it. The last line has
+ * the adders of the filter: those of the rows, and those that join the taps.
  *   --svg  SVG, which Graphviz draws: rows in columns by their depth, taps in their order at the right;
  *          what is taken off comes along a dashed line
  *   --dot  what Graphviz reads, for its other formats */

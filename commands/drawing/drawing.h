@@ -15,7 +15,8 @@ struct tap_row {
     uint32_t sign, row, shift;
 };
 
-/* A network that keeps the rules, with the coefficients of its taps and the depth of each row. */
+/* A network that keeps the rules, with the coefficients of its taps, the depth of each row, and in `total` the
+ * adders of the filter. */
 struct network {
     size_t row_count, tap_count;
     struct row rows[FIR_MOST_ROWS];

@@ -1,5 +1,6 @@
 /* A sheet, read and checked. */
 #include <errno.h>
+#include <inttypes.h>
 #include <stdlib.h>
 #include <string.h>
 
@@ -144,6 +145,13 @@ static int read_lines(struct line *line, struct network *network) {
     return found == FAILED ? FAILED : failed("the sheet has no total line");
 }
 
+/* The adders of the filter: one for each row but the first, and one for each nonzero tap but the first. */
+static size_t adders(const struct network *network) {
+    size_t taps = 0;
+    for (size_t i = 0; i < network->tap_count; i++) taps += network->coefficients[i] != 0;
+    return network->row_count - 1 + (taps > 0 ? taps - 1 : 0);
+}
+
 /* The rules are the core's; a sheet also has the value of each tap, and the total. */
 static int check(struct network *network) {
     int32_t coefficients[FIR_MOST_TAPS];
@@ -155,7 +163,9 @@ static int check(struct network *network) {
         if (coefficients[i] == network->coefficients[i]) continue;
         return failed("tap %zu has another value than its row, shift and sign give", i);
     }
-    return network->total + 1 == network->row_count ? DONE : failed("the total is not rows less one");
+    size_t wanted = adders(network);
+    if (network->total == wanted) return DONE;
+    return failed("the total is %" PRIu32 ", but rows less one and nonzero taps less one are %zu", network->total, wanted);
 }
 
 static void find_depths(struct network *network) {

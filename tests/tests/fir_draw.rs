@@ -38,7 +38,7 @@ fn largest() -> Vec<u8> {
         lines.push(format!("node,{i},{left},1,+,0,{value}"));
     }
     lines.extend((0..256).map(|i| format!("tap,{i},{},0,-,,-3", 30 * (i % 100) + 1)));
-    lines.push("total,4095,,,,,\r\n".into());
+    lines.push("total,4350,,,,,\r\n".into());
     lines.join("\r\n").into_bytes()
 }
 
@@ -58,7 +58,7 @@ fn text() {
         "tap 1 = -(node 1 << 1) = -6x",
         "tap 2 = node 2 = 45x",
         "tap 3 = 0",
-        "2 adders, 2 on the longest path",
+        "4 adders: 2 in the rows, 2 that join the taps; longest path to a row: 2",
     ];
     assert_eq!(squeezed(printed(&["draw"], example().as_bytes())), wanted);
     let unix = example().replace('\r', "");
@@ -88,7 +88,7 @@ fn for_graphviz() {
         "{text}"
     );
     for part in [
-        "label=\"2 adders, 2 on the longest path\"",
+        "label=\"4 adders: 2 in the rows, 2 that join the taps; longest path to a row: 2\"",
         "    node0 [label=\"x\", shape=circle];\n",
         "    node2 [label=\"node 2\\n45\", shape=box];\n",
         "    tap3 [label=\"tap 3\\n0\", shape=ellipse];\n",
@@ -247,7 +247,7 @@ fn committed_picture() {
         "tap 3",
         "45",
         "&#45;6",
-        "2 adders, 2 on the longest path",
+        "4 adders: 2 in the rows, 2 that join the taps; longest path to a row: 2",
     ] {
         assert!(svg.contains(&format!(">{part}<")), "{part}");
     }
@@ -294,13 +294,16 @@ fn broken_sheets() {
             value,
         );
     }
-    let total = "fir draw: the total is not rows less one\n";
-    for new in ["total,3,,,,,", "total,1,,,,,"] {
+    for total in [2, 3, 5] {
+        let new = format!("total,{total},,,,,");
+        let words = format!(
+            "fir draw: the total is {total}, but rows less one and nonzero taps less one are 4\n"
+        );
         ends_with(
             2,
             &["draw"],
-            sheet.replace("total,2,,,,,", new).as_bytes(),
-            total,
+            sheet.replace("total,4,,,,,", &new).as_bytes(),
+            &words,
         );
     }
 }
@@ -391,15 +394,15 @@ fn what_is_no_sheet() {
             "line 5 is no line of a sheet",
         ),
         (
-            sheet.replace("total,2,,,,,", "total,2,,,,,2"),
+            sheet.replace("total,4,,,,,", "total,4,,,,,2"),
             "line 9 is no line of a sheet",
         ),
         (
-            sheet.replace("total,2,,,,,", "total,2,,,,,\r\ntotal,2,,,,,"),
+            sheet.replace("total,4,,,,,", "total,4,,,,,\r\ntotal,4,,,,,"),
             "line 10 is no line of a sheet",
         ),
         (
-            sheet.replace("total,2,,,,,\r\n", "total,2,,,,,"),
+            sheet.replace("total,4,,,,,\r\n", "total,4,,,,,"),
             "line 9 is no line of a sheet",
         ),
         (

@@ -1,5 +1,5 @@
 -- The text that the writers make of a network's tables and coefficients is the network's. Assumes nothing.
-use mathlib.Core.Path.{_≡_, refl, sym, ap, _∙_}
+use mathlib.Core.Path.{_≡_, refl, sym, ap, ap₂, _∙_}
 use mathlib.Core.List.{List, [], _∷_, _++_, map}
 use Prim.Native.Nat.{ℕ, suc, _+_, _-_}
 use native.Mathlib.Omega.{arith}
@@ -10,6 +10,7 @@ use Rattle.network.specs.declared.Row.{Row}
 use Rattle.network.specs.declared.TapRow.{TapRow}
 use Rattle.network.specs.Rows.{rowAt, rowsOf, tapRowsOf, networkOf, noTap}
 use Rattle.network.specs.Coefficients.{coefficientOf}
+use Rattle.network.specs.Adders.{joiningAdders, adders}
 use Rattle.text.specs.Lines.{linesFrom}
 use Rattle.sheet_lines.specs.Lines.{header, nodeLine, tapLine, totalLine}
 use Rattle.sheet_taps.specs.Inner.{tapLineOf}
@@ -46,9 +47,13 @@ module _ (rows : List Row) (values : List ℤ) where
       none-plus : (j : ℕ) → 0 + j ≡ j
       none-plus j = omega arith
 
-pub network-written : (rows : List ℕ) (n : ℕ) (taps : List ℕ) (values : List ℤ) → NetworkIn rows n taps values
-    → header ++ (linesFrom nodeLine 0 (rowsOf rows n) ++ (linesFrom (tapLineOf values) 0 (tapRowsOf taps (length values)) ++ totalLine (n - 1)))
+pub network-written : (rows : List ℕ) (n : ℕ) (taps : List ℕ) (values : List ℤ) (total : ℕ) → NetworkIn rows n taps values → total ≡ n - 1 + joiningAdders values
+    → header ++ (linesFrom nodeLine 0 (rowsOf rows n) ++ (linesFrom (tapLineOf values) 0 (tapRowsOf taps (length values)) ++ totalLine total))
     ≡ networkText (networkOf rows n taps (length values))
 unfolding networkText
-network-written rows n taps values h =
-    rw (length-upTo n (rowAt rows), tap-lines-same (rowsOf rows n) values (tapRowsOf taps (length values)) (h .products))
+network-written rows n taps values total h e =
+    let m = length values in
+    let same : total ≡ adders (networkOf rows n taps m) =
+    e ∙ ap₂ (λ (k : ℕ) (h : List ℤ). k - 1 + joiningAdders h) (sym (length-upTo n (rowAt rows))) (h .products) in
+    rw (tap-lines-same (rowsOf rows n) values (tapRowsOf taps m) (h .products))
+    (ap (λ (k : ℕ). header ++ (linesFrom nodeLine 0 (rowsOf rows n) ++ (linesFrom (tapLineIn (rowsOf rows n)) 0 (tapRowsOf taps m) ++ totalLine k))) same)

@@ -1,4 +1,6 @@
 // The two kinds of sheet, of a network and of a refusal, written at the start of a lent area.
+mod adders;
+
 ghost use Prim.Native.Nat.{_+_, _≤_};
 ghost use lib.ListN.{length};
 ghost use Rattle.refusal.specs.Table.{numberOf, placeOf};
@@ -52,7 +54,8 @@ pub fn network_sheet(
     let a = put_header(out, 0);
     let b = node_lines(out, a, rows, n);
     let c = tap_lines(out, b, tap_rows, coefficients);
-    total_line(out, c, (n - 1) as u32)
+    let total = adders::adders(n, coefficients);
+    total_line(out, c, total)
 }
 
 pub fn refused_sheet(out: &mut [u8], refusal: Refusal) -> usize

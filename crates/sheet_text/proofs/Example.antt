@@ -3,6 +3,7 @@ use mathlib.Core.Path.{_≡_, refl}
 use lib.Count.{trailingZeros}
 use lib.Ieee.{ofBits, round}
 use Rattle.sequence.specs.UpTo.{upTo}
+use Rattle.sequence.specs.Count.{howMany}
 use Rattle.sheet_input.specs.Argument.{missing, fractionBits}
 use Rattle.refusal.specs.Answer.{lowestFrom}
 use Rattle.signed_digit.specs.CanonicalForm.{canonicalNat}
@@ -24,5 +25,5 @@ use Rattle.sheet_text.specs.Sheet.{choices, tapsAnswer, sheetAnswer, she
 use Rattle.sheet_text.specs.Claims.{exampleInput, exampleText}
 
 pub example-sheet : sheetOf exampleInput missing ≡ exampleText
-unfolding sheetOf sheetAnswer tapsAnswer choices inputAnswer fractionBits tapAt lowFirst ofBits roundedTaps bounded reportFrom reported largerOf outside resultOf split sizeOf nearestWhole toNearest halfOf leftover round upTo lowestFrom built builtRows steps step lookedUp searched takenFrom insertTap insert comesBefore leastWeight partsOf oddPartOf shiftOf trailingZeros rowWith firstFit fitAtLeft fitAtShift firstOver orElse tried rowOver tapRowOf canonicalNat networkText linesFrom header nodeLine tapLine totalLine columns line decimal decimalBy integer Network.coefficientOf
+unfolding sheetOf sheetAnswer tapsAnswer choices inputAnswer fractionBits tapAt lowFirst ofBits roundedTaps bounded reportFrom reported largerOf outside resultOf split sizeOf nearestWhole toNearest halfOf leftover round upTo lowestFrom built builtRows steps step lookedUp searched takenFrom insertTap insert comesBefore leastWeight partsOf oddPartOf shiftOf trailingZeros rowWith firstFit fitAtLeft fitAtShift firstOver orElse tried rowOver tapRowOf canonicalNat howMany networkText linesFrom header nodeLine tapLine totalLine columns line decimal decimalBy integer Network.coefficientOf
 example-sheet = refl

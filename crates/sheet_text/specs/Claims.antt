@@ -35,7 +35,7 @@ exampleText =
     ++ ascii "tap,1,1,1,-,,-6\r\n"
     ++ ascii "tap,2,2,0,+,,45\r\n"
     ++ ascii "tap,3,,,,,0\r\n"
-    ++ ascii "total,2,,,,,\r\n"
+    ++ ascii "total,4,,,,,\r\n"
 
 pub record SheetClaims : Type 0 where
   -- the first 2,056 bytes, 257 taps, settle the sheet

@@ -44,6 +44,20 @@ fn total_line(adders: usize) -> String {
     line(["total", &adders.to_string(), "", "", "", "", ""])
 }
 
+/// One for each row but the first; and of the products that are joined, those of taps that are not 0,
+/// one for each but the first.
+pub fn adders(rows: usize, coefficients: &[i32]) -> usize {
+    let mut adders = 0;
+    let mut output = false;
+    for coefficient in coefficients {
+        if *coefficient != 0 {
+            adders += output as usize;
+            output = true;
+        }
+    }
+    rows - 1 + adders
+}
+
 /// The sheet of a network with these coefficients.
 pub fn built(built: &Built, coefficients: &[i32]) -> String {
     let mut text = header();
@@ -53,7 +67,7 @@ pub fn built(built: &Built, coefficients: &[i32]) -> String {
     for (number, tap) in built.taps.iter().enumerate() {
         text += &tap_line(number, tap, coefficients[number]);
     }
-    text + &total_line(built.rows.len() - 1)
+    text + &total_line(adders(built.rows.len(), coefficients))
 }
 
 pub fn refused(refusal: Answer) -> String {

@@ -21,11 +21,14 @@ node-lines-requires c κs = search needs
 tap-lines-requires : tie.Need-tap-lines-requires
 tap-lines-requires c κs = search needs
 
-sub-total-line : tie.Need-sub-total-line
-sub-total-line c = search needs
-
-cast-total-line : tie.Need-cast-total-line
-cast-total-line c = search needs
+adders-requires : tie.Need-adders-requires
+adders-requires c κs =
+    let after-tap-lines = c .before .before in
+    let after-node-lines = after-tap-lines .before .before .before .before in
+    let after-put-header = after-node-lines .before .before .before .before in
+    let at-start = after-put-header .before .before .before .before .before in
+    let q = at-start .pre .0 in
+    (q .some, omega (arith, q .rows-in .few, q .taps-in .few))
 
 total-line-requires : tie.Need-total-line-requires
 total-line-requires c κs = search needs
@@ -36,14 +39,15 @@ same-length c = search needs
 returns : tie.Need-returns
 returns c =
     let after-total-line = c .before .before in
-    let after-tap-lines = after-total-line .before .before .before .before in
+    let after-adders = after-total-line .before .before in
+    let after-tap-lines = after-adders .before .before .before in
     let after-node-lines = after-tap-lines .before .before .before .before in
     let after-put-header = after-node-lines .before .before .before .before in
     let at-start = after-put-header .before .before .before .before .before in
     let args = at-start .args in
     let q = at-start .pre .0 in
     let total-line = after-total-line .total-line in
-    subst (λ (t : List ℕ). Put (args .out .now) 0 t areaBytes (total-line .last .0) (total-line .result)) (network-written (args .rows .now) (args .n) (args .tap-rows .now) (args .coefficients .now) q)
+    subst (λ (t : List ℕ). Put (args .out .now) 0 t areaBytes (total-line .last .0) (total-line .result)) (network-written (args .rows .now) (args .n) (args .tap-rows .now) (args .coefficients .now) _ q (after-adders .adders .ensures))
     (widen (omega (arith, q .rows-in .few, q .taps-in .few))
     (then (after-put-header .put-header .ensures)
     (then (after-node-lines .node-lines .ensures)
@@ -56,8 +60,7 @@ network-sheet-spec =
     put-header-requires
     node-lines-requires
     tap-lines-requires
-    sub-total-line
-    cast-total-line
+    adders-requires
     total-line-requires
     same-length
     returns)
