@@ -145,9 +145,9 @@ uint64_t fir_form_count(int32_t n, uint32_t *count);
  * has for each coefficient the number of a minimal form of its odd part, counted from 0 in the order of
  * fir_minimal_forms, and 0 for a coefficient of 0; of equal odd parts the earliest choice is used. The
  * rows and tap rows are written from the start of the tables, which are untouched past them, and
- * *row_count is the number of rows, at most 3841; one less is the number of adders. Turned down with
- * 1, 2 (by coefficient_count), 3 (choice_count is under coefficient_count, or rows or taps are short)
- * or 9. */
+ * *row_count is the number of rows, at most 3841; one less is the number of adders in the rows; a filter
+ * needs one more for each further nonzero tap. Turned down with 1, 2 (by coefficient_count), 3
+ * (choice_count is under coefficient_count, or rows or taps are short) or 9. */
 uint64_t fir_build(const int32_t *coefficients, size_t coefficient_count, const uint32_t *choices,
                    size_t choice_count, uint32_t *rows, size_t rows_length, uint32_t *taps,
                    size_t taps_length, size_t *row_count);
