@@ -30,7 +30,7 @@ int main(void) {
     answer = fir_run(rows, FIR_ROWS_LENGTH, count, tap_rows, FIR_TAP_ROWS_LENGTH, 4, samples, 3, registers,
                      FIR_REGISTERS_LENGTH, outputs, 3);
     if (answer != 0) return turned_down(answer);
-    printf("adders %zu, outputs", count - 1);
+    printf("adders %zu, outputs", count - 1); /* of the rows */
     for (int i = 0; i < 3; i++) printf(" %" PRId64, outputs[i]);
     printf("\n");
     return 0;

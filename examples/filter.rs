@@ -79,7 +79,7 @@ fn main() -> Result<(), u64> {
     let network = build(&[3, -6, 45, 0])?;
     let mut registers = [0; 256];
     let outputs = run(&network, &[1, 2, -32768], &mut registers)?;
-    let adders = network.row_count - 1;
+    let adders = network.row_count - 1; // of the rows
     println!("adders {adders}, outputs {outputs:?}");
     Ok(())
 }

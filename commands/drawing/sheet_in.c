@@ -165,7 +165,7 @@ static int check(struct network *network) {
     }
     size_t wanted = adders(network);
     if (network->total == wanted) return DONE;
-    return failed("the total is %" PRIu32 ", but rows less one and nonzero taps less one are %zu", network->total, wanted);
+    return failed("the total is %" PRIu32 ", but by its rows and nonzero taps it is %zu", network->total, wanted);
 }
 
 static void find_depths(struct network *network) {

@@ -40,9 +40,9 @@ static void write_tap(const struct network *network, size_t i, FILE *stream) {
 }
 
 void write_adders(const struct network *network, FILE *stream) {
-    size_t rows = network->row_count - 1;
-    fprintf(stream, "%" PRIu32 " adder%s: %zu in the rows, %zu that join the taps; longest path to a row: %" PRIu32,
-            network->total, network->total == 1 ? "" : "s", rows, network->total - rows, network->deepest);
+    size_t in_rows = network->row_count - 1;
+    fprintf(stream, "%" PRIu32 " adder%s: %zu in the rows, %zu joining the taps; longest path to a row: %" PRIu32,
+            network->total, network->total == 1 ? "" : "s", in_rows, network->total - in_rows, network->deepest);
 }
 
 static void write_depth(const struct network *network, uint32_t depth, FILE *stream) {

@@ -58,7 +58,7 @@ fn text() {
         "tap 1 = -(node 1 << 1) = -6x",
         "tap 2 = node 2 = 45x",
         "tap 3 = 0",
-        "4 adders: 2 in the rows, 2 that join the taps; longest path to a row: 2",
+        "4 adders: 2 in the rows, 2 joining the taps; longest path to a row: 2",
     ];
     assert_eq!(squeezed(printed(&["draw"], example().as_bytes())), wanted);
     let unix = example().replace('\r', "");
@@ -80,6 +80,24 @@ fn text() {
         .all(|pair| depth(&pair[0]) <= depth(&pair[1])));
 }
 
+/// The last line where there are no adders, or those of one kind alone.
+#[test]
+fn adders() {
+    let sets: [(&[f64], &str); 3] = [
+        (&[0.0, 0.0], "0 adders: 0 in the rows, 0 joining the taps"),
+        (&[0.0, 3.0], "1 adder: 1 in the rows, 0 joining the taps"),
+        (
+            &[1.0, 0.0, -1.0],
+            "1 adder: 0 in the rows, 1 joining the taps",
+        ),
+    ];
+    for (taps, wanted) in sets {
+        let lines = squeezed(printed(&["draw"], &literal::sheet(&Input::new(taps, "0"))));
+        let last = lines.last().unwrap();
+        assert!(last.starts_with(&format!("{wanted}; ")), "{last}");
+    }
+}
+
 #[test]
 fn for_graphviz() {
     let text = String::from_utf8(printed(&["draw", "--dot"], example().as_bytes())).unwrap();
@@ -88,7 +106,7 @@ fn for_graphviz() {
         "{text}"
     );
     for part in [
-        "label=\"4 adders: 2 in the rows, 2 that join the taps; longest path to a row: 2\"",
+        "label=\"4 adders: 2 in the rows, 2 joining the taps; longest path to a row: 2\"",
         "    node0 [label=\"x\", shape=circle];\n",
         "    node2 [label=\"node 2\\n45\", shape=box];\n",
         "    tap3 [label=\"tap 3\\n0\", shape=ellipse];\n",
@@ -247,7 +265,7 @@ fn committed_picture() {
         "tap 3",
         "45",
         "&#45;6",
-        "4 adders: 2 in the rows, 2 that join the taps; longest path to a row: 2",
+        "4 adders: 2 in the rows, 2 joining the taps; longest path to a row: 2",
     ] {
         assert!(svg.contains(&format!(">{part}<")), "{part}");
     }
@@ -296,9 +314,8 @@ fn broken_sheets() {
     }
     for total in [2, 3, 5] {
         let new = format!("total,{total},,,,,");
-        let words = format!(
-            "fir draw: the total is {total}, but rows less one and nonzero taps less one are 4\n"
-        );
+        let words =
+            format!("fir draw: the total is {total}, but by its rows and nonzero taps it is 4\n");
         ends_with(
             2,
             &["draw"],
@@ -392,6 +409,10 @@ fn what_is_no_sheet() {
         (
             sheet.replace("tap,0,", "row,0,"),
             "line 5 is no line of a sheet",
+        ),
+        (
+            sheet.replace("total,4,,,,,", "total,4294967300,,,,,"),
+            "line 9 is no line of a sheet",
         ),
         (
             sheet.replace("total,4,,,,,", "total,4,,,,,2"),

@@ -6,11 +6,10 @@ use fir_tests::answer::Answer;
 use fir_tests::random::Random;
 use fir_tests::sheet::input::{packed, Input};
 use fir_tests::sheet::mixture::{self, BAD_ARGUMENTS, MANY_ZEROS};
-use fir_tests::sheet::program::{self, root, Delivery};
+use fir_tests::sheet::program::{self, Delivery};
 use fir_tests::sheet::{literal, text};
 use sheet_check::{check, check_delivered, Tally};
-use std::fs::{read_dir, read_to_string, File};
-use std::path::{Path, PathBuf};
+use std::fs::File;
 use std::process::{Command, Stdio};
 
 const RANDOM_INPUTS: usize = 3_000;
@@ -204,91 +203,6 @@ fn sets_of_zeros() {
         check(&Input::without_argument(&vec![zero; count]), &mut tally);
     }
     assert_eq!(tally.accepted, 256);
-}
-
-/// Coefficients at F = 0, with the rows and the adders that join the taps.
-#[test]
-fn totals() {
-    let sets: [(&[i32], usize, usize); 17] = [
-        (&[0], 1, 0),
-        (&[0, 0, 0], 1, 0),
-        (&[1], 1, 0),
-        (&[-6], 2, 0),
-        (&[0, 0, 7], 2, 0),
-        (&[7, 0, 0], 2, 0),
-        (&[0, 7, 0], 2, 0),
-        (&[1, 1], 1, 1),
-        (&[1, -1], 1, 1),
-        (&[3, 0, 0, 3], 2, 1),
-        (&[0, 3, 0, -3, 0], 2, 1),
-        (&[3, 3, 3, 3], 2, 3),
-        (&[3, -3, 6, -12], 2, 3),
-        (&[3, -6, 45, 0], 3, 2),
-        (&[i32::MIN, i32::MAX], 2, 1),
-        (&[1; 256], 1, 255),
-        (&[-3; 255], 2, 254),
-    ];
-    for (coefficients, rows, joining) in sets {
-        let taps: Vec<f64> = coefficients.iter().map(|c| *c as f64).collect();
-        let input = Input::new(&taps, "0");
-        check(&input, &mut Tally::default());
-        let sheet = String::from_utf8(literal::sheet(&input)).unwrap();
-        let total = format!("\ntotal,{},,,,,\r\n", rows - 1 + joining);
-        assert!(sheet.ends_with(&total), "{coefficients:?}: {sheet}");
-        assert_eq!(sheet.matches("\nnode,").count(), rows, "{coefficients:?}");
-    }
-}
-
-/// Every stored sheet is as it was before taps that are joined counted, but for its total.
-#[test]
-fn stored_sheets_of_before() {
-    let lines = |path: &Path| {
-        let text = read_to_string(path).unwrap();
-        let mut lines: Vec<String> = text.split_inclusive('\n').map(str::to_string).collect();
-        let total = lines.pop().unwrap();
-        (lines, total)
-    };
-    let field = |line: &str, column: usize| line.split(',').nth(column).unwrap().to_string();
-    let number = |total: &str| {
-        assert!(total.ends_with(",,,,,\r\n") && field(total, 0) == "total");
-        field(total, 1).parse::<usize>().unwrap()
-    };
-    let mut stored: Vec<PathBuf> = read_dir(root().join("examples"))
-        .unwrap()
-        .map(|file| file.unwrap().path())
-        .filter(|path| path.extension() == Some("csv".as_ref()))
-        .collect();
-    stored.push(root().join("crates/sheet/stdout"));
-    for path in &stored {
-        let name = path.file_stem().unwrap().to_str().unwrap();
-        let before = root().join(format!("tests/before/02-total/{name}.csv"));
-        let ((then, old), (now, new)) = (lines(&before), lines(path));
-        assert_eq!(then, now, "{name}");
-        let rows = now.iter().filter(|line| line.starts_with("node,")).count();
-        let taps = now.iter().filter(|line| line.starts_with("tap,"));
-        let nonzero = taps.filter(|line| field(line, 6) != "0\r\n").count();
-        assert_eq!(number(&old), rows - 1, "{name}");
-        assert_eq!(number(&new), rows - 1 + nonzero.max(1) - 1, "{name}");
-    }
-    assert_eq!(stored.len(), 6);
-}
-
-/// Zeros at every place of a set, and all of it but one.
-#[test]
-fn totals_beside_zeros() {
-    let numbers: Vec<f64> = (0..256).map(|i| (3 * i - 385) as f64).collect();
-    let mut tally = Tally::default();
-    for place in 0..256 {
-        let mut but_one = numbers[..16].to_vec();
-        but_one[place % 16] = 0.0;
-        check(&Input::new(&but_one, "0"), &mut tally);
-        let mut alone = [0.0; 256];
-        alone[place] = numbers[place];
-        check(&Input::new(&alone, "0"), &mut tally);
-        alone[255 - place] = -3.0;
-        check(&Input::new(&alone, "0"), &mut tally);
-    }
-    assert_eq!(tally.accepted, 3 * 256);
 }
 
 #[test]

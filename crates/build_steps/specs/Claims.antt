@@ -97,6 +97,7 @@ pub record BuildingClaims : Type 0 where
   -- never above N_b - 1, what source document 004 counts where nothing is shared
   pub no-more-than-digits : (coefficients : List ℤ) (choices : List ℕ) → CanBuild coefficients choices
       → adders (built coefficients choices) ≤ nonzeroDigits coefficients - 1
+  -- 3,841 rows less one, and 256 taps less one
   pub most-adders : (coefficients : List ℤ) (choices : List ℕ) → CanBuild coefficients choices → adders (built coefficients choices) ≤ 3840 + 255
   -- ---- the tables that `build` leaves: it accepts what can be built ("a number is returned in no other circumstances"), returns the number of rows,
   -- and the tables hold the network

@@ -1,5 +1,5 @@
--- Document 01, "The sheet": the network of the taps 3, -6, 45, 0 with choices 0, and sets where an order or a bound of the search decides. proofs/Figures.antt
--- proves them. Definitions only.
+-- Document 01, "The sheet": the network of the taps 3, -6, 45, 0 with choices 0, sets where an order or a bound of the search decides, and digits beside
+-- adders. proofs/Figures.antt proves them. Definitions only.
 use mathlib.Core.Path.{_≡_}
 use mathlib.Core.List.{List, [], _∷_}
 use Prim.Native.Nat.{ℕ, _+_, _*_, _-_, _^_, _≤_}

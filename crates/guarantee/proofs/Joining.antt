@@ -16,7 +16,7 @@ use Rattle.sequence.proofs.Count.{count-next}
 use Rattle.run_convolution.specs.Sums.{before, outputSum}
 use Rattle.network.specs.Rows.{Network}
 use Rattle.network.specs.Coefficients.{coefficientOf}
-use Rattle.network.specs.Adders.{isNonzero, nonzeroTaps}
+use Rattle.network.specs.Adders.{isNonzero, nonzeroTaps, rowAdders, joiningAdders, adders}
 use Rattle.network.specs.Accepted.{KeepsRules}
 use Rattle.network.specs.Evaluation.{tapResults}
 use Rattle.network.specs.Figures.{sheetCoefficients}
@@ -87,6 +87,13 @@ by-tap-rows net h p xs =
         ∙ ap (getD (map (λ (c : ℤ). c *ℤ x) h) k) (sym (zero-*ℤ x))
         ∙ List·getD-map (λ (c : ℤ). c *ℤ x) h k (pos 0)
 
+counted : (h xs : List ℤ) → additions (joinedProducts h xs) ≡ joiningAdders h
+counted h xs = additions-held (joinedProducts h xs) (outputSum h xs) (nonzeroTaps h) (whole h xs)
+
+whole-filter : (net : Network) (h : List ℤ) → KeepsRules net h → (xs : List ℤ) → adders net ≡ rowAdders net + additions (joinedResults net xs)
+whole-filter net h p xs =
+    ap (λ (n : ℕ). rowAdders net + n) (ap joiningAdders (sym (p .result)) ∙ sym (counted h xs) ∙ ap additions (sym (by-tap-rows net h p xs)))
+
 sheet-joined : joinedProducts sheetCoefficients sheetSamples ≡ sum-of (negℤ (pos 98271)) 2
 unfolding joinedBelow
 sheet-joined = refl
@@ -94,7 +101,8 @@ sheet-joined = refl
 pub joining-claims : JoiningClaims
 joining-claims = record {
   output = λ h xs. value-held (joinedProducts h xs) (outputSum h xs) (nonzeroTaps h) (whole h xs);
-  counted = λ h xs. additions-held (joinedProducts h xs) (outputSum h xs) (nonzeroTaps h) (whole h xs);
+  counted = counted;
   by-tap-rows = by-tap-rows;
+  whole-filter = whole-filter;
   sheet-joined = sheet-joined;
 }

@@ -10,7 +10,7 @@ use Rattle.word.specs.Zero.{isZero}
 use Rattle.run_convolution.specs.Sums.{before, outputSum}
 use Rattle.network.specs.Rows.{Network, tapRowIn}
 use Rattle.network.specs.TapRowRule.{isEmpty}
-use Rattle.network.specs.Adders.{joiningAdders}
+use Rattle.network.specs.Adders.{rowAdders, joiningAdders, adders}
 use Rattle.network.specs.Accepted.{KeepsRules}
 use Rattle.network.specs.Evaluation.{tapResults}
 use Rattle.network.specs.Figures.{sheetCoefficients}
@@ -56,5 +56,7 @@ pub record JoiningClaims : Type 0 where
   pub counted : (h xs : List ℤ) → additions (joinedProducts h xs) ≡ joiningAdders h
   -- a network that passes gives the same by its tap rows
   pub by-tap-rows : (net : Network) (h : List ℤ) → KeepsRules net h → (xs : List ℤ) → joinedResults net xs ≡ joinedProducts h xs
+  -- so the adders of the filter are those of its rows and the additions made for its output
+  pub whole-filter : (net : Network) (h : List ℤ) → KeepsRules net h → (xs : List ℤ) → adders net ≡ rowAdders net + additions (joinedResults net xs)
   -- the sheet's filter after its samples: 3·(-32768) - 6·2 + 45·1 by two additions
   pub sheet-joined : joinedProducts sheetCoefficients sheetSamples ≡ sum-of (negℤ (pos 98271)) 2

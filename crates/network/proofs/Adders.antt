@@ -20,7 +20,7 @@ use Rattle.network.specs.Coefficients.{coefficientOf}
 use Rattle.network.specs.TapRowRule.{isTapSign, EmptyTap, TapRowRule, is-empty, is-product, isEmpty}
 use Rattle.network.specs.Accepted.{KeepsRules}
 use Rattle.network.specs.Adders.{isNonzero, nonzeroTaps, usedTapRows}
-use Rattle.network.proofs.Rules.{empty-tap}
+use Rattle.network.proofs.Rules.{empty-tap, empty-kept}
 use Rattle.network.proofs.Given.{empty-is, coefficient-is}
 
 -- ---- a tap row with a sign gives no 0
@@ -39,9 +39,6 @@ signed-nonzero false false (suc n) h t = absurd t
 
 has-sign : (sign : ℕ) → T (isTapSign sign) → eqb sign none ≡ false
 has-sign sign t = ne-eqb sign none (λ e. subst (λ (s : ℕ). T (isTapSign s)) e t)
-
-empty-kept : (t : TapRow) → EmptyTap t → isEmpty t ≡ true
-empty-kept t w = rw (w .sign, w .row, w .shift)
 
 -- ---- one tap row, and each of a network that passes
 alike : (rows : List Row) (t : TapRow) → ((i : ℕ) → i < length rows → RowRule rows i) → TapRowRule rows t → isZero (coefficientOf rows t) ≡ isEmpty t

@@ -102,6 +102,9 @@ empty-tap t e =
     let p = three (eqb (t .sign) none) (eqb (t .row) 0) (eqb (t .shift) 0) e in
     record { sign = eqb-true (t .sign) none (p .0); row = eqb-true (t .row) 0 (p .1); shift = eqb-true (t .shift) 0 (p .2) }
 
+pub empty-kept : (t : TapRow) → EmptyTap t → isEmpty t ≡ true
+empty-kept t w = rw (w .sign, w .row, w .shift)
+
 product-tap : (rows : List Row) (t : TapRow) → isProduct rows t ≡ true → ProductTap rows t
 product-tap rows t e =
     let c = coefficientOf rows t in
@@ -124,7 +127,7 @@ tap-rule rows t e = go (isEmpty t) (isProduct rows t) refl refl e
 
 pub tap-kept : (rows : List Row) (t : TapRow) → TapRowRule rows t → keepsTapRowRule rows t ≡ true
 unfolding keepsTapRowRule
-tap-kept rows t (is-empty w) = rw (w .sign, w .row, w .shift)
+tap-kept rows t (is-empty w) = rw (empty-kept t w)
 tap-kept rows t (is-product w) = or-right (isEmpty t) (isProduct rows t) (kept-product w)
   where
     or-right : (x y : Bool) → y ≡ true → (x || y) ≡ true

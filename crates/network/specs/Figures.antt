@@ -1,4 +1,4 @@
--- Document 01, "The sheet": the network of the taps 3, -6, 45, 0, and some that break a rule or stand at a bound. proofs/Figures.antt proves them.
+-- Document 01, "The sheet": the network of the taps 3, -6, 45, 0, the adders of some, and some that break a rule or stand at a bound. proofs/Figures.antt proves them.
 -- Definitions only.
 use Prim.Native.Nat.{ℕ, _+_, _-_, _^_, _≤_}
 use mathlib.Core.Path.{_≡_}

@@ -1,4 +1,4 @@
--- Whether a coefficient is zero. Definitions only.
+-- Whether a number is 0. Definitions only.
 use mathlib.Core.Bool.{Bool, true, false}
 use Prim.Native.Nat.{zero, suc}
 use lib.IntN.{ℤ, pos, negsuc}

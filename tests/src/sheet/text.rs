@@ -44,18 +44,17 @@ fn total_line(adders: usize) -> String {
     line(["total", &adders.to_string(), "", "", "", "", ""])
 }
 
-/// One for each row but the first; and of the products that are joined, those of taps that are not 0,
-/// one for each but the first.
-pub fn adders(rows: usize, coefficients: &[i32]) -> usize {
-    let mut adders = 0;
-    let mut output = false;
+/// One for each row but the first, and one for each nonzero coefficient but the first.
+fn adders(rows: usize, coefficients: &[i32]) -> usize {
+    let mut adders = rows - 1;
+    let mut any = false;
     for coefficient in coefficients {
         if *coefficient != 0 {
-            adders += output as usize;
-            output = true;
+            adders += any as usize;
+            any = true;
         }
     }
-    rows - 1 + adders
+    adders
 }
 
 /// The sheet of a network with these coefficients.
