@@ -23,6 +23,7 @@ use Rattle.build_steps.specs.CanBuild.{Buildable}
 use Rattle.build_steps.proofs.FirstFit.{fit-is-first}
 use Rattle.build_steps.proofs.ChainValue.{weight-reverse}
 use Rattle.build_steps.proofs.ChosenForm.{chosen-form, least-weight}
+use Rattle.build_steps.proofs.PartDigits.{odd-least}
 use Rattle.build_steps.proofs.Growth.{unchanged, one-row, still, grown-length}
 use Rattle.build_steps.proofs.Chain.{one-has-row, down-grows}
 
@@ -88,13 +89,6 @@ steps-grow rows (p ∷ ps) w b =
     has g r q (inr m) = r .has q m
 
 -- ---- how many rows: besides those that were there, one less than its weight for each odd part
-some-weight : (s : DigitString) → 1 ≤ chainEnd s → 1 ≤ weight s
-unfolding chainEnd
-some-weight [] h = absurd (omega arith)
-some-weight (nought ∷ s) h = omega (arith, some-weight s h)
-some-weight (one ∷ s) h = omega arith
-some-weight (minus-one ∷ s) h = absurd (omega arith)
-
 -- without a nonzero digit the value stays
 idle : (v gap : ℕ) (s : DigitString) → weight s ≡ 0 → chainValue v gap s ≡ v
 unfolding chainValue
@@ -122,9 +116,6 @@ module _ (rows : List Row) (p : Part) (w : Lawful rows) (b : Buildable p) where
       let c = chosen-form (p .value) (p .choice) (b .below) (b .choice) in
       weight-reverse (chosenForm (p .value) (p .choice)) ∙ least-weight (p .value) (omega (arith, b .below)) (chosenForm (p .value) (p .choice)) (c .minimal)
 
-  weighs-some : 1 ≤ leastWeight (p .value)
-  weighs-some = omega (arith, some-weight down (omega (arith, down-ends, b .odd)), down-weighs)
-
   -- 1 has row 0
   not-one : rowWith rows (p .value) ≡ nowhere → 2 ≤ p .value
   not-one n =
@@ -140,11 +131,11 @@ module _ (rows : List Row) (p : Part) (w : Lawful rows) (b : Buildable p) where
   searched-light n (fit r) = omega (arith, more-weight down (omega (arith, down-ends, not-one n)), down-weighs, length-append rows (r ∷ []))
   searched-light n none-fits =
       let g = down-grows rows down (p .value) w down-ends (omega (arith, b .odd)) (b .below) in
-      omega (arith, grown-length (weight down - 1) g, down-weighs, weighs-some)
+      omega (arith, grown-length (weight down - 1) g, down-weighs, odd-least (p .value) (b .odd))
 
   looked-up-light : (q : Place) → rowWith rows (p .value) ≡ q → length (lookedUp q rows p) + 1 ≤ length rows + leastWeight (p .value)
   unfolding lookedUp
-  looked-up-light (at-place i) e = omega (arith, weighs-some)
+  looked-up-light (at-place i) e = omega (arith, odd-least (p .value) (b .odd))
   looked-up-light nowhere e = searched-light e (firstFit rows (p .value))
 
   step-light : length (step rows p) + 1 ≤ length rows + leastWeight (p .value)
