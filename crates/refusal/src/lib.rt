@@ -1,9 +1,10 @@
-// Why an entry turned its input down: one case for each number of document 01's table "Turned down", and for 13,
-// which document 02 adds.
+// Why an entry turned its input down: one case for each number of document 01's table "Turned down", and for 13
+// and 14, which document 02 adds.
 ghost use mathlib.Core.Path.{_≡_};
 ghost use Rattle.refusal.specs.Table.{numberOf, placeOf};
 
-// A case holds its place where the table has one other than 0.
+// A case holds its place where the table has one other than 0. That of overlapping masks is a digit, or a cell
+// where planes are read; that of a missing form is a tap, or a cell where planes are written.
 pub enum Refusal {
     NoTaps,
     TooManyTaps,
@@ -18,6 +19,7 @@ pub enum Refusal {
     TapRowRule(u32),
     CutTap,
     TextTooLong,
+    GridSides,
 }
 
 // The table's number.
@@ -38,6 +40,7 @@ pub fn number(refusal: Refusal) -> u32
         Refusal::TapRowRule(_) => 11,
         Refusal::CutTap => 12,
         Refusal::TextTooLong => 13,
+        Refusal::GridSides => 14,
     }
 }
 
@@ -53,11 +56,12 @@ pub fn place(refusal: Refusal) -> u32
         Refusal::TapNotFinite(tap) => tap,
         Refusal::OutOfBounds(tap) => tap,
         Refusal::NotNormalisable(tap) => tap,
-        Refusal::MasksOverlap(digit) => digit,
-        Refusal::NoSuchForm(tap) => tap,
+        Refusal::MasksOverlap(place) => place,
+        Refusal::NoSuchForm(place) => place,
         Refusal::RowRule(row) => row,
         Refusal::TapRowRule(tap) => tap,
         Refusal::CutTap => 0,
         Refusal::TextTooLong => 0,
+        Refusal::GridSides => 0,
     }
 }
