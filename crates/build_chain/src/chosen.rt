@@ -8,14 +8,10 @@ ghost use Rattle.form_masks.specs.Form.{formOf};
 ghost use Rattle.build_steps.specs.Chain.{chosenForm};
 use form_masks::Form;
 
-// The form of this number in the listing of v. The canonical form is the first, and is had without a
-// walk over the links.
+// The form of this number in the listing of v.
 pub fn chosen_form(v: u32, choice: u32) -> Form
     requires { ⌜ (v < 2 ^ 31) × (choice < length (listing 32 (pos v))) ⌝ }
     ensures { λ r. ⌜ r ≡ formOf (chosenForm v choice) ⌝ }
 {
-    if choice == 0 {
-        return form_masks::canonical(v as i32);
-    }
     form_number::form_at(v as i32, choice)
 }

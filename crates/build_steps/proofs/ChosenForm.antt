@@ -1,12 +1,12 @@
 -- The form that is chosen for an odd part: a minimal string of it over 32 places, of weight at most 16, whose chain ends at the odd part.
 -- Assumes nothing.
-use mathlib.Core.Path.{_≡_, refl}
-use mathlib.Core.List.{List, [], _∷_, reverse, List·Memᴰ, List·Memᴰ·head, List·Memᴰ·tail}
-use Prim.Native.Nat.{ℕ, zero, suc, _%_, _^_, _≤_, _<_}
-use native.Mathlib.Nat.{le-of-suc-le-suc, not-suc-le-zero}
+use mathlib.Core.Path.{_≡_}
+use mathlib.Core.List.{[], reverse}
+use Prim.Native.Nat.{ℕ, _%_, _^_, _≤_, _<_}
 use native.Mathlib.Omega.{arith}
 use lib.IntN.{pos}
 use lib.ListN.{length, getD}
+use Rattle.sequence.proofs.Members.{member}
 use Rattle.signed_digit.specs.String.{DigitString}
 use Rattle.signed_digit.specs.Weight.{weight}
 use Rattle.signed_digit.specs.Minimal.{Minimal}
@@ -19,12 +19,6 @@ use Rattle.build_steps.specs.Parts.{leastWeight}
 use Rattle.build_steps.specs.Chain.{chosenForm, chainEnd}
 use Rattle.build_steps.specs.CanBuild.{Chosen}
 use Rattle.build_steps.proofs.ChainValue.{chain-ends, leading-one, weight-reverse}
-
--- a member of a list, by its number
-pub member : {A : Type 0} (a : A) (l : List A) (k : ℕ) → k < length l → List·Memᴰ (getD l k a) l
-member a [] k h = absurd (not-suc-le-zero h)
-member a (x ∷ l) zero h = List·Memᴰ·head refl
-member a (x ∷ l) (suc k) h = List·Memᴰ·tail (member a l k (le-of-suc-le-suc h))
 
 -- ---- "by least weight": no string of the value is lighter
 pub least-weight : (v : ℕ) → v ≤ 2 ^ 31 → (s : DigitString) → Minimal (pos v) s → weight s ≡ leastWeight v

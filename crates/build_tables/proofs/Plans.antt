@@ -6,6 +6,7 @@ use native.Mathlib.Omega.{arith}
 use lib.IntN.{ℤ}
 use lib.ListN.{length, getD, take, replicate, length-map, length-replicate, List·getD-map}
 use lib.Seq.{getD-take, length-take-le}
+use Rattle.sequence.proofs.Members.{member}
 use Rattle.network.specs.declared.Row.{Row}
 use Rattle.network.specs.Rows.{rowsOf, wordsOfTapRows, firstRow}
 use Rattle.build_steps.specs.Parts.{Part, leastWeight, partsToBuild}
@@ -13,7 +14,6 @@ use Rattle.build_steps.specs.Steps.{steps, builtRows}
 use Rattle.build_steps.specs.TapRows.{built}
 use Rattle.build_steps.specs.RowSteps.{row-0, mostRows}
 use Rattle.build_steps.specs.CanBuild.{CanBuildInto, Buildable}
-use Rattle.build_steps.proofs.ChosenForm.{member}
 use Rattle.build_steps.proofs.Passes.{part-buildable, rows-built}
 use Rattle.build_steps.proofs.Steps.{partWeights, steps-light}
 use Rattle.network.proofs.Items.{table-with}

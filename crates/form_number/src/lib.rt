@@ -58,8 +58,8 @@ fn offset_at(forms: &[usize], offsets: &[u32], count: usize, number: usize) -> u
     sum
 }
 
-// The form of this number in the listing of n. A coefficient has at most 17 links.
-pub fn form_at(n: i32, number: u32) -> Form
+// The form of this number in the listing of n, by its links. A coefficient has at most 17.
+fn by_links(n: i32, number: u32) -> Form
     requires { ⌜ number < length (listing 32 n) ⌝ }
     ensures { λ r. ⌜ r ≡ formOf (getD (listing 32 n) number []) ⌝ }
 {
@@ -72,4 +72,16 @@ pub fn form_at(n: i32, number: u32) -> Form
         plus: std::num::wrapping_add_u32(first.plus, offset),
         minus: std::num::wrapping_add_u32(first.minus, offset),
     }
+}
+
+// The form of this number in the listing of n. The canonical form is the first, and is had without a
+// walk over the links.
+pub fn form_at(n: i32, number: u32) -> Form
+    requires { ⌜ number < length (listing 32 n) ⌝ }
+    ensures { λ r. ⌜ r ≡ formOf (getD (listing 32 n) number []) ⌝ }
+{
+    if number == 0 {
+        return form_masks::canonical(n);
+    }
+    by_links(n, number)
 }

@@ -1,92 +1,54 @@
--- `form_number::form_at` meets its contract. `note_links` says which links the walk of n has, and `offset_at` what the form of this number has more than the
--- canonical one in both masks (`form-is`). Assumes nothing.
+-- `form_number::form_at` meets its contract: the canonical form is the first of every listing. Assumes nothing.
+use borrow.Author.Needs.{needs}
 use mathlib.Core.Path.{_≡_, sym, ap, _∙_, subst}
-use mathlib.Core.List.{[]}
-use Prim.Native.Nat.{_≤_, _<_, _^_}
-use native.Mathlib.Omega.{arith}
-use lib.IntN.{ℤ, natAbs}
+use mathlib.Core.List.{List, []}
+use Prim.Native.Nat.{ℕ, _<_}
+use lib.IntN.{ℤ}
 use lib.ListN.{length, getD}
 use mir.Syntax.{w32}
 use mir.Val.{toZ, ofZ}
 use Rattle.word.proofs.Bounds.{i32-coefficient, coefficient-magnitude}
+use Rattle.signed_digit.specs.String.{DigitString}
+use Rattle.signed_digit.specs.CanonicalForm.{canonical}
 use Rattle.signed_digit.specs.Forms.{listing}
+use Rattle.signed_digit.proofs.Coefficients.{canonical-32}
 use Rattle.form_masks.specs.Form.{formOf}
 use Rattle.form_listing.proofs.Machine.{read-once}
-use Rattle.form_number.proofs.Masks.{form-is}
-use borrow.Author.Needs.{needs}
 use Rattle.form_number.proofs.form_at.Statement.{statement}
 use Rattle.form_number.proofs.form_at.Tie as tie
 
 -- n as the machine hands it on
-abbrev given : tie.Start → ℤ
-given s = toZ w32 (ofZ w32 (s .args .n))
-
-same : (s : tie.Start) → given s ≡ s .args .n
+same : (s : tie.Start) → toZ w32 (ofZ w32 (s .args .n)) ≡ s .args .n
 same s = read-once (s .args .n) (s .fits .n)
 
-bounded : (s : tie.Start) → natAbs (given s) ≤ 2 ^ 31
-bounded s = omega (arith, ap natAbs (same s), coefficient-magnitude (s .args .n) (i32-coefficient (s .args .n) (s .fits .n)))
-
-inside : (s : tie.Start) → s .args .number < length (listing 32 (given s))
-inside s = subst (λ (z : ℤ). s .args .number < length (listing 32 z)) (sym (same s)) (s .pre)
-
-slice-aggregate-note-links : tie.Need-slice-aggregate-note-links
-slice-aggregate-note-links c = search needs
-
-slice-aggregate-note-links-2 : tie.Need-slice-aggregate-note-links-2
-slice-aggregate-note-links-2 c = search needs
-
-note-links-requires : tie.Need-note-links-requires
-note-links-requires c κs = search needs
-
-slice-aggregate-offset-at : tie.Need-slice-aggregate-offset-at
-slice-aggregate-offset-at c = search needs
-
-slice-aggregate-offset-at-2 : tie.Need-slice-aggregate-offset-at-2
-slice-aggregate-offset-at-2 c = search needs
-
-offset-at-requires : tie.Need-offset-at-requires
-offset-at-requires c κs =
-    let after-note-links = c .before .before .before .before in
-    let few = after-note-links .note-links .ensures .few in
-    (omega arith, omega arith)
+-- the first form
+first-is : (s : tie.Start) → canonical 32 (s .args .n) ≡ getD (listing 32 (s .args .n)) 0 []
+first-is s =
+    let n = s .args .n in
+    sym (ap (λ (l : List DigitString). getD l 0 []) (canonical-32 n (coefficient-magnitude n (i32-coefficient n (s .fits .n))) .first .1))
 
 canonical-requires : tie.Need-canonical-requires
 canonical-requires c κs = search needs
 
-wrapping-add-u32-requires : tie.Need-wrapping-add-u32-requires
-wrapping-add-u32-requires c κs = search needs
-
-wrapping-add-u32-requires-2 : tie.Need-wrapping-add-u32-requires-2
-wrapping-add-u32-requires-2 c κs = search needs
-
 returns : tie.Need-returns
 returns c =
-    let after-wrapping-add-u32 = c .before in
-    let after-canonical = after-wrapping-add-u32 .before in
-    let after-offset-at = after-canonical .before in
-    let after-note-links = after-offset-at .before .before .before .before .before in
-    let at-start = after-note-links .before .before .before in
-    let noted = after-note-links .note-links in
-    let offset = after-offset-at .offset-at in
-    let form = after-canonical .canonical in
-    let plus = after-wrapping-add-u32 .wrapping-add-u32 in
-    let minus = c .wrapping-add-u322 in
-    form-is (given at-start) (bounded at-start) (noted .last .1 .0) (noted .last .1 .1 .0) (noted .result) (noted .ensures) (at-start .args .number) (inside at-start)
-    (offset .result) (offset .ensures) (form .result) (form .ensures .masks) (plus .result) (minus .result) (plus .ensures) (minus .ensures)
-    ∙ ap (λ (z : ℤ). formOf (getD (listing 32 z) (at-start .args .number) [])) (same at-start)
+    let in-then-1 = c .before in
+    let at-start = in-then-1 .before in
+    let n = at-start .args .n in
+    c .canonical .ensures .masks
+    ∙ ap (λ (z : ℤ). formOf (canonical 32 z)) (same at-start)
+    ∙ ap formOf (first-is at-start)
+    ∙ ap (λ (k : ℕ). formOf (getD (listing 32 n) k [])) (sym (in-then-1 .if1 .taken))
+
+by-links-requires : tie.Need-by-links-requires
+by-links-requires c κs =
+    let at-start = c .before in
+    subst (λ (z : ℤ). at-start .args .number < length (listing 32 z)) (sym (same at-start)) (at-start .pre)
+
+returns-2 : tie.Need-returns-2
+returns-2 c =
+    let at-start = c .before .before in
+    c .by-links .ensures ∙ ap (λ (z : ℤ). formOf (getD (listing 32 z) (at-start .args .number) [])) (same at-start)
 
 pub form-at-spec : {M : Type 1} → statement M
-form-at-spec =
-    tie.close
-    (tie.spec
-    slice-aggregate-note-links
-    slice-aggregate-note-links-2
-    note-links-requires
-    slice-aggregate-offset-at
-    slice-aggregate-offset-at-2
-    offset-at-requires
-    canonical-requires
-    wrapping-add-u32-requires
-    wrapping-add-u32-requires-2
-    returns)
+form-at-spec = tie.close (tie.spec canonical-requires returns by-links-requires returns-2)
