@@ -1,0 +1,159 @@
+-- What is claimed of digit planes, in the words of document 02, request 3. Statements only; proofs/Claims.antt proves `PlaneClaims`.
+use mathlib.Core.Path.{_≡_}
+use mathlib.Core.List.{List, map, List·Memᴰ}
+use mathlib.Core.Logic.{_↔_}
+use Prim.Native.Nat.{ℕ, _*_, _≤_, _<_, _^_}
+use lib.IntN.{ℤ, pos}
+use lib.ListN.{length, getD, take, drop}
+use Rattle.refusal.specs.Answer.{Answer, given, refused}
+use Rattle.sequence.specs.UpTo.{upTo}
+use Rattle.signed_digit.specs.Digit.{nought}
+use Rattle.signed_digit.specs.Forms.{listing}
+use Rattle.form_masks.specs.Form.{formOf, stringOf, TwoMasks}
+use Rattle.form_masks.specs.Value.{valueOf}
+use Rattle.plane_masks.specs.Planes.{planeBit, digitIn, cellString, scaledSum, planeWords, cleared, formIn}
+use Rattle.plane_masks.specs.Grid.{chosen, chosenForms}
+use Rattle.plane_masks.specs.Written.{PlanesWritten, PlanesRead}
+
+-- ---- what is turned down
+
+-- "a grid of up to 16 by 16"; "a mask table has 128 words", and the two other tables have at least one element per cell
+pub record Fits (height width plusWords minusWords first second : ℕ) : Type 0 where
+  pub height-from : 1 ≤ height
+  pub height-to : height ≤ 16
+  pub width-from : 1 ≤ width
+  pub width-to : width ≤ 16
+  pub plus-long : 128 ≤ plusWords
+  pub minus-long : 128 ≤ minusWords
+  pub first-long : height * width ≤ first
+  pub second-long : height * width ≤ second
+
+-- "a side is 0 or above 16"
+pub data BadSides (height width : ℕ) : Type 0 where
+  no-height : height ≡ 0 → BadSides height width
+  high : 16 < height → BadSides height width
+  no-width : width ≡ 0 → BadSides height width
+  wide : 16 < width → BadSides height width
+
+-- a lent table is under its length
+pub data UnderLength (cells plusWords minusWords first second : ℕ) : Type 0 where
+  plus-short : plusWords < 128 → UnderLength cells plusWords minusWords first second
+  minus-short : minusWords < 128 → UnderLength cells plusWords minusWords first second
+  first-short : first < cells → UnderLength cells plusWords minusWords first second
+  second-short : second < cells → UnderLength cells plusWords minusWords first second
+
+-- the choice of cell c is the number of a form in that cell's own listing
+pub record HasForm (coefficients : List ℤ) (choices : List ℕ) (c : ℕ) : Type 0 where
+  pub below : getD choices c 0 < length (listing 32 (getD coefficients c (pos 0)))
+
+-- cell c is in both masks of plane p
+pub record InBoth (plus minus : List ℕ) (c p : ℕ) : Type 0 where
+  pub in-plus : planeBit plus p c ≡ 1
+  pub in-minus : planeBit minus p c ≡ 1
+
+-- cell c overlaps in no plane
+abbrev pub Apart : List ℕ → List ℕ → ℕ → Type 0
+Apart plus minus c = (p : ℕ) → p < 32 → InBoth plus minus c p → ⊥
+
+-- what a number and a place mean that both entries return first; `first` and `second` are the lengths of the tables with an element per cell
+pub data SizeRefusals (height width plusWords minusWords first second number place : ℕ) : Type 0 where
+  -- "14 when a side is 0 or above 16, before 3, place 0"
+  grid-sides : number ≡ 14 → place ≡ 0 → BadSides height width → SizeRefusals height width plusWords minusWords first second number place
+  -- "refusal 3 covers these and tables with less than one element per cell"
+  short-table : number ≡ 3 → place ≡ 0 → (BadSides height width → ⊥) → UnderLength (height * width) plusWords minusWords first second
+      → SizeRefusals height width plusWords minusWords first second number place
+
+-- and what those mean that writing returns; it returns no others
+pub data WritingRefusals (height width : ℕ) (coefficients : List ℤ) (choices : List ℕ) (plusWords minusWords number place : ℕ) : Type 0 where
+  writing-sizes : SizeRefusals height width plusWords minusWords (length coefficients) (length choices) number place
+      → WritingRefusals height width coefficients choices plusWords minusWords number place
+  -- "A cell's choice .. is checked as a tap's, the cell being the place": the lowest without its form
+  no-form : number ≡ 9 → Fits height width plusWords minusWords (length coefficients) (length choices) → place < height * width
+      → (HasForm coefficients choices place → ⊥) → ((c : ℕ) → c < place → HasForm coefficients choices c)
+      → WritingRefusals height width coefficients choices plusWords minusWords number place
+
+-- reading
+pub data ReadingRefusals (height width : ℕ) (plus minus : List ℕ) (first second number place : ℕ) : Type 0 where
+  reading-sizes : SizeRefusals height width (length plus) (length minus) first second number place → ReadingRefusals height width plus minus first second number place
+  -- "Overlapping masks give refusal 8 with the lowest cell that overlaps in any plane": in plane p
+  overlap : number ≡ 8 → Fits height width (length plus) (length minus) first second → place < height * width → (p : ℕ) → p < 32 → InBoth plus minus place p
+      → ((c : ℕ) → c < place → Apart plus minus c) → ReadingRefusals height width plus minus first second number place
+
+-- ---- which grids are written, and which planes are read
+pub record CanWrite (height width : ℕ) (coefficients : List ℤ) (choices : List ℕ) (plusWords minusWords : ℕ) : Type 0 where
+  pub fits : Fits height width plusWords minusWords (length coefficients) (length choices)
+  pub forms : (c : ℕ) → c < height * width → HasForm coefficients choices c
+
+pub record CanRead (height width : ℕ) (plus minus : List ℕ) (first second : ℕ) : Type 0 where
+  pub fits : Fits height width (length plus) (length minus) first second
+  pub apart : (c : ℕ) → c < height * width → Apart plus minus c
+
+-- ---- what is left, of all cells at once
+
+-- by writing, in tables that were plus and minus
+pub record Planes (cells : ℕ) (coefficients : List ℤ) (choices plus minus plus′ minus′ : List ℕ) : Type 0 where
+  -- "one listed form per cell", of the cell's own listing
+  pub listed : (c : ℕ) → c < cells → List·Memᴰ (chosen coefficients choices c) (listing 32 (getD coefficients c (pos 0)))
+  -- their digits are those of the planes
+  pub strings : upTo cells (cellString plus′ minus′) ≡ chosenForms cells coefficients choices
+  -- "planes scaled by their powers add up to the grid"
+  pub adds-up : upTo cells (scaledSum plus′ minus′) ≡ take cells coefficients
+  -- "Mask bits past the last cell are written 0"
+  pub past : (p c : ℕ) → p < 32 → cells ≤ c → c < 256 → digitIn plus′ minus′ p c ≡ nought
+  -- a plane's two masks never share a cell
+  pub apart : (c : ℕ) → c < 256 → Apart plus′ minus′ c
+  -- what lies past the 128 words is as it was
+  pub plus-past : drop 128 plus′ ≡ drop 128 plus
+  pub minus-past : drop 128 minus′ ≡ drop 128 minus
+
+-- by reading what writing left
+pub record Returned (cells : ℕ) (coefficients : List ℤ) (choices : List ℕ) (a : Answer (Unit {0})) (first′ second′ : List ℕ) : Type 0 where
+  pub accepted : a ≡ given tt
+  pub forms : upTo cells (formIn first′ second′) ≡ map formOf (chosenForms cells coefficients choices)
+  pub strings : upTo cells (λ (c : ℕ). stringOf (formIn first′ second′ c)) ≡ chosenForms cells coefficients choices
+
+-- by reading any planes, in tables that were first and second
+pub record Cells (cells : ℕ) (plus minus first second first′ second′ : List ℕ) : Type 0 where
+  -- "each cell's two masks"
+  pub two-masks : (c : ℕ) → c < cells → TwoMasks (formIn first′ second′ c)
+  -- their digits are those of the planes
+  pub strings : upTo cells (λ (c : ℕ). stringOf (formIn first′ second′ c)) ≡ upTo cells (cellString plus minus)
+  -- their values are the sums of the scaled planes
+  pub values : upTo cells (λ (c : ℕ). valueOf (formIn first′ second′ c)) ≡ upTo cells (λ (c : ℕ). given (scaledSum plus minus c))
+  -- what lies past the cells is as it was
+  pub plus-past : drop cells first′ ≡ drop cells first
+  pub minus-past : drop cells second′ ≡ drop cells second
+
+-- every element of a table is below a bound, as 64-bit words are below 2^64
+abbrev pub AllBelow : ℕ → List ℕ → Type 0
+AllBelow bound table = (k : ℕ) → getD table k 0 < bound
+
+pub record PlaneClaims : Type 0 where
+  -- ---- "Given a grid and one listed form per cell, the part writes 32 planes"
+  pub written : (height width : ℕ) (coefficients : List ℤ) (choices plus minus plus′ minus′ : List ℕ)
+      → PlanesWritten height width coefficients choices plus minus (given tt) plus′ minus′ → Planes (height * width) coefficients choices plus minus plus′ minus′
+  -- ---- "Turning there and back returns every form"
+  pub there-and-back : (height width : ℕ) (coefficients : List ℤ) (choices plus minus plus′ minus′ : List ℕ)
+      → PlanesWritten height width coefficients choices plus minus (given tt) plus′ minus′
+      → (first second : List ℕ) (a : Answer (Unit {0})) (first′ second′ : List ℕ) → height * width ≤ length first → height * width ≤ length second
+      → PlanesRead height width plus′ minus′ first second a first′ second′ → Returned (height * width) coefficients choices a first′ second′
+  -- ---- "another part turns planes back into each cell's two masks", whatever planes without an overlap
+  pub read : (height width : ℕ) (plus minus first second first′ second′ : List ℕ) → PlanesRead height width plus minus first second (given tt) first′ second′
+      → Cells (height * width) plus minus first second first′ second′
+  -- back and there: the words made of the masks that are read are those of the planes, but for "Mask bits past the last cell", which are "written 0 and ignored when
+  -- read". So reading loses nothing else
+  pub back-and-there : (height width : ℕ) (plus minus first second first′ second′ : List ℕ) → PlanesRead height width plus minus first second (given tt) first′ second′
+      → AllBelow (2 ^ 64) plus → AllBelow (2 ^ 64) minus
+      → (planeWords (take (height * width) first′) ≡ cleared (height * width) plus) × (planeWords (take (height * width) second′) ≡ cleared (height * width) minus)
+  -- ---- what is accepted, exactly
+  pub writes : (height width : ℕ) (coefficients : List ℤ) (choices plus minus : List ℕ) (a : Answer (Unit {0})) (plus′ minus′ : List ℕ)
+      → PlanesWritten height width coefficients choices plus minus a plus′ minus′ → a ≡ given tt ↔ CanWrite height width coefficients choices (length plus) (length minus)
+  pub reads : (height width : ℕ) (plus minus first second : List ℕ) (a : Answer (Unit {0})) (first′ second′ : List ℕ)
+      → PlanesRead height width plus minus first second a first′ second′ → a ≡ given tt ↔ CanRead height width plus minus (length first) (length second)
+  -- ---- what is turned down, and lent memory is then unchanged
+  pub writing-refused : (height width : ℕ) (coefficients : List ℤ) (choices plus minus : List ℕ) (number place : ℕ) (plus′ minus′ : List ℕ)
+      → PlanesWritten height width coefficients choices plus minus (refused number place) plus′ minus′
+      → WritingRefusals height width coefficients choices (length plus) (length minus) number place × (plus′ ≡ plus) × (minus′ ≡ minus)
+  pub reading-refused : (height width : ℕ) (plus minus first second : List ℕ) (number place : ℕ) (first′ second′ : List ℕ)
+      → PlanesRead height width plus minus first second (refused number place) first′ second′
+      → ReadingRefusals height width plus minus (length first) (length second) number place × (first′ ≡ first) × (second′ ≡ second)

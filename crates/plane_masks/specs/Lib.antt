@@ -1,0 +1,6 @@
+pub mod Binary
+pub mod Planes
+pub mod Grid
+pub mod Written
+pub mod Claims
+pub mod Inner
