@@ -20,6 +20,8 @@
  *   stack: fir_canonical          64
  *   stack: fir_minimal_forms     128
  *   stack: fir_form_count         64
+ *   stack: fir_write_planes      384
+ *   stack: fir_read_planes       192
  *   stack: fir_build           65408
  *   stack: fir_check            1216
  *   stack: fir_coefficients     1280
@@ -36,9 +38,9 @@ extern "C" {
 #endif
 
 /* The first number changes where a program has to be compiled again. */
-#define FIR_VERSION "1.1"
+#define FIR_VERSION "1.2"
 #define FIR_VERSION_MAJOR 1
-#define FIR_VERSION_MINOR 1
+#define FIR_VERSION_MINOR 2
 
 /* A call answers one 64-bit number. Its upper half is the refusal number, 0 for none. Where nothing
  * else is said, the lower half is the place of the refusal, counted from 0, and 0 where the call is
@@ -53,13 +55,16 @@ enum fir_refusal_number {
     FIR_OUT_OF_BOUNDS = 6,    /* a coefficient is outside -2^31 to 2^31 - 1; place: the tap */
     FIR_NOT_NORMALISABLE = 7, /* the sum is zero, infinite or not a number: place 0; or a quotient is
                                  infinite: place: the tap */
-    FIR_MASKS_OVERLAP = 8,    /* the masks of a form overlap; place: the lowest digit in both */
-    FIR_NO_SUCH_FORM = 9,     /* a choice is not below the number of forms; place: the tap */
+    FIR_MASKS_OVERLAP = 8,    /* the masks of a form overlap; place: the lowest digit in both, or in a
+                                 grid the lowest cell of such a form */
+    FIR_NO_SUCH_FORM = 9,     /* a choice is not below the number of forms; place: the tap, or in a grid
+                                 the cell */
     FIR_ROW_RULE = 10,        /* a row breaks the row rule; place: the row. No rows, or more than
                                  4096: place 0 */
     FIR_TAP_ROW_RULE = 11,    /* a tap row breaks the tap row rule; place: the tap */
     FIR_CUT_TAP = 12,         /* programs only: the input ends inside a tap; place 0 */
-    FIR_TEXT_TOO_LONG = 13    /* the text is longer than the lent area; place 0 */
+    FIR_TEXT_TOO_LONG = 13,   /* the text is longer than the lent area; place 0 */
+    FIR_GRID_SIDES = 14       /* a side of the grid is 0 or above 16; place 0 */
 };
 
 static inline uint32_t fir_refusal(uint64_t answer) { return (uint32_t)(answer >> 32); }
@@ -71,6 +76,11 @@ enum {
     FIR_MOST_FRACTION_BITS = 31,
     FIR_MOST_ROWS = 4096,
     FIR_FORMS_LENGTH = 1597, /* each table of masks, the most forms of one coefficient */
+    FIR_MOST_SIDE = 16,
+    FIR_MOST_CELLS = FIR_MOST_SIDE * FIR_MOST_SIDE, /* 256 */
+    FIR_PLANES = 32,
+    FIR_PLANE_WORDS = 4,
+    FIR_PLANES_LENGTH = FIR_PLANES * FIR_PLANE_WORDS, /* 128 words, each mask table of planes */
     FIR_ROW_WORDS = 5,
     FIR_ROWS_LENGTH = FIR_MOST_ROWS * FIR_ROW_WORDS, /* 20480 words */
     FIR_TAP_ROW_WORDS = 3,
@@ -129,6 +139,32 @@ uint64_t fir_minimal_forms(int32_t n, uint32_t *plus, size_t plus_count, uint32_
 
 /* How many minimal forms n has, without listing them. Nothing is turned down. */
 uint64_t fir_form_count(int32_t n, uint32_t *count);
+
+/* A grid has height rows of width cells, both from 1 to FIR_MOST_SIDE. Cells are counted row by row:
+ * cell c is column c % width of row c / width. Plane p, from 0 to 31, has for every cell the digit 1, 0
+ * or -1 at place p of the cell's form. All planes are two tables of masks, one of the cells that hold 1
+ * and one of those that hold -1: cell c of plane p is bit c % 64, from the lowest, of word
+ * 4 * p + c / 64.
+ *   plus[plus_count], minus[minus_count]  at least FIR_PLANES_LENGTH words, of which 128 are the planes'
+ * Every table may be longer than that, or than one element a cell; what lies past is neither looked at
+ * nor touched. */
+
+/* Writes the planes of a grid. coefficients[coefficient_count] has one coefficient for each cell, and
+ * choices[choice_count] the number of a minimal form of it, its sign and shift included, counted from 0
+ * in the order of fir_minimal_forms. Zero has one form, so its choice is 0. All 128 words of both tables
+ * are written, with 0 in the bits past the last cell. Turned down with 14, 3 (plus or minus is short, or
+ * coefficient_count or choice_count is under height * width) or 9, and nothing is written then. */
+uint64_t fir_write_planes(size_t height, size_t width, const int32_t *coefficients,
+                          size_t coefficient_count, const uint32_t *choices, size_t choice_count,
+                          uint64_t *plus, size_t plus_count, uint64_t *minus, size_t minus_count);
+
+/* Turns planes back into the form of each cell: its masks, place p from plane p, at cell_plus[c] and
+ * cell_minus[c], one element of both for each cell. Forms need not be minimal, and bits past the last
+ * cell do not matter. Turned down with 14, 3 (plus or minus is short, or cell_plus_count or
+ * cell_minus_count is under height * width) or 8, and nothing is written then. */
+uint64_t fir_read_planes(size_t height, size_t width, const uint64_t *plus, size_t plus_count,
+                         const uint64_t *minus, size_t minus_count, uint32_t *cell_plus,
+                         size_t cell_plus_count, uint32_t *cell_minus, size_t cell_minus_count);
 
 /* A network, in two tables. A row is five words: left, right, shift, sign and value; row i starts at
  * rows[5 * i]. Row 0 is 0, 0, 0, '+', 1. A later row names two earlier rows, a shift s from 1 to 31

@@ -13,3 +13,4 @@ REFUSAL(10, FIR_ROW_RULE, "row %u breaks the row rule, or there are no rows or m
 REFUSAL(11, FIR_TAP_ROW_RULE, "tap %u breaks the tap row rule")
 REFUSAL(12, FIR_CUT_TAP, "the input ends inside a tap of 8 bytes")
 REFUSAL(13, FIR_TEXT_TOO_LONG, "the text is longer than the area for it")
+REFUSAL(14, FIR_GRID_SIDES, "a side of the grid is 0 or above 16")
