@@ -24,7 +24,7 @@ struct listing {
 static void write_digits(uint32_t plus, uint32_t minus, char text[PLACES + 1]) {
     int length = 0;
     for (int place = PLACES - 1; place >= 0; place--) {
-        char digit = plus >> place & 1 ? '1' : minus >> place & 1 ? 'n' : '0';
+        char digit = digit_at(plus, minus, place);
         if (length > 0 || digit != '0' || place == 0) text[length++] = digit;
     }
     text[length] = '\0';

@@ -18,22 +18,13 @@ struct module {
     uint8_t text[FIR_VERILOG_BYTES];
 };
 
-/* With the first form of every coefficient, as in the sheet. */
 static uint64_t write_module(const struct rounded_set *set, struct module *module) {
-    static const uint32_t first_forms[FIR_MOST_TAPS];
     size_t count = set->given.count;
     uint64_t answer = fir_build(set->coefficients, count, first_forms, count, module->rows, FIR_ROWS_LENGTH,
                                 module->taps, FIR_TAP_ROWS_LENGTH, &module->row_count);
     if (answer != 0) return answer;
     return fir_verilog(module->rows, FIR_ROWS_LENGTH, module->row_count, module->taps, FIR_TAP_ROWS_LENGTH, count,
                        module->text, FIR_VERILOG_BYTES, &module->length);
-}
-
-static int some_nonzero(const struct rounded_set *set) {
-    for (size_t i = 0; i < set->given.count; i++) {
-        if (set->coefficients[i] != 0) return 1;
-    }
-    return 0;
 }
 
 int run_verilog(const struct arguments *arguments) {
@@ -44,6 +35,6 @@ int run_verilog(const struct arguments *arguments) {
     uint64_t answer = write_module(&set, &module);
     if (answer != 0) return turned_down(answer);
     fwrite(module.text, 1, module.length, stdout);
-    if (!some_nonzero(&set)) say_all_zero(arguments);
+    say_if_all_zero(arguments, &set);
     return DONE;
 }

@@ -61,9 +61,9 @@ struct tap_set {
 };
 int read_taps(const struct arguments *arguments, struct tap_set *set);
 
-/* F by document 01: the digits of a decimal number up to 31, leading zeros allowed. Anything else is
- * one more, which every function turns down in its turn. */
-uint32_t fraction_bits(const char *text);
+/* F by document 01, and a side of a grid: the digits of a decimal number up to the most, leading zeros
+ * allowed. Anything else is one more, which every function turns down in its turn. */
+uint32_t decimal(const char *text, uint32_t most);
 
 /* Taps from standard input, rounded at the F that is the first word. */
 struct rounded_set {
@@ -73,6 +73,15 @@ struct rounded_set {
     double divisor, leftover;
 };
 int read_rounded(const struct arguments *arguments, int normalised, struct rounded_set *set);
+
+/* The choice of its first form for every coefficient, as in the sheet. */
+extern const uint32_t first_forms[FIR_MOST_TAPS];
+
+/* Says so where every coefficient of the set is 0. */
+void say_if_all_zero(const struct arguments *arguments, const struct rounded_set *set);
+
+/* The digit that two masks have at a place: 1, 0, or n for -1. */
+char digit_at(uint64_t plus, uint64_t minus, int place);
 
 /* The width of a column that also holds this text. */
 int wider(int width, const char *text);

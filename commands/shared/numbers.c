@@ -1,12 +1,12 @@
-/* Numbers in text: F, binary64 numbers as people read them, and columns of them. */
+/* Numbers in text: F and sides, digits, binary64 numbers as people read them, and columns of them. */
 #include <stdio.h>
 #include <stdlib.h>
 #include <string.h>
 
 #include "command.h"
 
-uint32_t fraction_bits(const char *text) {
-    const uint32_t none = FIR_MOST_FRACTION_BITS + 1;
+uint32_t decimal(const char *text, uint32_t most) {
+    const uint32_t none = most + 1;
     uint32_t value = *text == '\0' ? none : 0;
     for (; *text != '\0'; text++) {
         if (*text < '0' || *text > '9') return none;
@@ -14,6 +14,10 @@ uint32_t fraction_bits(const char *text) {
         if (value > none) value = none;
     }
     return value;
+}
+
+char digit_at(uint64_t plus, uint64_t minus, int place) {
+    return plus >> place & 1 ? '1' : minus >> place & 1 ? 'n' : '0';
 }
 
 int wider(int width, const char *text) {
