@@ -21,6 +21,7 @@ int has_option(const struct arguments *arguments, const char *option);
 /* The commands, each in a file of its own name. */
 int run_draw(const struct arguments *arguments);
 int run_forms(const struct arguments *arguments);
+int run_planes(const struct arguments *arguments);
 int run_round(const struct arguments *arguments);
 int run_sheet(const struct arguments *arguments);
 int run_taps(const struct arguments *arguments);

@@ -13,7 +13,7 @@ static const struct {
     const char *name;
     int (*run)(const struct arguments *arguments);
 } commands[] = {
-    {"draw", run_draw},   {"forms", run_forms}, {"round", run_round},
+    {"draw", run_draw},   {"forms", run_forms}, {"planes", run_planes},   {"round", run_round},
     {"sheet", run_sheet}, {"taps", run_taps},   {"verilog", run_verilog},
 };
 

@@ -7,7 +7,9 @@ use std::fs::{read_dir, set_permissions, Permissions};
 use std::os::unix::fs::PermissionsExt;
 use std::process::Command;
 
-const COMMANDS: [&str; 6] = ["draw", "forms", "round", "sheet", "taps", "verilog"];
+const COMMANDS: [&str; 7] = [
+    "draw", "forms", "planes", "round", "sheet", "taps", "verilog",
+];
 
 fn text(ended: Ended) -> String {
     assert_eq!((ended.status, ended.errors.as_str()), (Some(0), ""));
@@ -61,6 +63,7 @@ fn usage() {
     let round = "usage: fir round F [-n] [-b] [FILE]";
     let draw = "usage: fir draw [--svg|--dot] [SHEET]";
     let forms = "usage: fir forms N";
+    let planes = "usage: fir planes F WIDTH [-b] [FILE]";
     let verilog = "usage: fir verilog F [-b] [FILE]";
     for (arguments, words) in [
         (&["nosuch"][..], format!("fir: {none} nosuch; {list}\n")),
@@ -106,6 +109,22 @@ fn usage() {
             said("forms", &["too many arguments", forms]),
         ),
         (
+            &["planes", "1"],
+            said("planes", &["too few arguments", planes]),
+        ),
+        (
+            &["planes", "1", "2", "3", "4"],
+            said("planes", &["too many arguments", planes]),
+        ),
+        (
+            &["planes", "1", "2", "-n"],
+            said("planes", &["there is no option -n", planes]),
+        ),
+        (
+            &["planes", "1", "2", "/no/such/file"],
+            said("planes", &["cannot read /no/such/file"]),
+        ),
+        (
             &["verilog"],
             said("verilog", &["too few arguments", verilog]),
         ),
@@ -148,6 +167,14 @@ fn usage() {
         assert_eq!(ended.errors, said("forms", &[&words, forms]));
         assert_eq!((ended.status, ended.out.len()), (Some(2), 0));
     }
+    for number in [
+        "", "x", "5x", "+5", "-5", "5 ", "0x5", "1e1", "5.0", "*", "-",
+    ] {
+        let ended = clone.run(&["fir", "planes", "--", "x", number], b"");
+        let words = format!("{number} is no whole number from 0 on");
+        assert_eq!(ended.errors, said("planes", &[&words, planes]));
+        assert_eq!((ended.status, ended.out.len()), (Some(2), 0));
+    }
     assert!(clone.calls().is_empty());
 }
 
@@ -180,10 +207,11 @@ fn through(line: &str, bytes: &[u8]) -> Ended {
 }
 
 /// Each command, with what it reads.
-fn calls() -> [(&'static str, Vec<u8>); 8] {
+fn calls() -> [(&'static str, Vec<u8>); 9] {
     let sheet = printed(&["sheet", "0"], b"3 -6 45 0");
     [
         ("forms 45", vec![]),
+        ("planes 15 1", b"0.1".to_vec()),
         ("round 15", b"0.1".to_vec()),
         ("sheet 15", b"0.1".to_vec()),
         ("taps", b"0.1".to_vec()),
@@ -220,7 +248,7 @@ fn output_that_cannot_be_written() {
 /// A closed standard input is an empty one.
 #[test]
 fn no_input() {
-    for words in ["round 15", "sheet 15", "verilog 15"] {
+    for words in ["planes 15 1", "round 15", "sheet 15", "verilog 15"] {
         let ended = through(&format!("exec \"$0\" {words} <&-"), b"");
         assert_eq!(ended.status, Some(1), "{}", ended.errors);
         assert!(ended.errors.ends_with("there are no taps (refusal 1)\n"));
