@@ -44,6 +44,7 @@ int main(void)
     taps();
     coefficients();
     forms();
+    planes();
     networks();
     printf("figures.c: %d figures, %d wrong\n", figures, wrong);
     return wrong != 0;

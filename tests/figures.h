@@ -22,6 +22,7 @@ void names(void);
 void taps(void);
 void coefficients(void);
 void forms(void);
+void planes(void);
 void networks(void);
 
 #endif
