@@ -8,7 +8,7 @@
 
 #include "fir.h"
 
-enum { SETS = 300, SAMPLES = 40, CALLS = 12, FLUSH = 0x8040 };
+enum { SETS = 300, SAMPLES = 40, CALLS = 14, FLUSH = 0x8040 };
 
 static const int modes[] = {FE_TONEAREST, FE_DOWNWARD, FE_UPWARD, FE_TOWARDZERO};
 
@@ -25,6 +25,8 @@ struct results {
     int64_t outputs[SAMPLES];
     uint8_t text[FIR_VERILOG_BYTES];
     size_t length;
+    uint64_t planes_plus[FIR_PLANES_LENGTH], planes_minus[FIR_PLANES_LENGTH];
+    uint32_t cell_plus[FIR_MOST_CELLS], cell_minus[FIR_MOST_CELLS];
 };
 
 struct set {
@@ -61,6 +63,15 @@ static void run_forms(const struct set *set, struct results *r) {
     r->answers[10] = fir_trimmed(set->coefficients, set->count, &r->start, &r->end);
 }
 
+/* As many full rows as the set has. */
+static void run_planes(const struct set *set, struct results *r) {
+    size_t width = set->count < FIR_MOST_SIDE ? set->count : FIR_MOST_SIDE, height = set->count / width;
+    r->answers[12] = fir_write_planes(height, width, set->coefficients, set->count, set->choices, set->count,
+                                      r->planes_plus, FIR_PLANES_LENGTH, r->planes_minus, FIR_PLANES_LENGTH);
+    r->answers[13] = fir_read_planes(height, width, r->planes_plus, FIR_PLANES_LENGTH, r->planes_minus,
+                                     FIR_PLANES_LENGTH, r->cell_plus, FIR_MOST_CELLS, r->cell_minus, FIR_MOST_CELLS);
+}
+
 static void run(const struct set *set, struct results *r) {
     size_t count = set->count;
     memset(r, 0, sizeof *r);
@@ -74,6 +85,7 @@ static void run(const struct set *set, struct results *r) {
     r->answers[11] = fir_verilog(r->rows, FIR_ROWS_LENGTH, r->row_count, r->taps, FIR_TAP_ROWS_LENGTH, count, r->text,
                                  FIR_VERILOG_BYTES, &r->length);
     run_forms(set, r);
+    run_planes(set, r);
 }
 
 static void run_in(int mode, int flushed, const struct set *set, struct results *results) {

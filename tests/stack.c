@@ -93,6 +93,7 @@ int main(int count, char **arguments)
         faults += read_header(arguments[1]);
     try_taps();
     try_forms();
+    try_planes();
     try_building();
     try_networks();
     try_verilog();

@@ -10,6 +10,9 @@ enum {
     ROW_TABLE = 5 * ROWS,
     TAP_TABLE = 3 * TAPS,
     FORMS = 1597,
+    SIDE = 16,
+    CELLS = SIDE * SIDE,
+    PLANES_TABLE = 128,
     SAMPLES = 20000,
     REGISTERS = 256,
     TEXT = FIR_VERILOG_BYTES
@@ -37,6 +40,9 @@ struct lent {
     uint64_t registers[REGISTERS];
     int64_t outputs[SAMPLES];
     uint8_t text[TEXT];
+    size_t height, width, planes_plus_length, planes_minus_length, cell_plus_count, cell_minus_count;
+    uint64_t planes_plus[PLANES_TABLE], planes_minus[PLANES_TABLE];
+    uint32_t cell_plus[CELLS], cell_minus[CELLS];
 };
 
 extern struct lent lent;
@@ -51,6 +57,8 @@ enum function {
     CANONICAL,
     MINIMAL_FORMS,
     FORM_COUNT,
+    WRITE_PLANES,
+    READ_PLANES,
     BUILD,
     CHECK,
     COEFFICIENTS,
@@ -87,6 +95,18 @@ void try_call(enum function which, uint32_t refusal, const char *what);
 /* Lends everything, at full length and with nothing in it that is refused. */
 void lend(void);
 
+/* Kinds of coefficients that ask for much, and what each is called with its first and last forms. */
+struct kind {
+    const char *first_forms, *last_forms;
+    int32_t (*coefficient)(uint32_t);
+};
+
+enum { KINDS = 5 };
+extern const struct kind kinds[KINDS];
+
+/* Lends everything, with so many coefficients of a kind and the last form of each or the first. */
+void lend_kind(const struct kind *kind, uint32_t count, int last_forms);
+
 /* The same with 256 coefficients of weight 16. */
 void lend_heaviest(void);
 
@@ -96,6 +116,7 @@ void put_row(uint32_t i, uint32_t left, uint32_t right, uint32_t shift, uint32_t
 /* The largest inputs, and one for each refusal. */
 void try_taps(void);
 void try_forms(void);
+void try_planes(void);
 void try_building(void);
 void try_networks(void);
 void try_verilog(void);

@@ -22,59 +22,64 @@ static int32_t most_forms(uint32_t i) { return 858993459 - (int32_t)(i << 20); }
 
 static int32_t least(uint32_t i) { return i % 2 == 0 ? INT32_MIN : 0; }
 
-/* So many coefficients, with the last form of each or the first. */
-static void set(int32_t (*coefficient)(uint32_t), uint32_t count, int last_forms)
+const struct kind kinds[KINDS] = {
+    {"weight 16", "weight 16, last forms", heaviest_of},
+    {"scattered", "scattered, last forms", scattered},
+    {"odd numbers", "odd numbers, last forms", odd},
+    {"many forms", "many forms, last forms", most_forms},
+    {"-2^31 and 0", "-2^31 and 0", least},
+};
+
+void lend_kind(const struct kind *kind, uint32_t count, int last_forms)
 {
     lend();
     lent.coefficient_count = lent.choice_count = count;
     for (uint32_t i = 0; i < count; i++) {
         uint32_t forms;
-        lent.coefficients[i] = coefficient(i);
+        lent.coefficients[i] = kind->coefficient(i);
         fir_form_count(lent.coefficients[i], &forms);
         lent.choices[i] = last_forms ? forms - 1 : 0;
     }
 }
 
-void lend_heaviest(void) { set(heaviest_of, TAPS, 0); }
+void lend_heaviest(void) { lend_kind(&kinds[0], TAPS, 0); }
 
-/* A kind of set, in sizes about those at which something may change. */
-static void kind(const char *first_forms, const char *last_forms, int32_t (*coefficient)(uint32_t))
+/* In sizes about those at which something may change. */
+static void all_sizes(const struct kind *kind)
 {
     static const uint32_t counts[] = {1, 2, 4, 5, 34, 35, 64, 65, 128, TAPS};
     for (size_t i = 0; i < sizeof counts / sizeof counts[0]; i++) {
-        set(coefficient, counts[i], 0);
-        try_call(BUILD, 0, first_forms);
-        set(coefficient, counts[i], 1);
-        try_call(BUILD, 0, last_forms);
+        lend_kind(kind, counts[i], 0);
+        try_call(BUILD, 0, kind->first_forms);
+        lend_kind(kind, counts[i], 1);
+        try_call(BUILD, 0, kind->last_forms);
     }
 }
 
 static void refusals(void)
 {
-    set(heaviest_of, 0, 0);
+    const struct kind *heavy = &kinds[0];
+    lend_kind(heavy, 0, 0);
     try_call(BUILD, 1, "no taps");
-    set(heaviest_of, TAPS + 1, 0);
+    lend_kind(heavy, TAPS + 1, 0);
     try_call(BUILD, 2, "257 taps");
-    set(heaviest_of, TAPS, 1);
+    lend_kind(heavy, TAPS, 1);
     lent.choice_count--;
     try_call(BUILD, 3, "a choice is missing");
-    set(heaviest_of, TAPS, 1);
+    lend_kind(heavy, TAPS, 1);
     lent.rows_length--;
     try_call(BUILD, 3, "a short table of rows");
-    set(heaviest_of, TAPS, 1);
+    lend_kind(heavy, TAPS, 1);
     lent.taps_length--;
     try_call(BUILD, 3, "a short table of tap rows");
-    set(heaviest_of, TAPS, 1);
+    lend_kind(heavy, TAPS, 1);
     lent.choices[TAPS - 1]++;
     try_call(BUILD, 9, "the last choice is past the forms");
 }
 
 void try_building(void)
 {
-    kind("weight 16", "weight 16, last forms", heaviest_of);
-    kind("scattered", "scattered, last forms", scattered);
-    kind("odd numbers", "odd numbers, last forms", odd);
-    kind("many forms", "many forms, last forms", most_forms);
-    kind("-2^31 and 0", "-2^31 and 0", least);
+    for (int i = 0; i < KINDS; i++)
+        all_sizes(&kinds[i]);
     refusals();
 }

@@ -51,6 +51,22 @@ static void form_count(void)
     lent.answer = fir_form_count(lent.n, &lent.count);
 }
 
+static void write_planes(void)
+{
+    lent.answer = fir_write_planes(lent.height, lent.width, lent.coefficients,
+                                   lent.coefficient_count, lent.choices, lent.choice_count,
+                                   lent.planes_plus, lent.planes_plus_length, lent.planes_minus,
+                                   lent.planes_minus_length);
+}
+
+static void read_planes(void)
+{
+    lent.answer = fir_read_planes(lent.height, lent.width, lent.planes_plus,
+                                  lent.planes_plus_length, lent.planes_minus,
+                                  lent.planes_minus_length, lent.cell_plus, lent.cell_plus_count,
+                                  lent.cell_minus, lent.cell_minus_count);
+}
+
 static void build(void)
 {
     lent.answer = fir_build(lent.coefficients, lent.coefficient_count, lent.choices,
@@ -95,6 +111,8 @@ struct entry entries[FUNCTIONS] = {
     [CANONICAL] = {.name = "fir_canonical", .call = canonical},
     [MINIMAL_FORMS] = {.name = "fir_minimal_forms", .call = minimal_forms},
     [FORM_COUNT] = {.name = "fir_form_count", .call = form_count},
+    [WRITE_PLANES] = {.name = "fir_write_planes", .call = write_planes},
+    [READ_PLANES] = {.name = "fir_read_planes", .call = read_planes},
     [BUILD] = {.name = "fir_build", .call = build},
     [CHECK] = {.name = "fir_check", .call = check},
     [COEFFICIENTS] = {.name = "fir_coefficients", .call = coefficients},

@@ -1,5 +1,5 @@
-/* What is lent before anything is changed: all tables at full length, a set of 256 taps, and a
- * network of 4,096 rows that uses every sign. */
+/* What is lent before anything is changed: all tables at full length, a set of 256 taps, a network of
+ * 4,096 rows that uses every sign, and planes without a digit 0. */
 #include "stack.h"
 
 #include <string.h>
@@ -46,11 +46,23 @@ static void lend_taps(void)
     lent.fraction_bits = 15;
 }
 
+static void lend_planes(void)
+{
+    for (uint32_t i = 0; i < PLANES_TABLE; i++) {
+        lent.planes_plus[i] = (i + 1) * 0x9e3779b97f4a7c15;
+        lent.planes_minus[i] = ~lent.planes_plus[i];
+    }
+    lent.height = lent.width = SIDE;
+    lent.planes_plus_length = lent.planes_minus_length = PLANES_TABLE;
+    lent.cell_plus_count = lent.cell_minus_count = CELLS;
+}
+
 void lend(void)
 {
     memset(&lent, 0, sizeof lent);
     lend_rows();
     lend_taps();
+    lend_planes();
     for (uint32_t i = 0; i < REGISTERS; i++)
         lent.registers[i] = i * 0x9e3779b97f4a7c15;
     for (uint32_t i = 0; i < SAMPLES; i++)

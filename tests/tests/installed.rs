@@ -68,7 +68,7 @@ fn filter_through_pkg_config() {
     // The shared library has the functions and no other.
     let names = through("nm -D --defined-only \"$1/lib/libfir.so\"", &prefix);
     let named = names.lines().filter(|line| line.contains(" T fir_"));
-    assert_eq!((named.count(), names.lines().count()), (14, 14), "{names}");
+    assert_eq!((named.count(), names.lines().count()), (16, 16), "{names}");
 }
 
 /// What is installed may be moved.
