@@ -23,6 +23,26 @@ pub const ACCEPTED: Answer = Answer {
     place: 0,
 };
 
+impl Answer {
+    pub fn refused(refusal: u32, place: usize) -> Self {
+        Answer {
+            refusal,
+            place: place as u32,
+        }
+    }
+}
+
+/// Those checks of a table that apply, in its order: refusal number, and the lowest place.
+pub fn applying<const N: usize>(table: [(u32, Option<usize>); N]) -> Vec<Answer> {
+    let refusal = |(refusal, place): (u32, Option<usize>)| Some(Answer::refused(refusal, place?));
+    table.into_iter().filter_map(refusal).collect()
+}
+
+/// Place 0 where a check applies.
+pub fn when(applies: bool) -> Option<usize> {
+    applies.then_some(0)
+}
+
 impl TapAnswer {
     pub fn refused(refusal: u32) -> Self {
         TapAnswer {

@@ -3,7 +3,7 @@
 
 use super::call::{Built, Call, Row, TapRow};
 use super::search::{row_with, Search};
-use crate::answer::Answer;
+use crate::answer::{applying, when, Answer};
 use crate::coefficients::literal::reduce;
 use crate::coefficients::Reduced;
 use crate::forms::literal::{minimal_strings, weight, Digits};
@@ -40,18 +40,12 @@ pub fn refusals(call: &Call, listings: &Listings) -> Vec<Answer> {
     let past = |(n, choice): (&i32, &u32)| *choice as usize >= form_count(listings, *n);
     let (m, choices) = (call.coefficients.len(), call.choices.len());
     let short = choices < m || call.row_table < ROW_TABLE || call.tap_table < TAP_TABLE;
-    let when = |applies: bool| applies.then_some(0);
-    let table = [
+    applying([
         (1, when(m == 0)),
         (2, when(m > 256)),
         (3, when(short)),
         (9, taps.into_iter().position(past)),
-    ];
-    let refusal = |(refusal, place): (u32, Option<usize>)| {
-        let place = place? as u32;
-        Some(Answer { refusal, place })
-    };
-    table.into_iter().filter_map(refusal).collect()
+    ])
 }
 
 /// The distinct odd parts by least weight, then by smaller value, each with the form that its

@@ -75,7 +75,8 @@ impl Clone {
         for name in ["commands", "include"] {
             copy_folder(&program::root().join(name), &clone.path(name));
         }
-        let parts = "fir_taps: word\nfir_forms: word\nfir_networks: word\nfir_verilog: word\n";
+        let parts = ["taps", "forms", "planes", "networks", "verilog"];
+        let parts = parts.map(|part| format!("fir_{part}: word\n")).concat();
         clone.write(
             "crates.txt",
             &format!("# kit: {KIT}\nword:\nsheet: word\n{parts}"),

@@ -4,13 +4,6 @@
 use super::{Network, MINUS, MOST_ROWS, MOST_TAPS, NONE, PLUS, REVERSED, ROW_TABLE, TAP_TABLE};
 use crate::answer::{Answer, ACCEPTED};
 
-fn refused(refusal: u32, place: usize) -> Answer {
-    Answer {
-        refusal,
-        place: place as u32,
-    }
-}
-
 /// The rows before row i keep the rule, so their values are odd and below 2^31. Then a value that is
 /// the one worked out is odd, and one below 2^31 bounds the shifted row too.
 #[inline(always)]
@@ -54,26 +47,26 @@ fn product(rows: &[[u32; 5]], [sign, row, shift]: [u32; 3]) -> Option<i32> {
 pub fn examine(network: &Network, short: bool, buffer: &mut [i32; MOST_TAPS]) -> Answer {
     let (n, m) = (network.row_count, network.tap_count);
     if m == 0 {
-        return refused(1, 0);
+        return Answer::refused(1, 0);
     }
     if m > MOST_TAPS {
-        return refused(2, 0);
+        return Answer::refused(2, 0);
     }
     if network.rows.len() < ROW_TABLE || network.taps.len() < TAP_TABLE || short {
-        return refused(3, 0);
+        return Answer::refused(3, 0);
     }
     if n == 0 || n > MOST_ROWS {
-        return refused(10, 0);
+        return Answer::refused(10, 0);
     }
     let rows = &network.rows.as_chunks::<5>().0[..n];
     if let Some(row) = broken_row(rows) {
-        return refused(10, row);
+        return Answer::refused(10, row);
     }
     let taps = &network.taps.as_chunks::<3>().0[..m];
     for (place, (tap, to)) in taps.iter().zip(buffer).enumerate() {
         match product(rows, *tap) {
             Some(coefficient) => *to = coefficient,
-            None => return refused(11, place),
+            None => return Answer::refused(11, place),
         }
     }
     ACCEPTED

@@ -2,7 +2,7 @@
 //! purpose.
 
 use super::{Network, MINUS, NONE, PLUS, REVERSED, ROW_TABLE, ROW_WORDS, TAP_TABLE, TAP_WORDS};
-use crate::answer::Answer;
+use crate::answer::{applying, when, Answer};
 
 struct Row {
     left: u32,
@@ -102,20 +102,14 @@ fn broken_row(network: &Network, rows: &[Row]) -> Option<usize> {
 pub fn refusals(network: &Network, short: bool) -> Vec<Answer> {
     let (rows, taps) = (rows(network), tap_rows(network));
     let broken_tap = || taps.iter().position(|tap| product(&rows, tap).is_none());
-    let when = |applies: bool| applies.then_some(0);
     let short = short || network.rows.len() < ROW_TABLE || network.taps.len() < TAP_TABLE;
-    let table = [
+    applying([
         (1, when(network.tap_count == 0)),
         (2, when(network.tap_count > 256)),
         (3, when(short)),
         (10, broken_row(network, &rows)),
         (11, broken_tap()),
-    ];
-    let refusal = |(refusal, place): (u32, Option<usize>)| {
-        let place = place? as u32;
-        Some(Answer { refusal, place })
-    };
-    table.into_iter().filter_map(refusal).collect()
+    ])
 }
 
 /// The coefficients, one per tap, or the refusal.
