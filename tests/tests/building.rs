@@ -87,7 +87,7 @@ fn every_choice() {
         let call = Call::new(&[858_993_459], &[choice]);
         let _ = check(&call, over_all_rows, &mut tally);
     }
-    println!("accepted {}, refused {}", tally.accepted, tally.refused[9]);
+    println!("accepted {}, refused {:?}", tally.accepted, tally.refusals);
     assert_eq!(tally.accepted, 6 + 2 + 3 + 3 + 3 * 5 + 229 + 7);
 }
 
@@ -235,10 +235,10 @@ fn damaged_calls() {
         let call = mixture::damaged_call(&mut random, count);
         let _ = check(&call, by_value, &mut tally);
     }
-    println!("{tally:?}, {} places", tally.places.len());
+    println!("{tally:?}");
     let often = DAMAGED_CALLS / 100;
-    assert!([1, 2, 3, 9].map(|n| tally.refused[n] > often) == [true; 4]);
-    let beside = [(1, 3), (2, 3), (2, 9), (3, 9)];
-    assert!(beside.map(|(a, b)| tally.beside[a][b] > often / 10) == [true; 4]);
-    assert!(tally.places.len() > 100);
+    assert!([1, 2, 3, 9].map(|n| tally.refusals.refused[n] > often) == [true; 4]);
+    let pairs = "1-3 2-3 2-9 3-9";
+    tally.refusals.assert_pairs(pairs, often / 10);
+    assert!(tally.refusals.places[9].len() > 100);
 }

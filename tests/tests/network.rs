@@ -123,10 +123,10 @@ fn every_field_changed() {
             }
         }
     }
-    let (rows, taps) = (tally.refused[10], tally.refused[11]);
+    let (rows, taps) = (tally.refusals.refused[10], tally.refusals.refused[11]);
     println!("accepted {}, refused {rows} and {taps}", tally.accepted);
     assert!(rows > 900 && taps > 300 && tally.accepted > 100);
-    assert!(tally.places[10].len() == 10 && tally.places[11].len() == 9);
+    assert!(tally.refusals.places[10].len() == 10 && tally.refusals.places[11].len() == 9);
 }
 
 fn places(count: usize, words: usize) -> impl Iterator<Item = (usize, usize)> {
@@ -156,9 +156,11 @@ fn counts_and_tables() {
             }
         }
     }
-    println!("accepted {}, refused {:?}", tally.accepted, tally.refused);
-    assert!(tally.accepted > 0 && tally.refused[3] > 1000);
-    assert_pairs("1-3 1-10 2-3 2-10 2-11 3-10 3-11 10-11", &tally, 5);
+    println!("accepted {}, refused {:?}", tally.accepted, tally.refusals);
+    assert!(tally.accepted > 0 && tally.refusals.refused[3] > 1000);
+    tally
+        .refusals
+        .assert_pairs("1-3 1-10 2-3 2-10 2-11 3-10 3-11 10-11", 5);
 }
 
 fn pairs(counts: &[usize], tables: &[usize]) -> Vec<(usize, usize)> {
@@ -177,7 +179,10 @@ fn tables_of_coefficients() {
             check(&network, table, &mut tally);
         }
     }
-    assert_eq!((tally.accepted, tally.refused[3]), (3 * 256, 2 * 256));
+    assert_eq!(
+        (tally.accepted, tally.refusals.refused[3]),
+        (3 * 256, 2 * 256)
+    );
 }
 
 #[test]
@@ -226,27 +231,11 @@ fn damaged_networks() {
         let table = random.pick(&[0, 200, 256, 256, 256, 300]);
         check(&damaged, table, &mut tally);
     }
-    println!("accepted {}, refused {:?}", tally.accepted, tally.refused);
-    println!(
-        "places {} and {}",
-        tally.places[10].len(),
-        tally.places[11].len()
-    );
+    println!("accepted {}, refused {:?}", tally.accepted, tally.refusals);
     let often = DAMAGED_NETWORKS / 200;
     assert!(tally.accepted > often);
-    assert!([1, 2, 3, 10, 11].map(|n| tally.refused[n] > often) == [true; 5]);
-    assert!(tally.places[10].len() > 500 && tally.places[11].len() > 200);
+    assert!([1, 2, 3, 10, 11].map(|n| tally.refusals.refused[n] > often) == [true; 5]);
+    assert!(tally.refusals.places[10].len() > 500 && tally.refusals.places[11].len() > 200);
     let all = "1-3 1-10 2-3 2-10 2-11 3-10 3-11 10-11";
-    assert_pairs(all, &tally, DAMAGED_NETWORKS / 1000);
-}
-
-/// Each pair of refusals has come up often.
-fn assert_pairs(pairs: &str, tally: &Tally, often: usize) {
-    for pair in pairs.split(' ') {
-        let (first, second) = pair.split_once('-').unwrap();
-        let [first, second] = [first, second].map(|number| number.parse::<usize>().unwrap());
-        let count = tally.beside[first][second];
-        println!("{first} beside {second}: {count}");
-        assert!(count > often, "{pair}: {count}");
-    }
+    tally.refusals.assert_pairs(all, DAMAGED_NETWORKS / 1000);
 }

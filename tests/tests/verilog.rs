@@ -133,9 +133,9 @@ fn every_area() {
             assert_eq!(fits, area >= length);
         }
     }
-    println!("accepted {}, refused {}", tally.accepted, tally.refused[13]);
+    println!("accepted {}, refused {:?}", tally.accepted, tally.refusals);
     assert_eq!((tally.just, tally.past), (networks.len(), networks.len()));
-    assert!(tally.refused[13] > 5000);
+    assert!(tally.refusals.refused[13] > 5000);
 }
 
 /// Every network has a text that fits the largest area, and words past its counts do not matter.
@@ -179,13 +179,13 @@ fn damaged_networks() {
         let area = random.pick(&[0, LEAST_BYTES - 1, 300, 3000, 40_000]);
         let _ = check(&damaged, area, &mut tally);
     }
-    println!("accepted {}, refused {:?}", tally.accepted, tally.refused);
+    println!("accepted {}, refused {:?}", tally.accepted, tally.refusals);
     let often = DAMAGED_NETWORKS / 200;
     assert!(tally.accepted > often);
-    assert!([1, 2, 3, 10, 11, 13].map(|n| tally.refused[n] > often) == [true; 6]);
-    assert!(tally.places[10].len() > 500 && tally.places[11].len() > 200);
+    assert!([1, 2, 3, 10, 11, 13].map(|n| tally.refusals.refused[n] > often) == [true; 6]);
+    assert!(tally.refusals.places[10].len() > 500 && tally.refusals.places[11].len() > 200);
     let all = "1-3 1-10 1-13 2-3 2-10 2-11 2-13 3-10 3-11 3-13 10-11 10-13 11-13";
-    assert_pairs(all, &tally, DAMAGED_NETWORKS / 1000);
+    tally.refusals.assert_pairs(all, DAMAGED_NETWORKS / 1000);
 }
 
 /// Every pair of counts with every pair of tables, over rules that are kept and broken.
@@ -211,11 +211,10 @@ fn counts_and_tables() {
             }
         }
     }
-    println!("accepted {}, refused {:?}", tally.accepted, tally.refused);
-    assert!(tally.refused[13] > 0 && tally.refused[3] > 1000);
-    assert_pairs(
+    println!("accepted {}, refused {:?}", tally.accepted, tally.refusals);
+    assert!(tally.refusals.refused[13] > 0 && tally.refusals.refused[3] > 1000);
+    tally.refusals.assert_pairs(
         "1-3 1-10 1-13 2-3 2-10 2-11 2-13 3-10 3-11 3-13 10-11 10-13",
-        &tally,
         5,
     );
 }
@@ -223,17 +222,6 @@ fn counts_and_tables() {
 fn pairs(counts: &[usize], tables: &[usize]) -> Vec<(usize, usize)> {
     let with_tables = |count: usize| tables.iter().map(move |table| (count, *table));
     counts.iter().copied().flat_map(with_tables).collect()
-}
-
-/// Each pair of refusals has come up often.
-fn assert_pairs(pairs: &str, tally: &Tally, often: usize) {
-    for pair in pairs.split(' ') {
-        let (first, second) = pair.split_once('-').unwrap();
-        let [first, second] = [first, second].map(|number| number.parse::<usize>().unwrap());
-        let count = tally.beside[first][second];
-        println!("{first} beside {second}: {count}");
-        assert!(count > often, "{pair}: {count}");
-    }
 }
 
 fn samples(random: &mut Random) -> Vec<i16> {

@@ -7,10 +7,10 @@ use fir_tests::building::literal::{self, Step};
 use fir_tests::building::search::Search;
 use fir_tests::building::{core, fast};
 use fir_tests::network::{self, MINUS, PLUS, REVERSED};
+use fir_tests::refusals::Refusals;
 use fir_tests::running::call::{Call as Run, Memory};
 use fir_tests::running::literal::Stream;
 use fir_tests::running::{self, REGISTERS};
-use std::collections::HashSet;
 
 const BUILDERS: [(&str, Builder); 2] = [("core", core::build), ("fast", fast::build)];
 const SAMPLES: [i16; 11] = [1, 2, -32768, 32767, 0, -1, 12345, -32768, -777, 3, 32767];
@@ -31,11 +31,7 @@ pub struct Tally {
     /// Rows with shift 31, and rows whose shifted left row is past 2^31.
     pub farthest: usize,
     pub large: usize,
-    pub refused: [usize; 10],
-    /// `beside[a][b]`: a was returned, and b applied as well.
-    pub beside: [[usize; 10]; 10],
-    /// The places of choices that were refused.
-    pub places: HashSet<u32>,
+    pub refusals: Refusals,
 }
 
 impl Tally {
@@ -60,17 +56,6 @@ impl Tally {
             self.large += (lifted > 1 << 31) as usize;
         }
     }
-
-    fn refuse(&mut self, refusals: &[Answer]) {
-        let number = refusals[0].refusal as usize;
-        self.refused[number] += 1;
-        if number == 9 {
-            self.places.insert(refusals[0].place);
-        }
-        for other in &refusals[1..] {
-            self.beside[number][other.refusal as usize] += 1;
-        }
-    }
 }
 
 /// The literal version's result, which the others share.
@@ -79,7 +64,7 @@ pub fn check(call: &Call, search: Search, tally: &mut Tally) -> Result<Built, An
     let result = literal::built(call, &listings, search);
     match &result {
         Ok((built, steps)) => tally.accept(built, steps),
-        Err(_) => tally.refuse(&literal::refusals(call, &listings)),
+        Err(_) => tally.refusals.count(&literal::refusals(call, &listings)),
     }
     let result = result.map(|(built, _)| built);
     let wanted = call.wanted(&result);

@@ -3,7 +3,7 @@
 use fir_tests::answer::{Answer, ACCEPTED};
 use fir_tests::network::call::{self, Checker, Reader};
 use fir_tests::network::{core, fast, literal, Network};
-use std::collections::HashSet;
+use fir_tests::refusals::Refusals;
 
 const CHECKERS: [Checker; 2] = [core::check, fast::check];
 const READERS: [Reader; 2] = [core::coefficients, fast::coefficients];
@@ -12,11 +12,7 @@ const READERS: [Reader; 2] = [core::coefficients, fast::coefficients];
 #[derive(Default)]
 pub struct Tally {
     pub accepted: usize,
-    pub refused: [usize; 12],
-    /// `beside[a][b]`: a was returned, and b applied as well.
-    pub beside: [[usize; 12]; 12],
-    /// The places at which rows and tap rows were refused.
-    pub places: [HashSet<u32>; 12],
+    pub refusals: Refusals,
     /// Coefficients at the ends of the range, and zeros.
     pub least: usize,
     pub greatest: usize,
@@ -30,15 +26,6 @@ impl Tally {
         self.least += often(i32::MIN);
         self.greatest += often(i32::MAX);
         self.zeros += often(0);
-    }
-
-    fn refuse(&mut self, refusals: &[Answer]) {
-        let number = refusals[0].refusal as usize;
-        self.refused[number] += 1;
-        self.places[number].insert(refusals[0].place);
-        for other in &refusals[1..] {
-            self.beside[number][other.refusal as usize] += 1;
-        }
     }
 }
 
@@ -79,6 +66,6 @@ fn check_coefficients(network: &Network, table: usize, tally: &mut Tally) {
     }
     match result {
         Ok(coefficients) => tally.accept(&coefficients),
-        Err(_) => tally.refuse(&literal::refusals(network, short)),
+        Err(_) => tally.refusals.count(&literal::refusals(network, short)),
     }
 }

@@ -2,9 +2,9 @@
 
 use fir_tests::answer::Answer;
 use fir_tests::network::Network;
+use fir_tests::refusals::Refusals;
 use fir_tests::verilog::call::{self, Writer};
 use fir_tests::verilog::{core, fast, literal};
-use std::collections::HashSet;
 
 const WRITERS: [(&str, Writer); 2] = [("core", core::verilog), ("fast", fast::verilog)];
 
@@ -12,25 +12,10 @@ const WRITERS: [(&str, Writer); 2] = [("core", core::verilog), ("fast", fast::ve
 #[derive(Default)]
 pub struct Tally {
     pub accepted: usize,
-    pub refused: [usize; 14],
-    /// `beside[a][b]`: a was returned, and b applied as well.
-    pub beside: [[usize; 14]; 14],
-    /// The places at which rows and tap rows were refused.
-    pub places: [HashSet<u32>; 14],
+    pub refusals: Refusals,
     /// Texts that just fit, and refused ones that are one byte too long.
     pub just: usize,
     pub past: usize,
-}
-
-impl Tally {
-    fn refuse(&mut self, refusals: &[Answer]) {
-        let number = refusals[0].refusal as usize;
-        self.refused[number] += 1;
-        self.places[number].insert(refusals[0].place);
-        for other in &refusals[1..] {
-            self.beside[number][other.refusal as usize] += 1;
-        }
-    }
 }
 
 pub fn show(network: &Network) -> String {
@@ -67,7 +52,7 @@ pub fn check(network: &Network, area: usize, tally: &mut Tally) -> Result<String
             tally.just += (text.len() == area) as usize;
         }
         Err(refusal) => {
-            tally.refuse(&refusals);
+            tally.refusals.count(&refusals);
             tally.past +=
                 (refusal.refusal == 13 && literal::text(network).len() == area + 1) as usize;
         }
