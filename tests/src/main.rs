@@ -16,6 +16,8 @@ fn main() {
     bench::taps::run();
     println!("\nMinimal forms");
     bench::forms::run();
+    println!("\nPlanes, a call, best of {}", bench::planes::REPETITIONS);
+    bench::planes::run();
     println!("\nNetworks");
     bench::network::run();
     println!("\nBuilding, with the first forms");

@@ -3,6 +3,7 @@
 pub mod building;
 pub mod forms;
 pub mod network;
+pub mod planes;
 pub mod running;
 pub mod sweep;
 pub mod taps;
@@ -13,11 +14,20 @@ use std::time::Instant;
 /// Each repetition times every version, one after the other; the best time of each counts.
 pub const REPETITIONS: usize = 400;
 
+/// Nanoseconds that a timing of short calls should take, and its calls at most.
+const TIMING: f64 = 300_000.0;
+const MOST_CALLS: usize = 2000;
+
 /// Nanoseconds that a run takes.
 fn time(run: &mut dyn FnMut()) -> f64 {
     let start = Instant::now();
     run();
     start.elapsed().as_nanos() as f64
+}
+
+/// How many calls a timing should have.
+fn calls(one: &mut dyn FnMut()) -> usize {
+    ((TIMING / time(one)) as usize).clamp(1, MOST_CALLS)
 }
 
 /// The best time of each, all taking turns to go first.

@@ -1,21 +1,17 @@
 //! Nanoseconds a call for building, set by set, so that a set that is slow for its size is seen.
 
 use super::building::Lent;
-use super::{best_of, time};
+use super::{best_of, calls};
 use fir_tests::building::sets::{families, Family, Set};
 use fir_tests::building::{core, fast};
 
 pub const REPETITIONS: usize = 120;
-/// Nanoseconds that a timing should take, and its calls at most.
-const TIMING: f64 = 300_000.0;
-const MOST_CALLS: usize = 2000;
 
 /// The core's time over the fast version's.
 fn measure(set: &Set) -> f64 {
     let mut lent = [Lent::new(), Lent::new()];
     let [a, b] = &mut lent;
-    let once = time(&mut || b.build(&set.coefficients, 1, fast::build));
-    let calls = ((TIMING / once) as usize).clamp(1, MOST_CALLS);
+    let calls = calls(&mut || b.build(&set.coefficients, 1, fast::build));
     let mut by_core = || a.build(&set.coefficients, calls, core::build);
     let mut by_fast = || b.build(&set.coefficients, calls, fast::build);
     let times = best_of(REPETITIONS, [&mut by_core, &mut by_fast]);
