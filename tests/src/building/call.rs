@@ -1,6 +1,7 @@
 //! One call of a builder: what goes in, and everything that comes out.
 
 use crate::answer::{Answer, ACCEPTED};
+use crate::lent::Lent;
 use crate::network::{Network, ROW_TABLE, ROW_WORDS, TAP_TABLE, TAP_WORDS};
 
 /// A builder: coefficients, choices, table of rows, table of tap rows, row count.
@@ -9,8 +10,6 @@ pub type Builder = fn(&[i32], &[u32], &mut [u32], &mut [u32], &mut usize) -> Ans
 pub type Row = [u32; ROW_WORDS];
 pub type TapRow = [u32; TAP_WORDS];
 
-/// Words kept on either side of a lent table, to see writes outside it.
-const GUARD: usize = 8;
 /// What the lent row count holds before a call.
 const COUNT_BEFORE: usize = 0xc0de_5a5a_a5a5;
 
@@ -34,13 +33,9 @@ pub struct Built {
 #[derive(Clone, PartialEq, Eq)]
 pub struct Outcome {
     pub answer: Answer,
-    pub rows: Vec<u32>,
-    pub taps: Vec<u32>,
-    pub row_count: usize,
-}
-
-fn memory(table: usize, mark: u32) -> Vec<u32> {
-    (0..(table + 2 * GUARD) as u32).map(|i| mark ^ i).collect()
+    rows: Lent<u32>,
+    taps: Lent<u32>,
+    row_count: usize,
 }
 
 impl Call {
@@ -62,8 +57,8 @@ impl Call {
     fn before(&self, answer: Answer) -> Outcome {
         Outcome {
             answer,
-            rows: memory(self.row_table, 0x5a5a_0000),
-            taps: memory(self.tap_table, 0xa5a5_0000),
+            rows: Lent::marked(self.row_table, 0x5a5a_0000),
+            taps: Lent::marked(self.tap_table, 0xa5a5_0000),
             row_count: COUNT_BEFORE,
         }
     }
@@ -73,8 +68,8 @@ impl Call {
         outcome.answer = builder(
             &self.coefficients,
             &self.choices,
-            &mut outcome.rows[GUARD..GUARD + self.row_table],
-            &mut outcome.taps[GUARD..GUARD + self.tap_table],
+            outcome.rows.table_mut(),
+            outcome.taps.table_mut(),
             &mut outcome.row_count,
         );
         outcome
@@ -86,9 +81,8 @@ impl Call {
             Err(refusal) => self.before(*refusal),
             Ok(built) => {
                 let mut outcome = self.before(ACCEPTED);
-                let (rows, taps) = (built.rows.concat(), built.taps.concat());
-                outcome.rows[GUARD..GUARD + rows.len()].copy_from_slice(&rows);
-                outcome.taps[GUARD..GUARD + taps.len()].copy_from_slice(&taps);
+                outcome.rows.put(&built.rows.concat());
+                outcome.taps.put(&built.taps.concat());
                 outcome.row_count = built.rows.len();
                 outcome
             }
@@ -99,31 +93,24 @@ impl Call {
 impl Outcome {
     /// The lent tables as a network with so many taps.
     pub fn network(&self, tap_count: usize) -> Network {
-        let lent = |memory: &[u32]| memory[GUARD..memory.len() - GUARD].to_vec();
         Network {
-            rows: lent(&self.rows),
+            rows: self.rows.table().to_vec(),
             row_count: self.row_count,
-            taps: lent(&self.taps),
+            taps: self.taps.table().to_vec(),
             tap_count,
         }
     }
 
     /// The first thing that differs in each table, in words.
     pub fn differs(&self, wanted: &Outcome) -> String {
-        let first = |got: &[u32], wanted: &[u32]| {
-            let i = (0..got.len()).find(|i| got[*i] != wanted[*i])?;
-            let (got, wanted) = (got[i], wanted[i]);
-            let word = i as i64 - GUARD as i64;
-            Some(format!("{word}: {got:#x}, wanted {wanted:#x}"))
-        };
         format!(
             "{:?}, {} rows, wanted {:?}, {}; row word {:?}; tap word {:?}",
             self.answer,
             self.row_count,
             wanted.answer,
             wanted.row_count,
-            first(&self.rows, &wanted.rows),
-            first(&self.taps, &wanted.taps)
+            self.rows.differs(&wanted.rows),
+            self.taps.differs(&wanted.taps)
         )
     }
 }

@@ -2,12 +2,11 @@
 
 use super::{Form, MOST_FORMS};
 use crate::answer::{Answer, ACCEPTED};
+use crate::lent::Lent;
 
 /// A lister: coefficient, table of plus masks, table of minus masks, count.
 pub type Lister = fn(i32, &mut [u32], &mut [u32], &mut u32) -> Answer;
 
-/// Elements kept on either side of a lent table, to see writes outside it.
-const GUARD: usize = 8;
 /// What the lent count holds before a call.
 pub const COUNT_BEFORE: u32 = 0xc0de_5a5a;
 
@@ -22,13 +21,9 @@ pub struct Call {
 #[derive(Clone, PartialEq, Eq)]
 pub struct Outcome {
     pub answer: Answer,
-    pub plus: Vec<u32>,
-    pub minus: Vec<u32>,
-    pub count: u32,
-}
-
-fn memory(table: usize, mark: u32) -> Vec<u32> {
-    (0..(table + 2 * GUARD) as u32).map(|i| mark ^ i).collect()
+    plus: Lent<u32>,
+    minus: Lent<u32>,
+    count: u32,
 }
 
 impl Call {
@@ -48,8 +43,8 @@ impl Call {
     fn before(&self, answer: Answer) -> Outcome {
         Outcome {
             answer,
-            plus: memory(self.plus_table, 0x5a5a_0000),
-            minus: memory(self.minus_table, 0xa5a5_0000),
+            plus: Lent::marked(self.plus_table, 0x5a5a_0000),
+            minus: Lent::marked(self.minus_table, 0xa5a5_0000),
             count: COUNT_BEFORE,
         }
     }
@@ -58,8 +53,8 @@ impl Call {
         let mut outcome = self.before(ACCEPTED);
         outcome.answer = lister(
             self.n,
-            &mut outcome.plus[GUARD..GUARD + self.plus_table],
-            &mut outcome.minus[GUARD..GUARD + self.minus_table],
+            outcome.plus.table_mut(),
+            outcome.minus.table_mut(),
             &mut outcome.count,
         );
         outcome
@@ -69,8 +64,8 @@ impl Call {
     pub fn listed(&self, forms: &[Form]) -> Outcome {
         let mut outcome = self.before(ACCEPTED);
         for (i, form) in forms.iter().enumerate() {
-            outcome.plus[GUARD + i] = form.plus;
-            outcome.minus[GUARD + i] = form.minus;
+            outcome.plus.table_mut()[i] = form.plus;
+            outcome.minus.table_mut()[i] = form.minus;
         }
         outcome.count = forms.len() as u32;
         outcome
@@ -88,21 +83,14 @@ impl Call {
 impl Outcome {
     /// The first thing that differs, in words.
     pub fn differs(&self, wanted: &Outcome) -> String {
-        let first = |got: &[u32], wanted: &[u32]| {
-            let differ = |i: &usize| got[*i] != wanted[*i];
-            let i = (0..got.len()).find(differ)?;
-            let (got, wanted) = (got[i], wanted[i]);
-            let element = i as i64 - GUARD as i64;
-            Some(format!("{element}: {got:#x}, wanted {wanted:#x}"))
-        };
         format!(
             "{:?}, count {}, wanted {:?}, {}; plus {:?}; minus {:?}",
             self.answer,
             self.count,
             wanted.answer,
             wanted.count,
-            first(&self.plus, &wanted.plus),
-            first(&self.minus, &wanted.minus)
+            self.plus.differs(&wanted.plus),
+            self.minus.differs(&wanted.minus)
         )
     }
 }
