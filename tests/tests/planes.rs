@@ -10,7 +10,6 @@ use fir_tests::planes::{Grid, Masks, MOST_CELLS, MOST_SIDE, PLANES, PLANE_TABLE}
 use fir_tests::random::Random;
 use planes_check::{check_reading, check_writing, Read, Written};
 
-const RANDOM_WRITINGS: usize = 1_500;
 const RANDOM_READINGS: usize = 4_000;
 const DAMAGED_CALLS: usize = 4_000;
 const WHOLE: Grid = Grid {
@@ -84,20 +83,24 @@ fn figures_of_cells() {
     assert_eq!((cells.plus, cells.minus), (numbers, reversed));
 }
 
+/// Coefficients of every kind on every grid.
 #[test]
 fn every_grid_written() {
     let mut random = Random::new(60);
     let mut tally = Written::default();
-    for grid in (0..3).flat_map(|_| Grid::all()) {
-        let call = mixture::writing_of(&mut random, grid);
-        check_writing(&call, &mut tally).unwrap();
+    for grid in Grid::all() {
+        for kind in mixture::KINDS {
+            let call = mixture::writing_of(&mut random, grid, kind);
+            check_writing(&call, &mut tally).unwrap();
+        }
     }
     println!("{tally:?}");
-    assert_eq!((tally.accepted, tally.grids.count()), (3 * 256, 256));
+    let calls = 256 * mixture::KINDS.len();
+    assert_eq!((tally.accepted, tally.grids.count()), (calls, 256));
     assert!(tally.bits.iter().all(|count| *count > 500));
     assert!(tally.zeros > 2000 && tally.least > 2000 && tally.greatest > 2000);
-    assert!(tally.most_formed > 100 && tally.last > 2000 && tally.between > 2000);
-    assert!(tally.past > 200);
+    assert!(tally.most_formed > 2000 && tally.last > 2000 && tally.between > 2000);
+    assert!(tally.past > calls / 4);
 }
 
 fn refused<T>(refusal: u32, place: usize) -> Result<T, Answer> {
@@ -149,20 +152,6 @@ fn every_place_of_a_choice() {
         }
     }
     assert_eq!(tally.refusals.places[9].len(), MOST_CELLS);
-}
-
-#[test]
-fn random_writings() {
-    let mut random = Random::new(61);
-    let mut tally = Written::default();
-    for _ in 0..RANDOM_WRITINGS {
-        let grid = mixture::grid(&mut random);
-        let call = mixture::writing_of(&mut random, grid);
-        check_writing(&call, &mut tally).unwrap();
-    }
-    println!("{tally:?}");
-    assert_eq!(tally.accepted, RANDOM_WRITINGS);
-    assert!(tally.grids.count() > 200 && tally.most_formed > 100 && tally.past > 300);
 }
 
 /// Anything without an overlap in a cell, whatever lies past the cells.

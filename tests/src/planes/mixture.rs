@@ -36,23 +36,20 @@ fn zero(_: &mut Random) -> i32 {
     0
 }
 
-type Kind = fn(&mut Random) -> i32;
-const KINDS: [Kind; 7] = [of_bits, of_bits, of_bits, uniform, uneven, end, zero];
+/// A coefficient of some kind.
+pub type Kind = fn(&mut Random) -> i32;
+pub const KINDS: [Kind; 7] = [of_bits, uniform, uneven, end, zero, most_formed, any];
 
-/// So many coefficients: now and then all of one kind, else of any.
-fn coefficients(random: &mut Random, count: usize) -> Vec<i32> {
-    let one = random.pick(&KINDS);
-    let alike = random.one_in(6);
-    let mut next = |_| match alike {
-        true => one(random),
-        false => random.pick(&KINDS)(random),
-    };
-    let mut list: Vec<i32> = (0..count).map(&mut next).collect();
-    if random.one_in(4) {
-        let cell = random.below(count);
-        list[cell] = most_formed(random);
+/// Of any of the other kinds, those with few forms more often.
+fn any(random: &mut Random) -> i32 {
+    match random.below(40) {
+        0 => most_formed(random),
+        1..4 => uneven(random),
+        4..8 => end(random),
+        8..12 => zero(random),
+        12..18 => uniform(random),
+        _ => of_bits(random),
     }
-    list
 }
 
 /// Lengthens a table now and then, with anything.
@@ -67,9 +64,9 @@ fn tables(random: &mut Random, length: usize) -> [usize; 2] {
     [0; 2].map(|_| length + random.pick(&[0, 0, 0, 1, 2, 200]))
 }
 
-/// A call that writes and is accepted, with anything past the cells.
-pub fn writing_of(random: &mut Random, grid: Grid) -> Writing {
-    let coefficients = coefficients(random, grid.cells());
+/// A call that writes coefficients of this kind and is accepted, with anything past the cells.
+pub fn writing_of(random: &mut Random, grid: Grid, kind: Kind) -> Writing {
+    let coefficients: Vec<i32> = (0..grid.cells()).map(|_| kind(random)).collect();
     let choices = choices(random, &coefficients);
     let mut call = Writing::new(grid, &coefficients, &choices);
     lengthen(random, &mut call.coefficients, |bits| bits as i32);
@@ -214,7 +211,7 @@ const DAMAGES: [usize; 10] = [1, 1, 1, 1, 2, 3, 4, 5, 6, 7];
 /// A call that writes with one thing or several that are not right.
 pub fn damaged_writing(random: &mut Random) -> Writing {
     let grid = grid(random);
-    let mut call = writing_of(random, grid);
+    let mut call = writing_of(random, grid, any);
     let which = random.pick(&DAMAGES);
     if which & 1 != 0 {
         choices_past(random, &mut call);
