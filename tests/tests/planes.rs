@@ -214,26 +214,41 @@ fn every_place_of_an_overlap() {
     assert_eq!(tally.refusals.places[8].len(), MOST_CELLS);
 }
 
-/// Two overlaps in each grid: the lower cell is answered, whichever plane is lower.
+/// Two cells of each grid overlap, in one plane or several: the lower cell is answered, whichever
+/// plane is lower.
 #[test]
 fn the_lowest_cell_that_overlaps() {
     let mut random = Random::new(64);
     let mut tally = Read::default();
+    let planes: [[&[usize]; 2]; 5] = [
+        [&[31], &[0]],
+        [&[1], &[0]],
+        [&[0], &[31]],
+        [&[17], &[17]],
+        [&[5, 30, 31], &[4, 5]],
+    ];
     for grid in Grid::all().filter(|grid| *grid != Grid::new(1, 1)) {
         let last = grid.cells() - 1;
         let any = random.below(last);
         for (low, high) in [(0, last), (any, last), (any, any + 1), (0, 1)] {
-            for planes in [(31, 0), (1, 0), (0, 31), (17, 17)] {
+            for [low_planes, high_planes] in planes {
                 let mut masks = mixture::planes(&mut random, grid);
-                plant(&mut masks, low, planes.0);
-                plant(&mut masks, high, planes.1);
+                let mut at = |cell, planes: &[usize]| {
+                    planes
+                        .iter()
+                        .for_each(|plane| plant(&mut masks, cell, *plane))
+                };
+                at(low, low_planes);
+                at(high, high_planes);
                 let call = Reading::new(grid, &masks);
                 assert_eq!(check_reading(&call, &mut tally), refused(8, low));
             }
         }
     }
     println!("{tally:?}");
-    assert_eq!((tally.cells, tally.higher), (255 * 16, 255 * 8));
+    let each = 255 * 4;
+    let seen = (tally.cells, tally.planes, tally.higher);
+    assert_eq!(seen, (5 * each, each, 3 * each));
 }
 
 /// Each check before the next, with all the later ones broken as well.

@@ -56,32 +56,43 @@ impl Lent<u32> {
     }
 }
 
-/// Prints the times of a call, and gives the core's over the fast version's.
-fn show(what: &str, times: [f64; 2], calls: usize) -> f64 {
+/// So many calls by the core, and by the fast version.
+type Versions<'a, T> = [&'a dyn Fn(&mut Lent<T>, usize); 2];
+
+/// Prints the times of a call that has this answer, and gives the core's over the fast version's.
+fn measure<T: Clone + Default + PartialEq>(
+    what: &str,
+    tables: [usize; 2],
+    answer: Answer,
+    [core, fast]: Versions<T>,
+) -> f64 {
+    let mut lent = [(); 2].map(|_| Lent::new(tables));
+    let [a, b] = &mut lent;
+    let calls = calls(&mut || fast(b, 1));
+    let times = best_of(
+        REPETITIONS,
+        [&mut || core(a, calls), &mut || fast(b, calls)],
+    );
+    assert!(lent[0] == lent[1] && lent[0].answer == answer, "{what}");
     print(what, times, calls);
     times[0] / times[1]
 }
 
 fn measure_writing(what: &str, call: &Writing, answer: Answer) -> f64 {
-    let mut lent = [(); 2].map(|_| Lent::new(call.tables));
-    let [a, b] = &mut lent;
-    let calls = calls(&mut || b.write(call, 1, fast::write_planes));
-    let mut by_core = || a.write(call, calls, core::write_planes);
-    let mut by_fast = || b.write(call, calls, fast::write_planes);
-    let times = best_of(REPETITIONS, [&mut by_core, &mut by_fast]);
-    assert!(lent[0] == lent[1] && lent[0].answer == answer, "{what}");
-    show(what, times, calls)
+    let core = |lent: &mut Lent<u64>, calls| lent.write(call, calls, core::write_planes);
+    let fast = |lent: &mut Lent<u64>, calls| lent.write(call, calls, fast::write_planes);
+    measure(what, call.tables, answer, [&core, &fast])
 }
 
 fn measure_reading(what: &str, call: &Reading, answer: Answer) -> f64 {
-    let mut lent = [(); 2].map(|_| Lent::new(call.tables));
-    let [a, b] = &mut lent;
-    let calls = calls(&mut || b.read(call, 1, fast::read_planes));
-    let mut by_core = || a.read(call, calls, core::read_planes);
-    let mut by_fast = || b.read(call, calls, fast::read_planes);
-    let times = best_of(REPETITIONS, [&mut by_core, &mut by_fast]);
-    assert!(lent[0] == lent[1] && lent[0].answer == answer, "{what}");
-    show(what, times, calls)
+    let core = |lent: &mut Lent<u32>, calls| lent.read(call, calls, core::read_planes);
+    let fast = |lent: &mut Lent<u32>, calls| lent.read(call, calls, fast::read_planes);
+    measure(what, call.tables, answer, [&core, &fast])
+}
+
+/// The greatest of some ratios.
+fn worst(ratios: impl IntoIterator<Item = f64>) -> f64 {
+    ratios.into_iter().fold(0.0, f64::max)
 }
 
 /// The planes that the fast version writes.
@@ -116,10 +127,7 @@ fn measure_writings(random: &mut Random, grid: Grid) -> f64 {
         ("written, any forms", any),
         ("written, zeros", writing(grid, || (0, 0))),
         ("written, 0x55555555", writing(grid, || (0x5555_5555, 0))),
-        (
-            "written, 0x33333333 first",
-            writing(grid, || (MOST_FORMED, 0)),
-        ),
+        ("written, 0x33333333", writing(grid, || (MOST_FORMED, 0))),
         (
             "written, 0x33333333 last",
             writing(grid, || (MOST_FORMED, 1596)),
@@ -127,7 +135,7 @@ fn measure_writings(random: &mut Random, grid: Grid) -> f64 {
         ("written, small, any", small),
     ];
     let measure = |(what, call): &(&str, Writing)| measure_writing(what, call, ACCEPTED);
-    kinds.iter().map(measure).fold(0.0, f64::max)
+    worst(kinds.iter().map(measure))
 }
 
 fn measure_readings(random: &mut Random, grid: Grid) -> f64 {
@@ -150,7 +158,7 @@ fn measure_readings(random: &mut Random, grid: Grid) -> f64 {
     let measure = |(what, planes): &(&str, Masks<u64>)| {
         measure_reading(what, &Reading::new(grid, planes), ACCEPTED)
     };
-    kinds.iter().map(measure).fold(0.0, f64::max)
+    worst(kinds.iter().map(measure))
 }
 
 /// A wrong choice and an overlap, both in the last cell.
@@ -161,27 +169,22 @@ fn measure_refusals(random: &mut Random, grid: Grid) -> f64 {
     plant(&mut reading.planes, last, PLANES - 1);
     first.choices[last] = u32::MAX;
     any.choices[last] = u32::MAX;
-    let ratios = [
+    worst([
         measure_writing("refused, first forms", &first, Answer::refused(9, last)),
         measure_writing("refused, any forms", &any, Answer::refused(9, last)),
         measure_reading("refused, overlap", &reading, Answer::refused(8, last)),
-    ];
-    ratios.into_iter().fold(0.0, f64::max)
+    ])
 }
 
-fn measure(side: usize) -> f64 {
+fn measure_grid(side: usize) -> f64 {
     let mut random = Random::new(21);
     let grid = Grid::new(side, side);
     print_head(&format!("{side} by {side}"), &["fast"]);
     let parts = [measure_writings, measure_readings, measure_refusals];
-    let ratios = parts.map(|part| part(&mut random, grid));
-    ratios.into_iter().fold(0.0, f64::max)
+    worst(parts.map(|part| part(&mut random, grid)))
 }
 
 pub fn run() {
-    let worst = [MOST_SIDE, 8, 4, 1]
-        .map(measure)
-        .into_iter()
-        .fold(0.0, f64::max);
-    println!("\n{:<46}{worst:>12.2}", "worst of all");
+    let worst = worst([MOST_SIDE, 8, 4, 1].map(measure_grid));
+    println!("\n{:<46}{worst:>12.2}", "worst of all grids");
 }

@@ -7,7 +7,7 @@ use crate::forms::fast::form_count;
 use crate::forms::mixture::{uneven, uniform};
 use crate::random::Random;
 
-/// A coefficient with 1,597 forms, more than any other but its multiples.
+/// A coefficient with 1,597 forms; none has more.
 pub const MOST_FORMED: i32 = 858_993_459;
 
 pub fn grid(random: &mut Random) -> Grid {
