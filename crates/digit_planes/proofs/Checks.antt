@@ -2,7 +2,7 @@
 use mathlib.Core.Path.{_≡_, ap, ap₂, _∙_}
 use mathlib.Core.Bool.{Bool, true, false, _||_, or-true}
 use Prim.Native.Nat.{ℕ, _*_}
-use Rattle.refusal.specs.Answer.{Answer, given, refused, refuseIf}
+use Rattle.refusal.specs.Answer.{given, refused, refuseIf}
 use Rattle.refusal.proofs.Checks.{check-applies, check-passes}
 use Rattle.plane_masks.specs.Grid.{badSide, badSides, shortTable, sizesAnswer}
 

@@ -1,5 +1,5 @@
 -- What both entries answer and leave, by what their checks said. Assumes nothing.
-use mathlib.Core.Path.{_≡_, refl, sym, ap, ap₂, _∙_}
+use mathlib.Core.Path.{_≡_, refl, sym, ap, _∙_}
 use mathlib.Core.Bool.{Bool}
 use mathlib.Core.List.{List, _++_, map}
 use Prim.Native.Nat.{ℕ, _*_, _≤_, _<_}
@@ -7,7 +7,6 @@ use native.Mathlib.Omega.{arith}
 use lib.IntN.{ℤ}
 use lib.ListN.{length, drop}
 use Rattle.refusal.specs.Answer.{Answer, given, refused, Place, nowhere, at-place, placeOr, lowest, filled}
-use Rattle.sequence.specs.UpTo.{upTo}
 use Rattle.sequence.proofs.UpTo.{length-upTo}
 use Rattle.signed_digit.specs.Masks.{plusMask, minusMask}
 use Rattle.plane_masks.specs.Planes.{cellMask, cellMasks, planeWords}

@@ -2,19 +2,18 @@
 use mathlib.Core.Path.{_≡_, refl, sym, ap, ap₂, _∙_}
 use mathlib.Core.Bool.{Bool, true, false, not, _||_, true≢false}
 use mathlib.Core.List.{List}
-use mathlib.Core.Logic.{_↔_}
-use Prim.Native.Nat.{ℕ, _*_, _≤_, _<_}
+use Prim.Native.Nat.{ℕ, _*_, _≤_}
 use native.Mathlib.Nat.{mul-le-mul}
 use native.Mathlib.Omega.{arith}
-use borrow.Author.Tests.{eqb-true, eqb-false, eq-eqb, ne-eqb, ltb-true, ltb-false, lt-ltb, le-ltb, not-true, not-false}
+use borrow.Author.Tests.{eqb-true, eqb-false, ne-eqb, ltb-true, ltb-false, lt-ltb, le-ltb, not-false}
 use lib.Dec.{eqb, ltb}
 use lib.IntN.{ℤ, pos}
 use lib.ListN.{length, getD}
-use Rattle.refusal.specs.Answer.{Answer, given, refused, Place, nowhere, at-place, refuseIf, refuseAt, andThen, lowest}
+use Rattle.refusal.specs.Answer.{Answer, given, refused, Place, nowhere, at-place, refuseIf, refuseAt, andThen}
 use Rattle.refusal.proofs.Checks.{neither, either, check-passes, given-if, given-at, given-refused, refused-if, refused-at}
 use Rattle.signed_digit.specs.Forms.{listing}
-use Rattle.plane_masks.specs.Grid.{badSide, badSides, shortTable, sizesAnswer, cellNumbers, noForm, missingForm, planesAnswer, overlaps, overlapCell, cellsAnswer}
-use Rattle.plane_masks.specs.Claims.{Fits, BadSides, no-height, high, no-width, wide, UnderLength, plus-short, minus-short, first-short, second-short, HasForm, Apart, SizeRefusals, grid-sides, short-table, WritingRefusals, writing-sizes, no-form, ReadingRefusals, reading-sizes, overlap, CanWrite, CanRead}
+use Rattle.plane_masks.specs.Grid.{badSide, badSides, shortTable, sizesAnswer, noForm, missingForm, planesAnswer, overlaps, overlapCell, cellsAnswer}
+use Rattle.plane_masks.specs.Claims.{Fits, BadSides, no-height, high, no-width, wide, UnderLength, plus-short, minus-short, first-short, second-short, HasForm, SizeRefusals, grid-sides, short-table, WritingRefusals, writing-sizes, no-form, ReadingRefusals, reading-sizes, overlap, CanWrite, CanRead}
 use Rattle.plane_masks.proofs.Lists.{no-cell, none-of, cell-of}
 use Rattle.plane_masks.proofs.Strings.{not-apart, are-apart, apart-is}
 

@@ -1,13 +1,12 @@
 -- `plane-claims`: the claims of specs/Claims.antt. Assumes nothing.
-use mathlib.Core.Path.{_≡_, refl, sym, ap, ap₂, _∙_, subst}
+use mathlib.Core.Path.{_≡_, sym, ap, ap₂, _∙_, subst}
 use mathlib.Core.List.{List, [], _++_, map, List·Memᴰ}
-use mathlib.Core.Logic.{_↔_}
 use Prim.Native.Nat.{ℕ, _*_, _≤_, _<_, _^_}
 use native.Mathlib.Omega.{arith}
 use lib.IntN.{ℤ, pos}
 use lib.ListN.{length, getD, take, drop, length-append, length-map, List·getD-map, List·getD-append}
 use lib.Seq.{take-append-seam, drop-append-seam}
-use Rattle.refusal.specs.Answer.{Answer, given, refused, filled}
+use Rattle.refusal.specs.Answer.{Answer, given, filled}
 use Rattle.sequence.specs.UpTo.{upTo}
 use Rattle.sequence.proofs.UpTo.{length-upTo, getD-upTo, upTo-take, upTo-same}
 use Rattle.sequence.proofs.Members.{member}
@@ -16,14 +15,13 @@ use Rattle.signed_digit.specs.Forms.{listing}
 use Rattle.signed_digit.specs.Masks.{plusMask, minusMask}
 use Rattle.signed_digit.specs.Value.{value}
 use Rattle.signed_digit.proofs.Listing.{listing-is}
-use Rattle.form_masks.specs.declared.Form.{Form}
 use Rattle.form_masks.specs.Form.{formOf, stringOf, TwoMasks}
 use Rattle.form_masks.specs.Value.{valueOf}
 use Rattle.form_masks.proofs.Forms.{string-form}
 use Rattle.plane_masks.specs.Planes.{cellString, scaledSum, cellMask, cellMasks, planeWords, cleared, formIn}
-use Rattle.plane_masks.specs.Grid.{chosen, chosenForms, planesAnswer, cellsAnswer}
+use Rattle.plane_masks.specs.Grid.{chosen, chosenForms}
 use Rattle.plane_masks.specs.Written.{PlanesWritten, PlanesRead}
-use Rattle.plane_masks.specs.Claims.{CanWrite, CanRead, WritingRefusals, ReadingRefusals, Planes, Returned, Cells, AllBelow, PlaneClaims}
+use Rattle.plane_masks.specs.Claims.{CanWrite, CanRead, Planes, Returned, Cells, AllBelow, PlaneClaims}
 use Rattle.plane_masks.proofs.Lists.{listed}
 use Rattle.plane_masks.proofs.Planes.{words-length, words-back}
 use Rattle.plane_masks.proofs.Strings.{scaled-value, form-is, string-is, value-is, two-masks}

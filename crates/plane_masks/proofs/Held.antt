@@ -8,7 +8,6 @@ use Rattle.signed_digit.specs.Digit.{Digit, one, nought, minus-one}
 use Rattle.signed_digit.specs.String.{DigitString, digitAt}
 use Rattle.signed_digit.specs.Masks.{plusBit, minusBit, plusMask, minusMask, digitOf}
 use Rattle.signed_digit.proofs.Masks.{masks-bits}
-use Rattle.form_masks.specs.Form.{formOf}
 use Rattle.plane_masks.specs.Binary.{bitAt}
 use Rattle.plane_masks.specs.Planes.{planeBit, digitIn, cellString, planeWords}
 use Rattle.plane_masks.specs.Claims.{Apart}

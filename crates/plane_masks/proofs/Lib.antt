@@ -1,5 +1,6 @@
--- What specs/Claims.antt states:
+-- What specs/Claims.antt and specs/Figures.antt state:
 pub mod Claims
+pub mod Figures
 -- Planes and strings:
 pub mod Lists
 pub mod Binary

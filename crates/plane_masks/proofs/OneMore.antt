@@ -7,10 +7,8 @@ use Prim.Native.Nat.{ℕ, zero, suc, _+_, _-_, _*_, _≤_, _<_, _/_, _%_, _^_}
 use native.Mathlib.Omega.{arith}
 use borrow.Author.Tests.{eqb-true, eqb-false, ltb-true, ltb-false}
 use lib.Dec.{eqb, ltb}
-use lib.ListN.{length, getD, drop, length-append, List·getD-append, List·getD-eq-default}
+use lib.ListN.{length, getD, length-append, List·getD-append, List·getD-eq-default}
 use lib.Seq.{getD-at, drop-at}
-use Rattle.sequence.specs.UpTo.{upTo}
-use Rattle.sequence.proofs.UpTo.{length-upTo, getD-upTo}
 use Rattle.plane_masks.specs.Binary.{bitAt, binary}
 use Rattle.plane_masks.specs.Planes.{planeWord, planeWords}
 use Rattle.plane_masks.specs.Inner.{share, withCell}

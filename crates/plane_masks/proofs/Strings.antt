@@ -3,19 +3,18 @@
 use mathlib.Core.Path.{_≡_, refl, sym, ap, ap₂, _∙_, subst}
 use mathlib.Core.Bool.{Bool, true, false, _||_, true≢false}
 use mathlib.Core.List.{List}
-use Prim.Native.Nat.{ℕ, zero, suc, _+_, _≤_, _<_, _^_}
+use Prim.Native.Nat.{ℕ, zero, suc, _+_, _<_, _^_}
 use native.Mathlib.Omega.{arith}
 use borrow.Author.Tests.{ne-eqb, eqb-true, eqb-false}
 use lib.Dec.{eqb}
 use lib.IntN.{ℤ, pos, _+ℤ_, _*ℤ_}
-use lib.ListN.{length, getD}
-use Rattle.refusal.specs.Answer.{Answer, given}
+use lib.ListN.{length}
+use Rattle.refusal.specs.Answer.{given}
 use Rattle.refusal.proofs.Checks.{neither}
 use Rattle.sequence.specs.Sum.{sumBelow}
-use Rattle.sequence.specs.UpTo.{upTo}
 use Rattle.sequence.proofs.UpTo.{length-upTo, getD-upTo}
 use Rattle.signed_digit.specs.Digit.{Digit, digitValue, nought}
-use Rattle.signed_digit.specs.String.{DigitString, digitAt}
+use Rattle.signed_digit.specs.String.{digitAt}
 use Rattle.signed_digit.specs.Masks.{plusBit, minusBit, plusMask, minusMask, digitOf}
 use Rattle.signed_digit.specs.Value.{term, value}
 use Rattle.signed_digit.proofs.Strings.{small}
@@ -24,7 +23,7 @@ use Rattle.form_masks.specs.declared.Form.{Form}
 use Rattle.form_masks.specs.Form.{formOf, stringOf, TwoMasks}
 use Rattle.form_masks.specs.Value.{valueOf}
 use Rattle.form_masks.proofs.Forms.{string-form, form-value}
-use Rattle.plane_masks.specs.Binary.{bitAt, binary}
+use Rattle.plane_masks.specs.Binary.{bitAt}
 use Rattle.plane_masks.specs.Planes.{planeBit, digitIn, cellString, scaledSum, cellMask}
 use Rattle.plane_masks.specs.Grid.{anyBelow, overlaps}
 use Rattle.plane_masks.specs.Claims.{InBoth, Apart}

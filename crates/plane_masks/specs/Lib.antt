@@ -3,4 +3,5 @@ pub mod Planes
 pub mod Grid
 pub mod Written
 pub mod Claims
+pub mod Figures
 pub mod Inner

@@ -1,6 +1,5 @@
 -- `plane_masks::write_cell` meets its contract. Assumes nothing.
-use mathlib.Core.Path.{_≡_, refl, sym, ap, _∙_}
-use Prim.Native.Nat.{ℕ, _+_, _*_, _≤_, _-_}
+use Prim.Native.Nat.{_-_}
 use native.Mathlib.Omega.{arith}
 use Rattle.plane_masks.proofs.Adding.{Adding, adding-start, within, machine-fits, taken, adding-on, adding-end}
 use Rattle.plane_masks.proofs.write_cell.Statement.{statement}

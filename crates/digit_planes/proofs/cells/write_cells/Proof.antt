@@ -3,7 +3,6 @@ use borrow.Author.Needs.{needs}
 use mathlib.Core.Path.{ap, _∙_}
 use mathlib.Core.List.{List, _++_, map}
 use Prim.Native.Nat.{ℕ}
-use lib.ListN.{drop}
 use Rattle.signed_digit.specs.Masks.{plusMask, minusMask}
 use Rattle.plane_masks.specs.Planes.{planeWords}
 use Rattle.plane_masks.specs.Grid.{chosenForms}
