@@ -55,20 +55,28 @@ module _ (c p : ℕ) (few : c < 256) where
       go true e = without-there p rest (k / 4) b (other k c p n (eqb-true (k % 4) (c / 64) e))
       go false e = refl
 
-module _ (t₀ : List ℕ) (c mask rest : ℕ) (t : List ℕ) (few : c < 256) (long : 128 ≤ length t₀) (a : Adding t₀ c mask rest t) (p : ℕ) (low : p < 32) (one : bitAt rest p ≡ 1) where
+-- the place p is taken next
+pub record Step (t₀ : List ℕ) (c mask rest : ℕ) (t : List ℕ) (p : ℕ) : Type 0 where
+  pub few : c < 256
+  pub long : 128 ≤ length t₀
+  pub so-far : Adding t₀ c mask rest t
+  pub low : p < 32
+  pub one : bitAt rest p ≡ 1
+
+module _ {t₀ : List ℕ} {c mask rest : ℕ} {t : List ℕ} {p : ℕ} (s : Step t₀ c mask rest t p) where
   abbrev here : ℕ
   here = 4 * p + c / 64
 
   pub within : here < length t
-  within = omega (arith, a .size)
+  within = omega (arith, s .so-far .size)
 
   pub sum-fits : getD t₀ here 0 < 2 ^ (c % 64) → getD t here 0 + 2 ^ (c % 64) < 2 ^ 64
   sum-fits h =
       let k : c % 64 ≤ 63 = omega arith in
       let g : 2 ^ (c % 64) ≤ 2 ^ 63 = pow-le-pow-right (omega arith) k in
-      let x = ap (λ (s : ℕ). 2 ^ (c % 64) * s) (share-here c p few rest ∙ one) in
-      let y = ap (λ (s : ℕ). 2 ^ (c % 64) * s) (share-here c p few mask) in
-      bound (getD t here 0) (getD t₀ here 0) (2 ^ (c % 64)) (bitAt mask p) (bit-small mask p) h g (omega (arith, x, y, a .same here (omega arith)))
+      let x = ap (λ (s : ℕ). 2 ^ (c % 64) * s) (share-here c p (s .few) rest ∙ s .one) in
+      let y = ap (λ (s : ℕ). 2 ^ (c % 64) * s) (share-here c p (s .few) mask) in
+      bound (getD t here 0) (getD t₀ here 0) (2 ^ (c % 64)) (bitAt mask p) (bit-small mask p) h g (omega (arith, x, y, s .so-far .same here (omega arith)))
     where
       bound : (x x₀ b m : ℕ) → m < 2 → x₀ < b → b ≤ 2 ^ 63 → x + b ≡ x₀ + b * m → x + b < 2 ^ 64
       bound x x₀ b zero m h g e = omega arith
@@ -77,35 +85,35 @@ module _ (t₀ : List ℕ) (c mask rest : ℕ) (t : List ℕ) (few : c < 256) (l
 
   pub adding-next : Adding t₀ c mask (rest - 2 ^ p) (set t here (getD t here 0 + 2 ^ (c % 64)))
   adding-next = record {
-    size = length-set t here (getD t here 0 + 2 ^ (c % 64)) ∙ a .size;
-    same = λ (k : ℕ) h. go k h (eqb k here) refl ∙ a .same k h;
-    past = drop-set-lt 128 t here (getD t here 0 + 2 ^ (c % 64)) (omega arith) ∙ a .past;
+    size = length-set t here (getD t here 0 + 2 ^ (c % 64)) ∙ s .so-far .size;
+    same = λ (k : ℕ) h. go k h (eqb k here) refl ∙ s .so-far .same k h;
+    past = drop-set-lt 128 t here (getD t here 0 + 2 ^ (c % 64)) (omega arith) ∙ s .so-far .past;
   }
     where
       go : (k : ℕ) → k < 128 → (b : Bool) → eqb k here ≡ b
           → getD (set t here (getD t here 0 + 2 ^ (c % 64))) k 0 + 2 ^ (c % 64) * share (rest - 2 ^ p) c k ≡ getD t k 0 + 2 ^ (c % 64) * share rest c k
       go k h true e =
           let q = eqb-true k here e in
-          let u = ap (λ (s : ℕ). 2 ^ (c % 64) * s) (ap (share (rest - 2 ^ p) c) q ∙ share-here c p few (rest - 2 ^ p) ∙ without-here p rest one) in
-          let v = ap (λ (s : ℕ). 2 ^ (c % 64) * s) (ap (share rest c) q ∙ share-here c p few rest ∙ one) in
+          let u = ap (λ (s : ℕ). 2 ^ (c % 64) * s) (ap (share (rest - 2 ^ p) c) q ∙ share-here c p (s .few) (rest - 2 ^ p) ∙ without-here p rest (s .one)) in
+          let v = ap (λ (s : ℕ). 2 ^ (c % 64) * s) (ap (share rest c) q ∙ share-here c p (s .few) rest ∙ s .one) in
           let x = ap (λ (i : ℕ). getD (set t here (getD t here 0 + 2 ^ (c % 64))) i 0) q ∙ getD-set-same t here (getD t here 0 + 2 ^ (c % 64)) 0 within in
           let y = ap (λ (i : ℕ). getD t i 0) q in
           omega (arith, u, v, x, y)
       go k h false e =
           let n = eqb-false k here e in
-          ap₂ (λ (x s : ℕ). x + 2 ^ (c % 64) * s) (getD-set-other t here k (getD t here 0 + 2 ^ (c % 64)) 0 n) (share-there c p few rest k one n)
+          ap₂ (λ (x s : ℕ). x + 2 ^ (c % 64) * s) (getD-set-other t here k (getD t here 0 + 2 ^ (c % 64)) 0 n) (share-there c p (s .few) rest k (s .one) n)
 
   -- as the machine has it
   pub adding-on : Adding t₀ c mask (rest - 1 * 2 ^ p % 2 ^ 32) (set t here (getD t here 0 + 1 * 2 ^ (c % 64) % 2 ^ 64))
   adding-on =
-      subst (λ (o : ℕ). Adding t₀ c mask (rest - o) (set t here (getD t here 0 + 1 * 2 ^ (c % 64) % 2 ^ 64))) (sym (shifted p 32 low))
+      subst (λ (o : ℕ). Adding t₀ c mask (rest - o) (set t here (getD t here 0 + 1 * 2 ^ (c % 64) % 2 ^ 64))) (sym (shifted p 32 (s .low)))
       (subst (λ (b : ℕ). Adding t₀ c mask (rest - 2 ^ p) (set t here (getD t here 0 + b))) (sym (shifted (c % 64) 64 (omega arith))) adding-next)
 
   pub machine-fits : getD t₀ here 0 < 2 ^ (c % 64) → getD t here 0 + 1 * 2 ^ (c % 64) % 2 ^ 64 < 2 ^ 64
   machine-fits h = omega (arith, shifted (c % 64) 64 (omega arith), sum-fits h)
 
   pub taken : (1 * 2 ^ p % 2 ^ 32 ≤ rest) × (rest - 1 * 2 ^ p % 2 ^ 32 < rest)
-  taken = let z : 1 ≤ 2 ^ p = one-le-pow p 2 (omega arith) in omega (arith, shifted p 32 low, one-le p rest one)
+  taken = let z : 1 ≤ 2 ^ p = one-le-pow p 2 (omega arith) in omega (arith, shifted p 32 (s .low), one-le p rest (s .one))
 
 no-share : (c k : ℕ) → share 0 c k ≡ 0
 unfolding share

@@ -1,4 +1,5 @@
--- `plane_masks::overlap_word` meets its contract. Assumes nothing.
+-- `plane_masks::overlap_word` meets its contract. The invariant of its loop: `both` has the cells that overlap in the planes below `p`. The measure is `32 - p`. Assumes
+-- nothing.
 use mathlib.Core.Path.{_≡_, ap, _∙_}
 use Prim.Native.Nat.{ℕ, _≤_, _-_}
 use native.Mathlib.Omega.{arith}
@@ -48,16 +49,16 @@ loop-less c = omega arith
 
 loop-again : tie.Need-loop-again Inv-loop μ-loop
 loop-again c =
-    let a = c .before .before .before .before .args in
-    let l = c .before .before .before .loop in
-    (omega arith, both-next (l .p) (l .both) (a .plus .now) (a .minus .now) (a .j) (l .inv .1))
+    let at-loop = c .before .before .before in
+    let args = at-loop .before .args in
+    (omega arith, both-next (at-loop .loop .p) (at-loop .loop .both) (args .plus .now) (args .minus .now) (args .j) (at-loop .loop .inv .1))
 
 returns : tie.Need-returns Inv-loop μ-loop
 returns c =
-    let a = c .before .before .args in
-    let l = c .before .loop in
-    let e : l .p ≡ 32 = omega arith in
-    l .inv .1 ∙ ap (λ (n : ℕ). bothWord n (a .plus .now) (a .minus .now) (a .j)) e
+    let at-loop = c .before in
+    let args = at-loop .before .args in
+    let e : at-loop .loop .p ≡ 32 = omega arith in
+    at-loop .loop .inv .1 ∙ ap (λ (n : ℕ). bothWord n (args .plus .now) (args .minus .now) (args .j)) e
 
 pub overlap-word-spec : {M : Type 1} → statement M
 overlap-word-spec =

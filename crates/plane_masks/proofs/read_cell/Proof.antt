@@ -1,6 +1,7 @@
--- `plane_masks::read_cell` meets its contract. Assumes nothing.
+-- `plane_masks::read_cell` meets its contract. The invariant of its loop: `mask` has the bits of the planes from `p` on. The measure is `p`. Assumes nothing.
+use borrow.Author.Needs.{needs}
 use mathlib.Core.Path.{_≡_, sym, ap, _∙_}
-use Prim.Native.Nat.{ℕ, _+_, _*_, _≤_, _-_}
+use Prim.Native.Nat.{ℕ, _+_, _*_, _-_, _≤_, _<_, _^_}
 use native.Mathlib.Omega.{arith}
 use Rattle.plane_masks.specs.Planes.{planeBit}
 use Rattle.plane_masks.proofs.High.{highMask, high-start, high-step, high-fits, high-end}
@@ -13,65 +14,64 @@ Inv-loop table c j place mask₀ p₀ mask p = (p ≤ 32) × (mask ≡ highMask 
 abbrev μ-loop : tie.MeasureT-loop
 μ-loop table c j place mask₀ p₀ mask p = p
 
+-- the mask with one plane more, and that it fits in 32 bits
+abbrev start : tie.After-shared-slice-known Inv-loop μ-loop → tie.Start Inv-loop μ-loop
+start c = c .before .before .before
+
+abbrev grown : tie.After-shared-slice-known Inv-loop μ-loop → ℕ
+grown c = let at-loop = c .before .before in 2 * at-loop .loop .mask + planeBit (start c .args .table .now) (at-loop .loop .p - 1) (start c .args .c)
+
+one-more : (c : tie.After-shared-slice-known Inv-loop μ-loop)
+    → grown c ≡ highMask (start c .args .table .now) (start c .args .c) (32 - (c .before .before .loop .p - 1)) (c .before .before .loop .p - 1)
+one-more c =
+    let at-loop = c .before .before in
+    high-step (start c .args .table .now) (start c .args .c) (at-loop .loop .p) (at-loop .loop .mask) (omega arith) (at-loop .loop .inv .0) (at-loop .loop .inv .1)
+
+within : (c : tie.After-shared-slice-known Inv-loop μ-loop) → grown c < 2 ^ 32
+within c = high-fits (start c .args .table .now) (start c .args .c) (c .before .before .loop .p - 1) (grown c) (omega (arith, c .before .before .loop .inv .0)) (one-more c)
+
 loop-holds : tie.Need-loop-holds Inv-loop μ-loop
-loop-holds c = (omega arith, sym (high-start (c .args .table .now) (c .args .c)))
+loop-holds c = let args = c .args in (search needs, sym (high-start (args .table .now) (args .c)))
 
 sub-p : tie.Need-sub-p Inv-loop μ-loop
-sub-p c = omega arith
+sub-p c = search needs
 
 mul-bit : tie.Need-mul-bit Inv-loop μ-loop
-mul-bit c = omega arith
+mul-bit c = search needs
 
 add-bit : tie.Need-add-bit Inv-loop μ-loop
-add-bit c = omega arith
+add-bit c = search needs
 
 mul-bit-2 : tie.Need-mul-bit-2 Inv-loop μ-loop
-mul-bit-2 c = omega arith
+mul-bit-2 c = search needs
 
 shared-slice-read-bit : tie.Need-shared-slice-read-bit Inv-loop μ-loop
-shared-slice-read-bit c = omega arith
+shared-slice-read-bit c = search needs
 
 shr-bit : tie.Need-shr-bit Inv-loop μ-loop
-shr-bit c = omega arith
+shr-bit c = search needs
 
 mul-mask : tie.Need-mul-mask Inv-loop μ-loop
-mul-mask c =
-    let l = c .before .before .loop in
-    let t = c .before .before .before .args .table .now in
-    let x = c .before .before .before .args .c in
-    let e = high-step t x (l .p) (l .mask) (omega arith) (l .inv .0) (l .inv .1) in
-    let h = high-fits t x (l .p - 1) (2 * l .mask + planeBit t (l .p - 1) x) (omega arith) e in
-    record { fits = omega (arith, h) }
+mul-mask c = record { fits = omega (arith, within c) }
 
 cast-mask : tie.Need-cast-mask Inv-loop μ-loop
-cast-mask c = omega arith
+cast-mask c = search needs
 
 add-mask : tie.Need-add-mask Inv-loop μ-loop
-add-mask c =
-    let l = c .before .before .loop in
-    let t = c .before .before .before .args .table .now in
-    let x = c .before .before .before .args .c in
-    let e = high-step t x (l .p) (l .mask) (omega arith) (l .inv .0) (l .inv .1) in
-    let h = high-fits t x (l .p - 1) (2 * l .mask + planeBit t (l .p - 1) x) (omega arith) e in
-    record { fits = h }
+add-mask c = record { fits = within c }
 
 loop-less : tie.Need-loop-less Inv-loop μ-loop
-loop-less c = omega arith
+loop-less c = search needs
 
 loop-again : tie.Need-loop-again Inv-loop μ-loop
-loop-again c =
-    let l = c .before .before .loop in
-    let t = c .before .before .before .args .table .now in
-    let x = c .before .before .before .args .c in
-    let e = high-step t x (l .p) (l .mask) (omega arith) (l .inv .0) (l .inv .1) in
-    let h = high-fits t x (l .p - 1) (2 * l .mask + planeBit t (l .p - 1) x) (omega arith) e in
-    (omega arith, e)
+loop-again c = (search needs, one-more c)
 
 returns : tie.Need-returns Inv-loop μ-loop
 returns c =
-    let l = c .before .loop in
-    let z : l .p ≡ 0 = omega arith in
-    l .inv .1 ∙ ap (λ (p : ℕ). highMask (c .before .before .args .table .now) (c .before .before .args .c) (32 - p) p) z ∙ high-end (c .before .before .args .table .now) (c .before .before .args .c)
+    let at-loop = c .before in
+    let args = at-loop .before .args in
+    let z : at-loop .loop .p ≡ 0 = omega arith in
+    at-loop .loop .inv .1 ∙ ap (λ (p : ℕ). highMask (args .table .now) (args .c) (32 - p) p) z ∙ high-end (args .table .now) (args .c)
 
 pub read-cell-spec : {M : Type 1} → statement M
 read-cell-spec =
