@@ -67,7 +67,7 @@ module _ {t₀ : List ℕ} {c mask rest : ℕ} {t : List ℕ} {p : ℕ} (s : Ste
   abbrev here : ℕ
   here = 4 * p + c / 64
 
-  pub within : here < length t
+  within : here < length t
   within = omega (arith, s .so-far .size)
 
   pub sum-fits : getD t₀ here 0 < 2 ^ (c % 64) → getD t here 0 + 2 ^ (c % 64) < 2 ^ 64

@@ -58,7 +58,7 @@ first-overlap-requires : tie.Need-first-overlap-requires
 first-overlap-requires c κs = let f = fits c in (f .plus-long, f .minus-long, few c)
 
 cast-t15 : tie.Need-cast-t15
-cast-t15 c = record { fits = omega (arith, few (c .before .before), c .if1 .taken) }
+cast-t15 c = record { fits = omega (arith, few (c .before .before), fits (c .before .before) .width-to, c .if1 .taken) }
 
 returns-2 : tie.Need-returns-2
 returns-2 c =
@@ -73,7 +73,7 @@ read-cells-requires : tie.Need-read-cells-requires
 read-cells-requires c κs =
     let at = c .before .before .before .before in
     let f = fits at in
-    ((few at, f .plus-long, f .minus-long), (f .first-long, f .second-long))
+    ((few at, omega (arith, f .plus-long, f .minus-long), omega (arith, f .plus-long, f .minus-long)), (f .first-long, f .second-long))
 
 same-length : tie.Need-same-length
 same-length c = search needs

@@ -59,7 +59,7 @@ first-without-form-requires : tie.Need-first-without-form-requires
 first-without-form-requires c κs = (fits c .first-long, fits c .second-long)
 
 cast-t15 : tie.Need-cast-t15
-cast-t15 c = record { fits = omega (arith, few (c .before .before), c .if1 .taken) }
+cast-t15 c = record { fits = omega (arith, few (c .before .before), fits (c .before .before) .width-to, c .if1 .taken) }
 
 returns-2 : tie.Need-returns-2
 returns-2 c =
@@ -86,7 +86,7 @@ write-cells-requires c κs =
       (few at, f .first-long, f .second-long),
       (
         λ i h. has-form (a .height) (a .width) (a .coefficients .now) (a .choices .now) i (none-of (noForm (a .coefficients .now) (a .choices .now)) (a .height * a .width) (none-missing in-else-1) i h),
-        (f .plus-long, f .minus-long),
+        (omega (arith, f .plus-long, f .minus-long), omega (arith, f .plus-long, f .minus-long)),
       ),
     )
 

@@ -2,7 +2,7 @@
 -- adds. The measure is `rest`. Assumes nothing.
 use borrow.Author.Needs.{needs}
 use native.Mathlib.Omega.{arith}
-use Rattle.plane_masks.proofs.Adding.{Adding, adding-start, Step, within, machine-fits, taken, adding-on, adding-end}
+use Rattle.plane_masks.proofs.Adding.{Adding, adding-start, Step, machine-fits, taken, adding-on, adding-end}
 use Rattle.plane_masks.proofs.write_cell.Statement.{statement}
 use Rattle.plane_masks.proofs.write_cell.Tie as tie
 
@@ -42,7 +42,7 @@ mul-table-2 : tie.Need-mul-table-2 Inv-loop μ-loop
 mul-table-2 c = search needs
 
 slice-read-table : tie.Need-slice-read-table Inv-loop μ-loop
-slice-read-table c = within (step c)
+slice-read-table c = let s = step c in omega (arith, s .low, s .long, s .so-far .size)
 
 add-table-2 : tie.Need-add-table-2 Inv-loop μ-loop
 add-table-2 c =
@@ -50,7 +50,7 @@ add-table-2 c =
     record { fits = machine-fits (step c) (start c .pre .1 (place .result) (place .ensures .0)) }
 
 slice-write-table : tie.Need-slice-write-table Inv-loop μ-loop
-slice-write-table c = within (step c)
+slice-write-table c = let s = step c in omega (arith, s .low, s .long, s .so-far .size)
 
 cast-rest : tie.Need-cast-rest Inv-loop μ-loop
 cast-rest c = search needs
