@@ -1,10 +1,10 @@
 // Digit planes: a grid written as planes, and planes read back. Functions for C, declared in
 // include/fir.h.
 ghost use mathlib.Core.Path.{_≡_};
-ghost use Rattle.digit_planes.specs.Answer.{answerOf};
+ghost use Rattle.plane_grid.specs.Answer.{answerOf};
 ghost use Rattle.fir_words.specs.Words.{refusalWord};
 ghost use Rattle.fir_planes.specs.Planes.{WrittenWord, ReadWord};
-use digit_planes::Converted;
+use plane_grid::Converted;
 
 fn converted_word(answer: Converted) -> u64
     ensures { λ r. ⌜ r ≡ refusalWord (answerOf answer) ⌝ }
@@ -28,7 +28,7 @@ pub extern "C" fn fir_write_planes(
     ensures { λ r. ⌜ WrittenWord height width (now (coefficients .entry)) (now (choices .entry)) (now (plus .entry)) (now (minus .entry))
         r (now (plus .exit)) (now (minus .exit)) ⌝ }
 {
-    converted_word(digit_planes::write_planes(height, width, coefficients, choices, plus, minus))
+    converted_word(plane_grid::write_planes(height, width, coefficients, choices, plus, minus))
 }
 
 // The two masks of each cell that the planes hold.
@@ -44,5 +44,5 @@ pub extern "C" fn fir_read_planes(
     ensures { λ r. ⌜ ReadWord height width (now (plus .entry)) (now (minus .entry)) (now («cell_plus» .entry)) (now («cell_minus» .entry))
         r (now («cell_plus» .exit)) (now («cell_minus» .exit)) ⌝ }
 {
-    converted_word(digit_planes::read_planes(height, width, plus, minus, cell_plus, cell_minus))
+    converted_word(plane_grid::read_planes(height, width, plus, minus, cell_plus, cell_minus))
 }

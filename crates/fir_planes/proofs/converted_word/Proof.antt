@@ -1,8 +1,8 @@
 -- `fir_planes::converted_word` meets its contract. Assumes nothing.
 use borrow.Author.Needs.{needs}
 use mathlib.Core.Path.{sym, ap, _∙_}
-use Rattle.digit_planes.specs.declared.Converted.{Converted}
-use Rattle.digit_planes.specs.Answer.{answerOf}
+use Rattle.plane_grid.specs.declared.Converted.{Converted}
+use Rattle.plane_grid.specs.Answer.{answerOf}
 use Rattle.fir_words.specs.Words.{refusalWord}
 use Rattle.fir_planes.proofs.converted_word.Statement.{statement}
 use Rattle.fir_planes.proofs.converted_word.Tie as tie

@@ -1,10 +1,10 @@
--- `digit_planes::sizes::bad_side` meets its contract. Assumes nothing.
+-- `plane_grid::sizes::bad_side` meets its contract. Assumes nothing.
 use mathlib.Core.Path.{refl}
 use borrow.Author.Tests.{eq-eqb, ne-eqb}
 use lib.Dec.{eqb, ltb}
-use Rattle.digit_planes.proofs.Tests.{or-first, or-next}
-use Rattle.digit_planes.proofs.sizes.bad_side.Statement.{statement}
-use Rattle.digit_planes.proofs.sizes.bad_side.Tie as tie
+use Rattle.plane_grid.proofs.Tests.{or-first, or-next}
+use Rattle.plane_grid.proofs.sizes.bad_side.Statement.{statement}
+use Rattle.plane_grid.proofs.sizes.bad_side.Tie as tie
 
 returns : tie.Need-returns
 returns c = let side = c .before .args .side in or-first (eqb side 0) (ltb 16 side) (eq-eqb side 0 (c .if1 .taken))

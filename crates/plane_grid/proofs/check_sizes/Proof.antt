@@ -1,13 +1,13 @@
--- `digit_planes::check_sizes` meets its contract. Each test of the code is a check of `sizesAnswer`, in its order. Assumes nothing.
+-- `plane_grid::check_sizes` meets its contract. Each test of the code is a check of `sizesAnswer`, in its order. Assumes nothing.
 use borrow.Author.Needs.{needs}
 use mathlib.Core.Path.{_≡_, sym, _∙_}
 use mathlib.Core.Bool.{false}
 use native.Mathlib.Omega.{arith}
 use Rattle.plane_masks.specs.Grid.{badSide}
 use Rattle.plane_masks.proofs.Answers.{side-is, few-cells}
-use Rattle.digit_planes.proofs.Checks.{bad-height, bad-width, table-short, sizes-fit}
-use Rattle.digit_planes.proofs.check_sizes.Statement.{statement}
-use Rattle.digit_planes.proofs.check_sizes.Tie as tie
+use Rattle.plane_grid.proofs.Checks.{bad-height, bad-width, table-short, sizes-fit}
+use Rattle.plane_grid.proofs.check_sizes.Statement.{statement}
+use Rattle.plane_grid.proofs.check_sizes.Tie as tie
 
 -- both sides have passed
 height-good : (c : tie.Else2) → badSide (c .before .before .before .before .args .height) ≡ false

@@ -6,7 +6,7 @@ mod sizes;
 ghost use mathlib.Core.Path.{_≡_};
 ghost use Rattle.plane_masks.specs.Grid.{sizesAnswer};
 ghost use Rattle.plane_masks.specs.Written.{PlanesWritten, PlanesRead};
-ghost use Rattle.digit_planes.specs.Answer.{answerOf};
+ghost use Rattle.plane_grid.specs.Answer.{answerOf};
 use refusal::Refusal;
 
 pub enum Converted {

@@ -1,4 +1,4 @@
--- `digit_planes::write_planes` meets its contract. The sizes are checked first, then the choices; past both, `write_cells` writes all planes. A refusal leaves both
+-- `plane_grid::write_planes` meets its contract. The sizes are checked first, then the choices; past both, `write_cells` writes all planes. A refusal leaves both
 -- tables as they were. Assumes nothing.
 use borrow.Author.Needs.{needs}
 use mathlib.Core.Path.{_≡_, sym, ap, _∙_, subst}
@@ -12,10 +12,10 @@ use Rattle.plane_masks.specs.Written.{PlanesWritten}
 use Rattle.plane_masks.specs.Claims.{Fits}
 use Rattle.plane_masks.proofs.Lists.{none-of}
 use Rattle.plane_masks.proofs.Answers.{few-cells, given-fits, has-form}
-use Rattle.digit_planes.specs.Answer.{answerOf}
-use Rattle.digit_planes.proofs.Entries.{found, found-none, not-written, no-form-there, all-written}
-use Rattle.digit_planes.proofs.write_planes.Statement.{statement}
-use Rattle.digit_planes.proofs.write_planes.Tie as tie
+use Rattle.plane_grid.specs.Answer.{answerOf}
+use Rattle.plane_grid.proofs.Entries.{found, found-none, not-written, no-form-there, all-written}
+use Rattle.plane_grid.proofs.write_planes.Statement.{statement}
+use Rattle.plane_grid.proofs.write_planes.Tie as tie
 
 -- the place where the sizes have passed
 abbrev start : tie.After-enum-told → tie.Start

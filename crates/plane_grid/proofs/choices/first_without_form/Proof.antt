@@ -1,4 +1,4 @@
--- `digit_planes::choices::first_without_form` meets its contract. The invariant of its loop: every cell that was passed has its form. The measure is the number of
+-- `plane_grid::choices::first_without_form` meets its contract. The invariant of its loop: every cell that was passed has its form. The measure is the number of
 -- cells still to be looked at. Assumes nothing.
 use borrow.Author.Count.{below-none, below-more}
 use borrow.Author.Needs.{needs}
@@ -16,8 +16,8 @@ use Rattle.refusal.specs.Answer.{placeOr}
 use Rattle.signed_digit.specs.Forms.{listing}
 use Rattle.plane_masks.specs.Grid.{noForm}
 use Rattle.plane_masks.proofs.Lists.{lowest-cell, no-cell}
-use Rattle.digit_planes.proofs.choices.first_without_form.Statement.{statement}
-use Rattle.digit_planes.proofs.choices.first_without_form.Tie as tie
+use Rattle.plane_grid.proofs.choices.first_without_form.Statement.{statement}
+use Rattle.plane_grid.proofs.choices.first_without_form.Tie as tie
 
 abbrev Inv-loop : tie.InvT-loop
 Inv-loop coefficients choices cells c₀ c = (c ≤ cells) × ((k : ℕ) → k < c → noForm coefficients choices k ≡ false)

@@ -1,4 +1,4 @@
--- `digit_planes::cells::write_cells` meets its contract. Assumes nothing.
+-- `plane_grid::cells::write_cells` meets its contract. Assumes nothing.
 use borrow.Author.Needs.{needs}
 use mathlib.Core.Path.{ap, _∙_}
 use mathlib.Core.List.{List, _++_, map}
@@ -6,9 +6,9 @@ use Prim.Native.Nat.{ℕ}
 use Rattle.signed_digit.specs.Masks.{plusMask, minusMask}
 use Rattle.plane_masks.specs.Planes.{planeWords}
 use Rattle.plane_masks.specs.Grid.{chosenForms}
-use Rattle.digit_planes.proofs.Planes.{past-kept, empty}
-use Rattle.digit_planes.proofs.cells.write_cells.Statement.{statement}
-use Rattle.digit_planes.proofs.cells.write_cells.Tie as tie
+use Rattle.plane_grid.proofs.Planes.{past-kept, empty}
+use Rattle.plane_grid.proofs.cells.write_cells.Statement.{statement}
+use Rattle.plane_grid.proofs.cells.write_cells.Tie as tie
 
 clear-requires : tie.Need-clear-requires
 clear-requires c κs = search needs

@@ -1,13 +1,13 @@
--- `digit_planes::sizes::short_table` meets its contract. Assumes nothing.
+-- `plane_grid::sizes::short_table` meets its contract. Assumes nothing.
 use mathlib.Core.Path.{_≡_, refl}
 use mathlib.Core.Bool.{Bool, _||_}
 use Prim.Native.Nat.{ℕ, _≤_}
 use borrow.Author.Tests.{lt-ltb, le-ltb}
 use lib.Dec.{ltb}
 use Rattle.plane_masks.specs.Grid.{shortTable}
-use Rattle.digit_planes.proofs.Tests.{or-first, or-next}
-use Rattle.digit_planes.proofs.sizes.short_table.Statement.{statement}
-use Rattle.digit_planes.proofs.sizes.short_table.Tie as tie
+use Rattle.plane_grid.proofs.Tests.{or-first, or-next}
+use Rattle.plane_grid.proofs.sizes.short_table.Statement.{statement}
+use Rattle.plane_grid.proofs.sizes.short_table.Tie as tie
 
 -- past the test of the first table, and of both
 module _ (cells plus minus first second : ℕ) (t : Bool) where

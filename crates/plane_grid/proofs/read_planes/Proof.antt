@@ -1,4 +1,4 @@
--- `digit_planes::read_planes` meets its contract. The sizes are checked first, then whether a cell overlaps; past both, `read_cells` reads all masks. A refusal leaves
+-- `plane_grid::read_planes` meets its contract. The sizes are checked first, then whether a cell overlaps; past both, `read_cells` reads all masks. A refusal leaves
 -- both tables as they were. Assumes nothing.
 use borrow.Author.Needs.{needs}
 use mathlib.Core.Path.{_≡_, sym, ap, _∙_, subst}
@@ -11,10 +11,10 @@ use Rattle.plane_masks.specs.Grid.{sizesAnswer, overlaps}
 use Rattle.plane_masks.specs.Written.{PlanesRead}
 use Rattle.plane_masks.specs.Claims.{Fits}
 use Rattle.plane_masks.proofs.Answers.{few-cells, given-fits}
-use Rattle.digit_planes.specs.Answer.{answerOf}
-use Rattle.digit_planes.proofs.Entries.{found, found-none, not-read, overlap-there, all-read}
-use Rattle.digit_planes.proofs.read_planes.Statement.{statement}
-use Rattle.digit_planes.proofs.read_planes.Tie as tie
+use Rattle.plane_grid.specs.Answer.{answerOf}
+use Rattle.plane_grid.proofs.Entries.{found, found-none, not-read, overlap-there, all-read}
+use Rattle.plane_grid.proofs.read_planes.Statement.{statement}
+use Rattle.plane_grid.proofs.read_planes.Tie as tie
 
 -- the place where the sizes have passed
 abbrev start : tie.After-enum-told → tie.Start

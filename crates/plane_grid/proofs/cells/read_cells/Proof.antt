@@ -1,4 +1,4 @@
--- `digit_planes::cells::read_cells` meets its contract. The invariant of its loop: in both tables the first `c` elements are masks of cells, and the rest are as
+-- `plane_grid::cells::read_cells` meets its contract. The invariant of its loop: in both tables the first `c` elements are masks of cells, and the rest are as
 -- they were. The measure is `cells - c`. Assumes nothing.
 use borrow.Author.Needs.{needs}
 use mathlib.Core.Path.{_≡_, refl, sym, ap, ap₂, _∙_}
@@ -9,8 +9,8 @@ use lib.ListN.{length, length-set, set, drop}
 use Rattle.sequence.specs.Inner.{front}
 use Rattle.sequence.proofs.Front.{front-start, front-next}
 use Rattle.plane_masks.specs.Planes.{cellMask, cellMasks}
-use Rattle.digit_planes.proofs.cells.read_cells.Statement.{statement}
-use Rattle.digit_planes.proofs.cells.read_cells.Tie as tie
+use Rattle.plane_grid.proofs.cells.read_cells.Statement.{statement}
+use Rattle.plane_grid.proofs.cells.read_cells.Tie as tie
 
 abbrev Inv-loop : tie.InvT-loop
 Inv-loop plus minus cells first₀ second₀ c₀ first second c =

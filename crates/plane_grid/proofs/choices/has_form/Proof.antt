@@ -1,4 +1,4 @@
--- `digit_planes::choices::has_form` meets its contract. The choice 0 is always there: the canonical form. Assumes nothing.
+-- `plane_grid::choices::has_form` meets its contract. The choice 0 is always there: the canonical form. Assumes nothing.
 use borrow.Author.Needs.{needs}
 use borrow.Author.Tests.{lt-ltb}
 use mathlib.Core.Path.{sym, ap, _∙_}
@@ -12,8 +12,8 @@ use mir.ValLaws.{toZ-ofZ}
 use Rattle.word.proofs.Bounds.{i32-coefficient, coefficient-magnitude}
 use Rattle.signed_digit.specs.Forms.{listing}
 use Rattle.signed_digit.proofs.Coefficients.{canonical-32}
-use Rattle.digit_planes.proofs.choices.has_form.Statement.{statement}
-use Rattle.digit_planes.proofs.choices.has_form.Tie as tie
+use Rattle.plane_grid.proofs.choices.has_form.Statement.{statement}
+use Rattle.plane_grid.proofs.choices.has_form.Tie as tie
 
 some-form : (s : tie.Start) → 0 < length (listing 32 (s .args .n))
 some-form s =
