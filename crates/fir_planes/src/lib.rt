@@ -3,7 +3,7 @@
 ghost use mathlib.Core.Path.{_≡_};
 ghost use Rattle.plane_grid.specs.Answer.{answerOf};
 ghost use Rattle.fir_words.specs.Words.{refusalWord};
-ghost use Rattle.fir_planes.specs.Planes.{WrittenWord, ReadWord};
+ghost use Rattle.fir_planes.specs.Planes.{PlanesWrittenWord, PlanesReadWord};
 use plane_grid::Converted;
 
 fn converted_word(answer: Converted) -> u64
@@ -25,7 +25,7 @@ pub extern "C" fn fir_write_planes(
     plus: &mut [u64],
     minus: &mut [u64],
 ) -> u64
-    ensures { λ r. ⌜ WrittenWord height width (now (coefficients .entry)) (now (choices .entry)) (now (plus .entry)) (now (minus .entry))
+    ensures { λ r. ⌜ PlanesWrittenWord height width (now (coefficients .entry)) (now (choices .entry)) (now (plus .entry)) (now (minus .entry))
         r (now (plus .exit)) (now (minus .exit)) ⌝ }
 {
     converted_word(plane_grid::write_planes(height, width, coefficients, choices, plus, minus))
@@ -41,7 +41,7 @@ pub extern "C" fn fir_read_planes(
     cell_plus: &mut [u32],
     cell_minus: &mut [u32],
 ) -> u64
-    ensures { λ r. ⌜ ReadWord height width (now (plus .entry)) (now (minus .entry)) (now («cell_plus» .entry)) (now («cell_minus» .entry))
+    ensures { λ r. ⌜ PlanesReadWord height width (now (plus .entry)) (now (minus .entry)) (now («cell_plus» .entry)) (now («cell_minus» .entry))
         r (now («cell_plus» .exit)) (now («cell_minus» .exit)) ⌝ }
 {
     converted_word(plane_grid::read_planes(height, width, plus, minus, cell_plus, cell_minus))

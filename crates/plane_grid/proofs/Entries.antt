@@ -10,7 +10,7 @@ use Rattle.refusal.specs.Answer.{Answer, given, refused, Place, nowhere, at-pla
 use Rattle.sequence.proofs.UpTo.{length-upTo}
 use Rattle.signed_digit.specs.Masks.{plusMask, minusMask}
 use Rattle.plane_masks.specs.Planes.{cellMask, cellMasks, planeWords}
-use Rattle.plane_masks.specs.Grid.{sizesAnswer, cellNumbers, chosenForms, missingForm, planesAnswer, overlapCell, cellsAnswer}
+use Rattle.plane_masks.specs.Grid.{sizesAnswer, cellNumbers, chosenForms, formlessCell, planesAnswer, overlapCell, cellsAnswer}
 use Rattle.plane_masks.specs.Written.{PlanesWritten, PlanesRead}
 use Rattle.plane_masks.proofs.Lists.{cell-of}
 use Rattle.plane_masks.proofs.Planes.{words-length}
@@ -38,7 +38,7 @@ module _ (height width : ℕ) (coefficients : List ℤ) (choices plus minus : Li
   sizes = sizesAnswer height width (length plus) (length minus) (length coefficients) (length choices)
 
   abbrev missing : Place
-  missing = missingForm (height * width) coefficients choices
+  missing = formlessCell (height * width) coefficients choices
 
   abbrev plusWords : List ℕ
   plusWords = planeWords (map plusMask (chosenForms (height * width) coefficients choices))

@@ -6,7 +6,7 @@ ghost use lib.Dec.{ltb};
 ghost use lib.ListN.{length};
 ghost use Rattle.refusal.specs.Answer.{placeOr};
 ghost use Rattle.signed_digit.specs.Forms.{listing};
-ghost use Rattle.plane_masks.specs.Grid.{missingForm};
+ghost use Rattle.plane_masks.specs.Grid.{formlessCell};
 
 // Whether the choice is the number of a form of n. Every coefficient has a form.
 fn has_form(n: i32, choice: u32) -> bool
@@ -21,7 +21,7 @@ fn has_form(n: i32, choice: u32) -> bool
 // The first cell whose choice is not below the number of forms, or the number of cells.
 pub fn first_without_form(coefficients: &[i32], choices: &[u32], cells: usize) -> usize
     requires { ⌜ (cells ≤ length (now coefficients)) × (cells ≤ length (now choices)) ⌝ }
-    ensures { λ r. ⌜ r ≡ placeOr cells (missingForm cells (now (coefficients .entry)) (now (choices .entry))) ⌝ }
+    ensures { λ r. ⌜ r ≡ placeOr cells (formlessCell cells (now (coefficients .entry)) (now (choices .entry))) ⌝ }
 {
     let mut c: usize = 0;
     while c < cells {

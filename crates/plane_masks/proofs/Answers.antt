@@ -12,8 +12,8 @@ use lib.ListN.{length, getD}
 use Rattle.refusal.specs.Answer.{Answer, given, refused, Place, nowhere, at-place, refuseIf, refuseAt, andThen}
 use Rattle.refusal.proofs.Checks.{neither, either, check-passes, given-if, given-at, given-refused, refused-if, refused-at}
 use Rattle.signed_digit.specs.Forms.{listing}
-use Rattle.plane_masks.specs.Grid.{badSide, badSides, shortTable, sizesAnswer, noForm, missingForm, planesAnswer, overlaps, overlapCell, cellsAnswer}
-use Rattle.plane_masks.specs.Claims.{Fits, BadSides, no-height, high, no-width, wide, UnderLength, plus-short, minus-short, first-short, second-short, HasForm, SizeRefusals, grid-sides, short-table, WritingRefusals, writing-sizes, no-form, ReadingRefusals, reading-sizes, overlap, CanWrite, CanRead}
+use Rattle.plane_masks.specs.Grid.{badSide, badSides, shortTable, sizesAnswer, noForm, formlessCell, planesAnswer, overlaps, overlapCell, cellsAnswer}
+use Rattle.plane_masks.specs.Claims.{Fits, BadSides, no-height, high, no-width, wide, TableUnderLength, plus-short, minus-short, first-short, second-short, HasForm, SizeRefusals, grid-sides, short-table, WritingRefusals, writing-sizes, no-form, ReadingRefusals, reading-sizes, overlap, CanWrite, CanRead}
 use Rattle.plane_masks.proofs.Lists.{no-cell, none-of, cell-of}
 use Rattle.plane_masks.proofs.Strings.{not-apart, are-apart, apart-is}
 
@@ -58,7 +58,7 @@ module _ (height width : ℕ) where
   few-cells h w = mul-le-mul h w
 
   module _ (pw mw first second : ℕ) where
-    under-length : shortTable (height * width) pw mw first second ≡ true → UnderLength (height * width) pw mw first second
+    under-length : shortTable (height * width) pw mw first second ≡ true → TableUnderLength (height * width) pw mw first second
     under-length e =
         let cells : ℕ = height * width in
         either (ltb pw 128) (ltb mw 128 || (ltb first cells || ltb second cells)) e (λ l. plus-short (ltb-true pw 128 l))
@@ -168,7 +168,7 @@ module _ (height width : ℕ) (coefficients : List ℤ) (choices : List ℕ) whe
     pub can-write : planesAnswer height width coefficients choices pw mw ≡ given tt → CanWrite height width coefficients choices pw mw
     unfolding planesAnswer
     can-write e =
-        let b = passed-both sizes (missingForm (height * width) coefficients choices) 9 e in
+        let b = passed-both sizes (formlessCell (height * width) coefficients choices) 9 e in
         record {
           fits = given-fits height width pw mw (length coefficients) (length choices) (b .0);
           forms = λ c h. has-form c (none-of (noForm coefficients choices) (height * width) (b .1) c h);
@@ -177,14 +177,14 @@ module _ (height width : ℕ) (coefficients : List ℤ) (choices : List ℕ) whe
     pub writes : CanWrite height width coefficients choices pw mw → planesAnswer height width coefficients choices pw mw ≡ given tt
     unfolding planesAnswer
     writes w =
-        pass sizes (missingForm (height * width) coefficients choices) 9 (fits-given height width pw mw (length coefficients) (length choices) (w .fits))
+        pass sizes (formlessCell (height * width) coefficients choices) 9 (fits-given height width pw mw (length coefficients) (length choices) (w .fits))
         (no-cell (noForm coefficients choices) (height * width) (λ c h. form-there c (w .forms c h)))
 
     pub writing-refused : (number place : ℕ) → planesAnswer height width coefficients choices pw mw ≡ refused number place
         → WritingRefusals height width coefficients choices pw mw number place
     unfolding planesAnswer
     writing-refused number place e =
-        refused-both sizes (missingForm (height * width) coefficients choices) 9 number place e
+        refused-both sizes (formlessCell (height * width) coefficients choices) 9 number place e
         (λ r. writing-sizes (sizes-refused height width pw mw (length coefficients) (length choices) number place r))
         (λ g at n.
         let f = cell-of (noForm coefficients choices) (height * width) place at in

@@ -18,7 +18,7 @@ use Rattle.signed_digit.proofs.Listing.{listing-is}
 use Rattle.form_masks.specs.Form.{formOf, stringOf, TwoMasks}
 use Rattle.form_masks.specs.Value.{valueOf}
 use Rattle.form_masks.proofs.Forms.{string-form}
-use Rattle.plane_masks.specs.Planes.{cellString, scaledSum, cellMask, cellMasks, planeWords, cleared, formIn}
+use Rattle.plane_masks.specs.Planes.{cellString, scaledSum, cellMask, cellMasks, planeWords, pastCleared, formIn}
 use Rattle.plane_masks.specs.Grid.{chosen, chosenForms}
 use Rattle.plane_masks.specs.Written.{PlanesWritten, PlanesRead}
 use Rattle.plane_masks.specs.Claims.{CanWrite, CanRead, Planes, Returned, Cells, AllBelow, PlaneClaims}
@@ -191,7 +191,7 @@ module _ (height width : ℕ) (plus minus first second first′ second′ : List
       }
 
   pub words-again : AllBelow (2 ^ 64) plus → AllBelow (2 ^ 64) minus
-      → (planeWords (take read-cells first′) ≡ cleared read-cells plus) × (planeWords (take read-cells second′) ≡ cleared read-cells minus)
+      → (planeWords (take read-cells first′) ≡ pastCleared read-cells plus) × (planeWords (take read-cells second′) ≡ pastCleared read-cells minus)
   words-again p m =
       let few = few-cells height width (readable .fits .height-to) (readable .fits .width-to) in (
         ap planeWords (front-is plus first′ first first-is) ∙ words-back read-cells plus few p,

@@ -17,7 +17,7 @@ use Rattle.signed_digit.specs.Figures.{form}
 use Rattle.signed_digit.proofs.Figures.{figures}
 use Rattle.plane_masks.specs.Binary.{binary}
 use Rattle.plane_masks.specs.Planes.{cellMask, cellMasks, planeWord, planeWords}
-use Rattle.plane_masks.specs.Grid.{noForm, chosen, chosenForms, missingForm, sizesAnswer, planesAnswer, overlaps, cellsAnswer}
+use Rattle.plane_masks.specs.Grid.{noForm, chosen, chosenForms, formlessCell, sizesAnswer, planesAnswer, overlaps, cellsAnswer}
 use Rattle.plane_masks.specs.Written.{PlanesWritten, PlanesRead}
 use Rattle.plane_masks.specs.Claims.{AllBelow, CanWrite, HasForm}
 use Rattle.plane_masks.specs.Figures.{threeCells, threePlus, threeMinus, twoCells, PlaneFigures}
@@ -120,7 +120,7 @@ module _ (plus minus : List ℕ) (h : 128 ≤ length plus) (k : 128 ≤ length m
   sixth-refused : planesAnswer 2 1 (pos 0 ∷ pos 45 ∷ []) (0 ∷ 5 ∷ []) (length plus) (length minus) ≡ refused 9 1
   unfolding planesAnswer
   sixth-refused =
-      found-at (sizesAnswer 2 1 (length plus) (length minus) 2 2) (missingForm 2 (pos 0 ∷ pos 45 ∷ []) (0 ∷ 5 ∷ [])) 9 1
+      found-at (sizesAnswer 2 1 (length plus) (length minus) 2 2) (formlessCell 2 (pos 0 ∷ pos 45 ∷ []) (0 ∷ 5 ∷ [])) 9 1
       (fits-given 2 1 (length plus) (length minus) 2 2 (record {
         height-from = omega arith;
         height-to = omega arith;

@@ -11,7 +11,7 @@ use lib.ListN.{length, getD, List·getD-append, List·getD-eq-default}
 use Rattle.sequence.specs.UpTo.{upTo}
 use Rattle.sequence.proofs.UpTo.{length-upTo, getD-upTo, upTo-same}
 use Rattle.plane_masks.specs.Binary.{bitAt, binary}
-use Rattle.plane_masks.specs.Planes.{planeBit, cellMask, cellMasks, planeWord, planeWords, cleared}
+use Rattle.plane_masks.specs.Planes.{planeBit, cellMask, cellMasks, planeWord, planeWords, pastCleared}
 use Rattle.plane_masks.specs.Claims.{AllBelow}
 use Rattle.plane_masks.proofs.Lists.{listed}
 use Rattle.plane_masks.proofs.Binary.{bit-small, no-bit, binary-ext, binary-small, binary-bit, binary-top, binary-of, binary-whole}
@@ -106,8 +106,8 @@ module _ (cells : ℕ) (table : List ℕ) (room : cells ≤ 256) (small : AllBel
       past : (b : ℕ) → cells - 64 * (k % 4) ≤ b → bitAt (getD (cellMasks cells table) (64 * (k % 4) + b) 0) (k / 4) ≡ 0
       past b l = ap (λ (x : ℕ). bitAt x (k / 4)) (masks-past (64 * (k % 4) + b) (omega arith)) ∙ no-bit (k / 4)
 
-  pub words-back : planeWords (cellMasks cells table) ≡ cleared cells table
-  unfolding planeWords cleared
+  pub words-back : planeWords (cellMasks cells table) ≡ pastCleared cells table
+  unfolding planeWords pastCleared
   words-back =
       listed 0 (planeWord (cellMasks cells table)) (upTo 128 clear) (length-upTo 128 clear) (λ (k : ℕ) l. word-back k l ∙ sym (getD-upTo 128 clear 0 k l))
     where

@@ -11,7 +11,7 @@ use Rattle.signed_digit.specs.Digit.{nought}
 use Rattle.signed_digit.specs.Forms.{listing}
 use Rattle.form_masks.specs.Form.{formOf, stringOf, TwoMasks}
 use Rattle.form_masks.specs.Value.{valueOf}
-use Rattle.plane_masks.specs.Planes.{planeBit, digitIn, cellString, scaledSum, planeWords, cleared, formIn}
+use Rattle.plane_masks.specs.Planes.{planeBit, digitIn, cellString, scaledSum, planeWords, pastCleared, formIn}
 use Rattle.plane_masks.specs.Grid.{chosen, chosenForms}
 use Rattle.plane_masks.specs.Written.{PlanesWritten, PlanesRead}
 
@@ -36,11 +36,11 @@ pub data BadSides (height width : ℕ) : Type 0 where
   wide : 16 < width → BadSides height width
 
 -- a lent table is under its length
-pub data UnderLength (cells plusWords minusWords first second : ℕ) : Type 0 where
-  plus-short : plusWords < 128 → UnderLength cells plusWords minusWords first second
-  minus-short : minusWords < 128 → UnderLength cells plusWords minusWords first second
-  first-short : first < cells → UnderLength cells plusWords minusWords first second
-  second-short : second < cells → UnderLength cells plusWords minusWords first second
+pub data TableUnderLength (cells plusWords minusWords first second : ℕ) : Type 0 where
+  plus-short : plusWords < 128 → TableUnderLength cells plusWords minusWords first second
+  minus-short : minusWords < 128 → TableUnderLength cells plusWords minusWords first second
+  first-short : first < cells → TableUnderLength cells plusWords minusWords first second
+  second-short : second < cells → TableUnderLength cells plusWords minusWords first second
 
 -- the choice of cell c is the number of a form in that cell's own listing
 pub record HasForm (coefficients : List ℤ) (choices : List ℕ) (c : ℕ) : Type 0 where
@@ -60,7 +60,7 @@ pub data SizeRefusals (height width plusWords minusWords first second number pla
   -- "14 when a side is 0 or above 16, before 3, place 0"
   grid-sides : number ≡ 14 → place ≡ 0 → BadSides height width → SizeRefusals height width plusWords minusWords first second number place
   -- "refusal 3 covers these and tables with less than one element per cell"
-  short-table : number ≡ 3 → place ≡ 0 → (BadSides height width → ⊥) → UnderLength (height * width) plusWords minusWords first second
+  short-table : number ≡ 3 → place ≡ 0 → (BadSides height width → ⊥) → TableUnderLength (height * width) plusWords minusWords first second
       → SizeRefusals height width plusWords minusWords first second number place
 
 -- and what those mean that writing returns; it returns no others
@@ -144,7 +144,7 @@ pub record PlaneClaims : Type 0 where
   -- read". So reading loses nothing else
   pub back-and-there : (height width : ℕ) (plus minus first second first′ second′ : List ℕ) → PlanesRead height width plus minus first second (given tt) first′ second′
       → AllBelow (2 ^ 64) plus → AllBelow (2 ^ 64) minus
-      → (planeWords (take (height * width) first′) ≡ cleared (height * width) plus) × (planeWords (take (height * width) second′) ≡ cleared (height * width) minus)
+      → (planeWords (take (height * width) first′) ≡ pastCleared (height * width) plus) × (planeWords (take (height * width) second′) ≡ pastCleared (height * width) minus)
   -- ---- what is accepted, exactly
   pub writes : (height width : ℕ) (coefficients : List ℤ) (choices plus minus : List ℕ) (a : Answer (Unit {0})) (plus′ minus′ : List ℕ)
       → PlanesWritten height width coefficients choices plus minus a plus′ minus′ → a ≡ given tt ↔ CanWrite height width coefficients choices (length plus) (length minus)

@@ -47,14 +47,14 @@ unfoldable pub chosenForms : ℕ → List ℤ → List ℕ → List DigitString
 chosenForms cells coefficients choices = upTo cells (chosen coefficients choices)
 
 -- check 9: "checked as a tap's, the cell being the place"
-abbrev pub missingForm : ℕ → List ℤ → List ℕ → Place
-missingForm cells coefficients choices = lowest (noForm coefficients choices) (cellNumbers cells)
+abbrev pub formlessCell : ℕ → List ℤ → List ℕ → Place
+formlessCell cells coefficients choices = lowest (noForm coefficients choices) (cellNumbers cells)
 
 -- writing planes into tables of so many words
 unfoldable pub planesAnswer : ℕ → ℕ → List ℤ → List ℕ → ℕ → ℕ → Answer (Unit {0})
 planesAnswer height width coefficients choices plusWords minusWords =
     andThen (sizesAnswer height width plusWords minusWords (length coefficients) (length choices))
-    (λ u. refuseAt (missingForm (height * width) coefficients choices) 9 (given tt))
+    (λ u. refuseAt (formlessCell (height * width) coefficients choices) 9 (given tt))
 
 -- whether f holds below n
 abbrev pub anyBelow : ℕ → (ℕ → Bool) → Bool

@@ -46,8 +46,8 @@ unfoldable pub planeWords : List ℕ → List ℕ
 planeWords masks = upTo 128 (planeWord masks)
 
 -- the 128 words of a table with the bits past the last cell cleared
-unfoldable pub cleared : ℕ → List ℕ → List ℕ
-cleared cells table = upTo 128 (λ (k : ℕ). getD table k 0 % 2 ^ (cells - 64 * (k % 4)))
+unfoldable pub pastCleared : ℕ → List ℕ → List ℕ
+pastCleared cells table = upTo 128 (λ (k : ℕ). getD table k 0 % 2 ^ (cells - 64 * (k % 4)))
 
 -- the two masks that stand for cell c in two tables with one element per cell
 abbrev pub formIn : List ℕ → List ℕ → ℕ → Form

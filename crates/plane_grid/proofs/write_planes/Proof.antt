@@ -7,7 +7,7 @@ use native.Mathlib.Omega.{arith}
 use lib.ListN.{length}
 use Rattle.refusal.specs.Table.{numberOf, placeOf}
 use Rattle.refusal.specs.Answer.{given, nowhere}
-use Rattle.plane_masks.specs.Grid.{sizesAnswer, noForm, missingForm}
+use Rattle.plane_masks.specs.Grid.{sizesAnswer, noForm, formlessCell}
 use Rattle.plane_masks.specs.Written.{PlanesWritten}
 use Rattle.plane_masks.specs.Claims.{Fits}
 use Rattle.plane_masks.proofs.Lists.{none-of}
@@ -71,7 +71,7 @@ returns-2 c =
     (found (noForm (a .coefficients .now) (a .choices .now)) (a .height * a .width) (cell .result) (cell .ensures) (c .if1 .taken))
 
 -- every cell has its form
-none-missing : (c : tie.Else1) → missingForm (start (c .before .before) .args .height * start (c .before .before) .args .width) (start (c .before .before) .args .coefficients .now) (start (c .before .before) .args .choices .now) ≡ nowhere
+none-missing : (c : tie.Else1) → formlessCell (start (c .before .before) .args .height * start (c .before .before) .args .width) (start (c .before .before) .args .coefficients .now) (start (c .before .before) .args .choices .now) ≡ nowhere
 none-missing c =
     let cell = c .before .first-without-form in
     let a = start (c .before .before) .args in
