@@ -7,7 +7,7 @@ use Prim.Native.Nat.{ℕ, zero, suc, _+_, _-_, _*_, _≤_, _<_, _/_, _%_, _^_, m
 use native.Mathlib.Numerals.{add-one}
 use native.Mathlib.Omega.{arith}
 use borrow.Author.Tests.{eq-eqb, ltb-true, ltb-false}
-use lib.Bits.{bitAnd, bitOr, and-step, or-step, and-shr, or-shr}
+use lib.Bits.{bitAnd, bitOr}
 use lib.Count.{trailingZeros, under}
 use lib.Dec.{eqb, ltb}
 use lib.ListN.{getD}
@@ -16,7 +16,7 @@ use Rattle.plane_masks.specs.Binary.{bitAt}
 use Rattle.plane_masks.specs.Planes.{planeBit}
 use Rattle.plane_masks.specs.Grid.{anyBelow, overlaps, overlapCell}
 use Rattle.plane_masks.specs.Inner.{bothWord}
-use Rattle.plane_masks.proofs.Binary.{bit-small, no-bit, bit-zero, bit-suc}
+use Rattle.plane_masks.proofs.Binary.{bit-small, no-bit, bit-zero, bit-suc, and-bit, or-bit}
 use Rattle.plane_masks.proofs.Places.{trailing}
 use Rattle.plane_masks.proofs.Lists.{lowest-cell, no-cell}
 
@@ -31,13 +31,7 @@ unfolding bothWord
 both-next n x plus minus j e =
     ap (λ (w : ℕ). bitOr w (bitAnd (getD plus (4 * n + j) 0) (getD minus (4 * n + j) 0))) e ∙ ap (λ (k : ℕ). bothWord k plus minus j) (sym (add-one n))
 
--- ---- bits of `and` and of `or`
-and-bit : (x y b : ℕ) → bitAt (bitAnd x y) b ≡ min (bitAt x b) (bitAt y b)
-and-bit x y b = ap (λ (n : ℕ). n % 2) (and-shr x y b) ∙ omega (arith, and-step (x / 2 ^ b) (y / 2 ^ b))
-
-or-bit : (x y b : ℕ) → bitAt (bitOr x y) b ≡ max (bitAt x b) (bitAt y b)
-or-bit x y b = ap (λ (n : ℕ). n % 2) (or-shr x y b) ∙ omega (arith, or-step (x / 2 ^ b) (y / 2 ^ b))
-
+-- ---- a bit that both have, and one that either has
 both-ones : (i j : ℕ) → i < 2 → j < 2 → eqb (min i j) 1 ≡ eqb (i + j) 2
 both-ones zero zero h k = refl
 both-ones zero (suc zero) h k = refl

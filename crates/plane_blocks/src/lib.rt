@@ -1,0 +1,66 @@
+// Planes and masks 32 cells at a time: 32 rows of 32 bits are turned, so that columns become rows.
+ghost use mathlib.Core.Path.{_≡_};
+ghost use mathlib.Core.List.{_++_};
+ghost use Prim.Native.Nat.{_+_, _*_, _≤_, _<_};
+ghost use lib.ListN.{length, take, drop};
+ghost use Rattle.sequence.specs.UpTo.{upTo};
+ghost use Rattle.sequence.specs.Inner.{front};
+ghost use Rattle.plane_masks.specs.Planes.{cellMask};
+ghost use Rattle.plane_blocks.specs.Inner.{mixed, turned, halfWord};
+
+// One of the stages that turn rows.
+fn stage(from: &[u32], j: u32, m: u32, to: &mut [u32])
+    requires { ⌜ (32 ≤ length (now from)) × (32 ≤ length (now to)) × (j < 32) ⌝ }
+    ensures { λ r. ⌜ now (to .exit) ≡ front (mixed j m (now (from .entry))) (now (to .entry)) 32 ⌝ }
+{
+    let above = m << j;
+    let mut q: usize = 0;
+    while q < 16 {
+        let low = from[q];
+        let high = from[q + 16];
+        to[2 * q] = (low & m) | ((high & m) << j);
+        to[2 * q + 1] = ((low >> j) & m) | (high & above);
+        q += 1;
+    }
+}
+
+// Turns the first 32 rows into the first 32 of `to`.
+fn turn(rows: &[u32], spare: &mut [u32], to: &mut [u32])
+    requires { ⌜ (32 ≤ length (now rows)) × (32 ≤ length (now spare)) × (32 ≤ length (now to)) ⌝ }
+    ensures { λ r. ⌜ now (to .exit) ≡ turned (now (rows .entry)) ++ drop 32 (now (to .entry)) ⌝ }
+{
+    stage(rows, 16, 0x0000_ffff, to);
+    stage(to, 8, 0x00ff_00ff, spare);
+    stage(spare, 4, 0x0f0f_0f0f, to);
+    stage(to, 2, 0x3333_3333, spare);
+    stage(spare, 1, 0x5555_5555, to);
+}
+
+// The rows of a block: in each plane its 32 cells.
+fn gather(table: &[u64], block: usize, rows: &mut [u32])
+    requires { ⌜ (128 ≤ length (now table)) × (block < 8) × (32 ≤ length (now rows)) ⌝ }
+    ensures { λ r. ⌜ now (rows .exit) ≡ front (halfWord (now (table .entry)) block) (now (rows .entry)) 32 ⌝ }
+{
+    let j = block / 2;
+    let shift = 32 * (block % 2);
+    let mut p: usize = 0;
+    while p < 32 {
+        rows[p] = ((table[4 * p + j] >> shift) % 0x1_0000_0000) as u32;
+        p += 1;
+    }
+}
+
+// The masks that a table holds for the 32 cells of a block.
+pub fn read_block(table: &[u64], block: usize, masks: &mut [u32])
+    requires { ⌜ (128 ≤ length (now table)) × (block < 8) × (32 * block + 32 ≤ length (now masks)) ⌝ }
+    ensures { λ r. ⌜ now (masks .exit)
+        ≡ take (32 * block) (now (masks .entry))
+        ++ (upTo 32 (λ b. cellMask (now (table .entry)) (32 * block + b)) ++ drop (32 * block + 32) (now (masks .entry))) ⌝ }
+{
+    let mut rows = [0u32; 32];
+    let mut spare = [0u32; 32];
+    gather(table, block, &mut rows);
+    let start = 32 * block;
+    let end = start + 32;
+    turn(&rows, &mut spare, &mut masks[start..end]);
+}
