@@ -1,12 +1,12 @@
 -- The rows of a block of cells, and their masks. Assumes nothing.
 use mathlib.Core.Path.{_≡_, refl, sym, ap, ap₂, _∙_}
-use mathlib.Core.List.{List, [], _++_, append-nil}
+use mathlib.Core.List.{List, _++_}
 use Prim.Native.Nat.{ℕ, _+_, _-_, _*_, _≤_, _<_, _/_, _%_, _^_}
 use native.Mathlib.Omega.{arith}
-use lib.ListN.{length, getD, drop, drop-of-length-le}
+use lib.ListN.{getD, List·getD-append}
 use Rattle.sequence.specs.UpTo.{upTo}
 use Rattle.sequence.specs.Inner.{front}
-use Rattle.sequence.proofs.UpTo.{upTo-same}
+use Rattle.sequence.proofs.UpTo.{length-upTo, getD-upTo, upTo-same}
 use Rattle.sequence.proofs.Front.{front-done}
 use Rattle.plane_masks.specs.Binary.{bitAt}
 use Rattle.plane_masks.specs.Planes.{planeBit, cellMask}
@@ -30,10 +30,14 @@ module _ (table rows old : List ℕ) (block : ℕ) (is : rows ≡ front (halfWor
   unfolding column cellMask
   column-mask b l = binary-ext 32 (λ (p : ℕ). bitAt (getD rows p 0) b) (λ (p : ℕ). planeBit table p (32 * block + b)) (λ (p : ℕ) h. row-bit p b h l)
 
-  pub turned-masks : turned rows ≡ upTo 32 (λ (b : ℕ). cellMask table (32 * block + b))
+  turned-masks : turned rows ≡ upTo 32 (λ (b : ℕ). cellMask table (32 * block + b))
   unfolding turned
   turned-masks = upTo-same (column rows) (λ (b : ℕ). cellMask table (32 * block + b)) 32 column-mask
 
--- a part of which all is written
-pub part-written : (n : ℕ) (part zs ys : List ℕ) → length part ≤ n → ys ≡ zs ++ drop n part → ys ≡ zs
-part-written n part zs ys h is = is ∙ ap (λ (l : List ℕ). zs ++ l) (drop-of-length-le part h) ∙ append-nil zs
+  -- the masks, whatever lies past them
+  pub mask-at : (masks rest : List ℕ) → masks ≡ turned rows ++ rest → (b : ℕ) → b < 32 → getD masks b 0 ≡ cellMask table (32 * block + b)
+  mask-at masks rest e b h =
+      let f : ℕ → ℕ = λ (b : ℕ). cellMask table (32 * block + b) in
+      ap (λ (l : List ℕ). getD l b 0) (e ∙ ap (λ (l : List ℕ). l ++ rest) turned-masks)
+      ∙ List·getD-append (upTo 32 f) rest 0 b (omega (arith, length-upTo 32 f))
+      ∙ getD-upTo 32 f 0 b h

@@ -41,9 +41,9 @@ module _ (j m : ℕ) (from : List ℕ) where
       let v : (2 * q + 1) / 2 ≡ q = omega arith in
       let w : 2 * q + 1 + 1 ≡ 2 * (q + 1) = omega arith in
       let x : f (2 * q) ≡ evenRow j m (getD from q 0) (getD from (q + 16) 0) =
-          mixed-even (2 * q) (omega arith) ∙ ap (λ (i : ℕ). evenRow j m (getD from i 0) (getD from (i + 16) 0)) u in
+      mixed-even (2 * q) (omega arith) ∙ ap (λ (i : ℕ). evenRow j m (getD from i 0) (getD from (i + 16) 0)) u in
       let y : f (2 * q + 1) ≡ oddRow j m (getD from q 0) (getD from (q + 16) 0) =
-          mixed-odd (2 * q + 1) (omega arith) ∙ ap (λ (i : ℕ). oddRow j m (getD from i 0) (getD from (i + 16) 0)) v in
+      mixed-odd (2 * q + 1) (omega arith) ∙ ap (λ (i : ℕ). oddRow j m (getD from i 0) (getD from (i + 16) 0)) v in
       ap₂ (λ (a b : ℕ). set (set to (2 * q) a) (2 * q + 1) b) (sym x) (sym y)
       ∙ ap (λ (t : List ℕ). set (set t (2 * q) (f (2 * q))) (2 * q + 1) (f (2 * q + 1))) e
       ∙ ap (λ (t : List ℕ). set t (2 * q + 1) (f (2 * q + 1))) (front-next f old (2 * q) 0 (omega arith))

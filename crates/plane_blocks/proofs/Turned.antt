@@ -81,7 +81,7 @@ module _ (rows spare to a b c d e : List ℕ) (is-a : a ≡ front (mixed 16 6553
   row-is r h =
       sym (binary-whole 32 (mixed 1 1431655765 d r) (mixed-small 1 1431655765 d r (lit< tt)))
       ∙ binary-ext 32 (bitAt (mixed 1 1431655765 d r)) (λ (p : ℕ). bitAt (getD rows p 0) r) (λ (p : ℕ) l.
-        ap (λ (x : ℕ). bitAt x p) (sym (ap (λ (t : List ℕ). getD t r 0) is-e ∙ front-done (mixed 1 1431655765 d) c 32 r 0 h)) ∙ changed-about rows e all-lead r p h l)
+      ap (λ (x : ℕ). bitAt x p) (sym (ap (λ (t : List ℕ). getD t r 0) is-e ∙ front-done (mixed 1 1431655765 d) c 32 r 0 h)) ∙ changed-about rows e all-lead r p h l)
 
   pub all-turned : e ≡ turned rows ++ drop 32 to
   unfolding turned front

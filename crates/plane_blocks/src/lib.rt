@@ -1,9 +1,8 @@
 // Planes and masks 32 cells at a time: 32 rows of 32 bits are turned, so that columns become rows.
 ghost use mathlib.Core.Path.{_≡_};
-ghost use mathlib.Core.List.{_++_};
-ghost use Prim.Native.Nat.{_+_, _*_, _≤_, _<_};
-ghost use lib.ListN.{length, take, drop};
-ghost use Rattle.sequence.specs.UpTo.{upTo};
+ghost use mathlib.Core.List.{List, _++_};
+ghost use Prim.Native.Nat.{ℕ, _+_, _*_, _≤_, _<_};
+ghost use lib.ListN.{length, getD, drop};
 ghost use Rattle.sequence.specs.Inner.{front};
 ghost use Rattle.plane_masks.specs.Planes.{cellMask};
 ghost use Rattle.plane_blocks.specs.Inner.{mixed, turned, halfWord};
@@ -50,17 +49,29 @@ fn gather(table: &[u64], block: usize, rows: &mut [u32])
     }
 }
 
-// The masks that a table holds for the 32 cells of a block.
-pub fn read_block(table: &[u64], block: usize, masks: &mut [u32])
-    requires { ⌜ (128 ≤ length (now table)) × (block < 8) × (32 * block + 32 ≤ length (now masks)) ⌝ }
-    ensures { λ r. ⌜ now (masks .exit)
-        ≡ take (32 * block) (now (masks .entry))
-        ++ (upTo 32 (λ b. cellMask (now (table .entry)) (32 * block + b)) ++ drop (32 * block + 32) (now (masks .entry))) ⌝ }
+// The first n masks, to the places from `at` on.
+fn put(masks: &[u32], n: usize, at: usize, to: &mut [u32])
+    requires { ⌜ (n ≤ length (now masks)) × (at + n ≤ length (now to)) ⌝ }
+    ensures { λ r. ⌜ ((f : ℕ → ℕ) (old : List ℕ) → ((i : ℕ) → i < n → getD (now (masks .entry)) i 0 ≡ f (at + i))
+        → now (to .entry) ≡ front f old at → now (to .exit) ≡ front f old (at + n)) ⌝ }
+{
+    let mut i: usize = 0;
+    while i < n {
+        to[at + i] = masks[i];
+        i += 1;
+    }
+}
+
+// The masks that a table holds for the first n cells of a block, behind those of the cells before it.
+pub fn read_block(table: &[u64], block: usize, n: usize, masks: &mut [u32])
+    requires { ⌜ (128 ≤ length (now table)) × (block < 8) × (n ≤ 32) × (32 * block + n ≤ length (now masks)) ⌝ }
+    ensures { λ r. ⌜ ((old : List ℕ) → now (masks .entry) ≡ front (cellMask (now (table .entry))) old (32 * block)
+        → now (masks .exit) ≡ front (cellMask (now (table .entry))) old (32 * block + n)) ⌝ }
 {
     let mut rows = [0u32; 32];
     let mut spare = [0u32; 32];
+    let mut turned = [0u32; 32];
     gather(table, block, &mut rows);
-    let start = 32 * block;
-    let end = start + 32;
-    turn(&rows, &mut spare, &mut masks[start..end]);
+    turn(&rows, &mut spare, &mut turned);
+    put(&turned, n, 32 * block, masks);
 }

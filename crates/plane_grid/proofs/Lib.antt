@@ -1,4 +1,5 @@
 pub mod Tests
 pub mod Checks
 pub mod Planes
+pub mod Masks
 pub mod Entries

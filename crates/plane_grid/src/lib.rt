@@ -1,7 +1,8 @@
 // A grid of coefficients as digit planes, and planes back to the masks of each cell.
-mod cells;
 mod choices;
+mod reading;
 mod sizes;
+mod writing;
 
 ghost use mathlib.Core.Path.{_≡_};
 ghost use Rattle.plane_masks.specs.Grid.{sizesAnswer};
@@ -67,7 +68,7 @@ pub fn write_planes(
     if cell < cells {
         return Converted::Refused(Refusal::NoSuchForm(cell as u32));
     }
-    cells::write_cells(coefficients, choices, cells, plus, minus);
+    writing::write_cells(coefficients, choices, cells, plus, minus);
     Converted::Done
 }
 
@@ -100,6 +101,7 @@ pub fn read_planes(
     if cell < cells {
         return Converted::Refused(Refusal::MasksOverlap(cell as u32));
     }
-    cells::read_cells(plus, minus, cells, first, second);
+    reading::read_masks(plus, cells, first);
+    reading::read_masks(minus, cells, second);
     Converted::Done
 }

@@ -1,86 +1,53 @@
-use Prim.Native.Nat.{ℕ, _≤_, _-_, _+_, _*_, _<_}
-use mathlib.Core.Path.{_≡_, refl, sym, ap, subst, _∙_}
-use mathlib.Core.Logic.{⊎-elim}
-use native.Mathlib.Omega.{arith}
-use lib.ListN.{length, length-set, take, drop, set, getD}
+-- `plane_blocks::read_block` meets its contract: the rows that `gather` leaves, turned, are the masks of the block. Assumes nothing.
 use borrow.Author.Needs.{needs}
-use borrow.Rule.Slice.PartMut.{post-is}
-use mathlib.Core.Path.{ap₂}
-use mathlib.Core.List.{List, _++_}
-use lib.ListN.{length-take}
-use Rattle.plane_blocks.specs.Inner.{turned}
-use Rattle.plane_blocks.proofs.Blocks.{part-written, turned-masks}
+use native.Mathlib.Omega.{arith}
+use Rattle.plane_masks.specs.Planes.{cellMask}
+use Rattle.plane_blocks.proofs.Blocks.{mask-at}
 use Rattle.plane_blocks.proofs.read_block.Statement.{statement}
 use Rattle.plane_blocks.proofs.read_block.Tie as tie
-use Rattle.plane_blocks.proofs.read_block.Reads as reads
-use Rattle.plane_blocks.proofs.read_block.Lts as lts
-use Rattle.plane_blocks.proofs.gather.Reads as gather-reads
-use Rattle.plane_blocks.proofs.turn.Reads as turn-reads
 
--- src/lib.rt:62:26
 slice-aggregate-gather : tie.Need-slice-aggregate-gather
 slice-aggregate-gather c = search needs
 
--- src/lib.rt:62:5
 gather-requires : tie.Need-gather-requires
 gather-requires c κs = search needs
 
--- src/lib.rt:63:17
-mul-start : tie.Need-mul-start
-mul-start c = search needs
-
--- src/lib.rt:64:15
-add-end : tie.Need-add-end
-add-end c = search needs
-
--- src/lib.rt:65:10
 slice-aggregate-turn : tie.Need-slice-aggregate-turn
 slice-aggregate-turn c = search needs
 
--- src/lib.rt:65:17
 slice-aggregate-turn-2 : tie.Need-slice-aggregate-turn-2
 slice-aggregate-turn-2 c = search needs
 
--- src/lib.rt:65:29
-mul-turn : tie.Need-mul-turn
-mul-turn c = search needs
+slice-aggregate-turn-3 : tie.Need-slice-aggregate-turn-3
+slice-aggregate-turn-3 c = search needs
 
--- src/lib.rt:65:29
-sub-turn : tie.Need-sub-turn
-sub-turn c = search needs
-
--- src/lib.rt:65:29
-part-turn-start : tie.Need-part-turn-start
-part-turn-start c = search needs
-
--- src/lib.rt:65:29
-part-turn-end : tie.Need-part-turn-end
-part-turn-end c = search needs
-
--- src/lib.rt:65:5
 turn-requires : tie.Need-turn-requires
 turn-requires c κs = search needs
 
--- src/lib.rt:54:1
+slice-aggregate-put : tie.Need-slice-aggregate-put
+slice-aggregate-put c = search needs
+
+mul-put : tie.Need-mul-put
+mul-put c = search needs
+
+put-requires : tie.Need-put-requires
+put-requires c κs = search needs
+
 same-length : tie.Need-same-length
 same-length c = search needs
 
--- src/lib.rt:54:1
 returns : tie.Need-returns
 returns c =
-    let after-turn = c .before .before .before in
+    let after-put = c .before .before in
+    let after-turn = after-put .before .before .before .before .before in
     let after-gather = after-turn .before .before .before .before .before in
-    let args = after-gather .before .before .before .before .args in
-    let table = args .table .now in
-    let masks = args .masks .now in
-    let start = 32 * args .block in
+    let at-start = after-gather .before .before .before .before in
+    let args = at-start .args in
     let rows = after-gather .gather .last .1 .1 .0 in
-    let ys = after-turn .turn .last .1 .1 .0 in
-    let part = take (start + 32 - start) (drop start masks) in
-    ap₂ (λ (x y : List ℕ). take start masks ++ (x ++ y))
-    (part-written 32 part (turned rows) ys (omega (arith, length-take (start + 32 - start) (drop start masks))) (after-turn .turn .ensures)
-    ∙ turned-masks table rows _ (args .block) (after-gather .gather .ensures))
-    (post-is start (start + 32) masks (omega arith))
+    let masks = after-turn .turn .last .1 .1 .0 in
+    λ old e. after-put .put .ensures (cellMask (args .table .now)) old
+    (λ i h. mask-at (args .table .now) rows _ (args .block) (after-gather .gather .ensures) masks _ (after-turn .turn .ensures) i (omega (arith, at-start .pre .2)))
+    e
 
 pub read-block-spec : {M : Type 1} → statement M
 read-block-spec =
@@ -88,14 +55,12 @@ read-block-spec =
     (tie.spec
     slice-aggregate-gather
     gather-requires
-    mul-start
-    add-end
     slice-aggregate-turn
     slice-aggregate-turn-2
-    mul-turn
-    sub-turn
-    part-turn-start
-    part-turn-end
+    slice-aggregate-turn-3
     turn-requires
+    slice-aggregate-put
+    mul-put
+    put-requires
     same-length
     returns)

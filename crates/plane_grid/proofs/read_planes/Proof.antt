@@ -1,4 +1,4 @@
--- `plane_grid::read_planes` meets its contract. The sizes are checked first, then whether a cell overlaps; past both, `read_cells` reads all masks. A refusal leaves
+-- `plane_grid::read_planes` meets its contract. The sizes are checked first, then whether a cell overlaps; past both, `read_masks` reads all masks of each table. A refusal leaves
 -- both tables as they were. Assumes nothing.
 use borrow.Author.Needs.{needs}
 use mathlib.Core.Path.{_≡_, sym, ap, _∙_, subst}
@@ -69,11 +69,17 @@ returns-2 c =
     overlap-there (a .height) (a .width) (a .plus .now) (a .minus .now) (a .first .now) (a .second .now) (cell .result) (passed at)
     (found (overlaps (a .plus .now) (a .minus .now)) (a .height * a .width) (cell .result) (cell .ensures) (c .if1 .taken))
 
-read-cells-requires : tie.Need-read-cells-requires
-read-cells-requires c κs =
-    let at = c .before .before .before .before in
+read-masks-requires : tie.Need-read-masks-requires
+read-masks-requires c κs =
+    let at = c .before .before .before in
     let f = fits at in
-    ((few at, omega (arith, f .plus-long, f .minus-long), omega (arith, f .plus-long, f .minus-long)), (f .first-long, f .second-long))
+    (omega (arith, f .plus-long, f .minus-long), few at, omega (arith, f .first-long, f .second-long))
+
+read-masks-requires-2 : tie.Need-read-masks-requires-2
+read-masks-requires-2 c κs =
+    let at = c .before .before .before .before .before .before .before in
+    let f = fits at in
+    (omega (arith, f .plus-long, f .minus-long), few at, omega (arith, f .first-long, f .second-long))
 
 same-length : tie.Need-same-length
 same-length c = search needs
@@ -83,16 +89,18 @@ same-length-2 c = search needs
 
 returns-3 : tie.Need-returns-3
 returns-3 c =
-    let after-read-cells = c .before .before .before .before in
-    let in-else-1 = after-read-cells .before .before .before in
+    let after-second = c .before .before in
+    let after-first = after-second .before .before .before .before in
+    let in-else-1 = after-first .before .before in
     let after-first-overlap = in-else-1 .before in
     let at = after-first-overlap .before in
     let a = start at .args in
     let cell = after-first-overlap .first-overlap in
-    let tables = after-read-cells .read-cells in
-    all-read (a .height) (a .width) (a .plus .now) (a .minus .now) (a .first .now) (a .second .now) (tables .last .1 .1 .1 .0) (tables .last .1 .1 .1 .1 .0) (passed at)
+    let first = after-first .read-masks in
+    let second = after-second .read-masks2 in
+    all-read (a .height) (a .width) (a .plus .now) (a .minus .now) (a .first .now) (a .second .now) (first .last .1 .1 .0) (second .last .1 .1 .0) (passed at)
     (found-none (overlaps (a .plus .now) (a .minus .now)) (a .height * a .width) (cell .result) (cell .ensures) (in-else-1 .if1 .left))
-    (tables .ensures .0) (tables .ensures .1)
+    (first .ensures) (second .ensures)
 
 pub read-planes-spec : {M : Type 1} → statement M
 read-planes-spec =
@@ -106,7 +114,8 @@ read-planes-spec =
     first-overlap-requires
     cast-t15
     returns-2
-    read-cells-requires
+    read-masks-requires
+    read-masks-requires-2
     same-length
     same-length-2
     returns-3)

@@ -1,4 +1,4 @@
--- `plane_grid::cells::add_cells` meets its contract. The invariant of its loop: both tables hold the planes of the first `c` cells, and past their words are as
+-- `plane_grid::writing::add_cells` meets its contract. The invariant of its loop: both tables hold the planes of the first `c` cells, and past their words are as
 -- they were. The measure is `cells - c`. Assumes nothing.
 use borrow.Author.Needs.{needs}
 use mathlib.Core.Path.{_≡_, refl, sym, ap, _∙_, subst}
@@ -15,8 +15,8 @@ use Rattle.form_masks.specs.declared.Form.{Form}
 use Rattle.form_masks.specs.Form.{formOf}
 use Rattle.plane_masks.specs.Grid.{chosen}
 use Rattle.plane_grid.proofs.Planes.{tableOf, no-cells, table-long, has-room, cell-added}
-use Rattle.plane_grid.proofs.cells.add_cells.Statement.{statement}
-use Rattle.plane_grid.proofs.cells.add_cells.Tie as tie
+use Rattle.plane_grid.proofs.writing.add_cells.Statement.{statement}
+use Rattle.plane_grid.proofs.writing.add_cells.Tie as tie
 
 abbrev Inv-loop : tie.InvT-loop
 Inv-loop coefficients choices cells plus₀ minus₀ c₀ plus minus c =

@@ -1,17 +1,16 @@
-// All cells of a grid: their forms into planes, and planes into their masks.
+// The forms of all cells of a grid, written as planes.
 ghost use mathlib.Core.Path.{_≡_};
 ghost use mathlib.Core.List.{[], _++_, map};
 ghost use Prim.Native.Nat.{ℕ, _+_, _*_, _≤_, _<_, _/_, _%_, _^_};
 ghost use lib.ListN.{length, getD, drop};
 ghost use Rattle.signed_digit.specs.Masks.{plusMask, minusMask};
-ghost use Rattle.plane_masks.specs.Planes.{cellMasks, planeWords};
+ghost use Rattle.plane_masks.specs.Planes.{planeWords};
 ghost use Rattle.plane_masks.specs.Grid.{chosenForms};
 ghost use Rattle.plane_masks.specs.Claims.{HasForm};
 ghost use Rattle.plane_masks.specs.Inner.{withCell};
 use form_masks::Form;
 use form_number::form_at;
 use plane_masks::clear;
-use plane_masks::read_cell;
 use plane_masks::write_cell;
 
 // One cell more in both tables, which have nothing from cell c on.
@@ -68,19 +67,4 @@ pub fn write_cells(
     clear(plus);
     clear(minus);
     add_cells(coefficients, choices, cells, plus, minus);
-}
-
-// Reads the masks of the cells.
-pub fn read_cells(plus: &[u64], minus: &[u64], cells: usize, first: &mut [u32], second: &mut [u32])
-    requires { ⌜ (cells ≤ 256) × (128 ≤ length (now plus)) × (128 ≤ length (now minus)) ⌝ }
-    requires { ⌜ (cells ≤ length (now first)) × (cells ≤ length (now second)) ⌝ }
-    ensures first { λ r. ⌜ now (first .exit) ≡ cellMasks cells (now (plus .entry)) ++ drop cells (now (first .entry)) ⌝ }
-    ensures second { λ r. ⌜ now (second .exit) ≡ cellMasks cells (now (minus .entry)) ++ drop cells (now (second .entry)) ⌝ }
-{
-    let mut c: usize = 0;
-    while c < cells {
-        first[c] = read_cell(plus, c);
-        second[c] = read_cell(minus, c);
-        c += 1;
-    }
 }
