@@ -1,6 +1,11 @@
+-- Turning rows:
 pub mod Shifts
 pub mod Finite
 pub mod Rows
 pub mod Stages
 pub mod Turned
+-- Blocks of cells:
 pub mod Blocks
+pub mod Columns
+-- For a loop over them:
+pub mod Next

@@ -5,7 +5,7 @@ use mathlib.Core.List.{List}
 use Prim.Native.Nat.{ℕ, zero, suc, _+_, _-_, _*_, _≤_, _<_, _/_, _%_, _^_, min, max}
 use native.Mathlib.Omega.{arith}
 use borrow.Author.Tests.{eqb-true, ltb-true, ltb-false}
-use lib.Bits.{bitAnd, bitOr}
+use lib.Bits.{bitAnd}
 use lib.Dec.{eqb, ltb}
 use lib.ListN.{getD}
 use Rattle.plane_masks.specs.Binary.{bitAt}
@@ -22,7 +22,7 @@ rowOf j r b = r / 2 + 16 * (b / j % 2)
 abbrev pub placeOf : ℕ → ℕ → ℕ → ℕ
 placeOf j r b = b - j * (b / j % 2) + j * (r % 2)
 
--- ---- what a stage asks of its mask m: at place b it has a one, or j places up it has
+-- ---- what a stage asks of its mask m at place b: it has a one there, or it has when it is shifted by j
 pub record Apart (j m b : ℕ) : Type 0 where
   pub here : bitAt m b + b / j % 2 ≡ 1
   pub above : bitAt (m * 2 ^ j % 2 ^ 32) b ≡ b / j % 2

@@ -2,8 +2,7 @@
 use mathlib.Core.Path.{_≡_, refl, sym, ap, ap₂, _∙_}
 use mathlib.Core.Bool.{Bool, true, _&&_}
 use mathlib.Core.List.{List, _++_}
-use Prim.Native.Nat.{ℕ, _+_, _*_, _≤_, _<_, _/_, _%_, _^_}
-use native.Mathlib.Omega.{arith}
+use Prim.Native.Nat.{ℕ, _<_}
 use borrow.Author.Tests.{eqb-true}
 use lib.Dec.{eqb, lit<}
 use lib.ListN.{getD, drop}
@@ -12,7 +11,7 @@ use Rattle.sequence.specs.UpTo.{upTo}
 use Rattle.sequence.specs.Inner.{front}
 use Rattle.sequence.proofs.UpTo.{length-upTo, upTo-same}
 use Rattle.sequence.proofs.Front.{front-done}
-use Rattle.plane_masks.specs.Binary.{bitAt, binary}
+use Rattle.plane_masks.specs.Binary.{bitAt}
 use Rattle.plane_masks.proofs.Binary.{binary-ext, binary-whole}
 use Rattle.plane_blocks.specs.Inner.{mixed, column, turned}
 use Rattle.plane_blocks.proofs.Rows.{mixed-small}
@@ -61,7 +60,7 @@ past : (g : ℕ → ℕ) (old : List ℕ) → drop 32 (front g old 32) ≡ drop 
 unfolding front
 past g old = drop-at (upTo 32 g) (drop 32 old) 32 (length-upTo 32 g)
 
--- what a function leaves that runs the stages to and fro
+-- what the stages leave that are run to and fro, with the masks 0x0000ffff, 0x00ff00ff, 0x0f0f0f0f, 0x33333333 and 0x55555555
 module _ (rows spare to a b c d e : List ℕ) (is-a : a ≡ front (mixed 16 65535 rows) to 32) (is-b : b ≡ front (mixed 8 16711935 a) spare 32)
     (is-c : c ≡ front (mixed 4 252645135 b) a 32) (is-d : d ≡ front (mixed 2 858993459 c) b 32) (is-e : e ≡ front (mixed 1 1431655765 d) c 32) where
   all-lead : Leads rows e (fiveTimes (λ (r b : ℕ). r)) (fiveTimes (λ (r b : ℕ). b))

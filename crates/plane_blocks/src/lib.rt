@@ -3,11 +3,12 @@ ghost use mathlib.Core.Path.{_≡_};
 ghost use mathlib.Core.List.{List, _++_};
 ghost use Prim.Native.Nat.{ℕ, _+_, _*_, _≤_, _<_};
 ghost use lib.ListN.{length, getD, drop};
+ghost use Rattle.sequence.specs.UpTo.{upTo};
 ghost use Rattle.sequence.specs.Inner.{front};
 ghost use Rattle.plane_masks.specs.Planes.{cellMask};
-ghost use Rattle.plane_blocks.specs.Inner.{mixed, turned, halfWord};
+ghost use Rattle.plane_blocks.specs.Inner.{mixed, turned, halfWord, joined, withWords, withColumn};
 
-// One of the stages that turn rows.
+// One of the stages that turn rows: each row is put together from two that are 16 apart.
 fn stage(from: &[u32], j: u32, m: u32, to: &mut [u32])
     requires { ⌜ (32 ≤ length (now from)) × (32 ≤ length (now to)) × (j < 32) ⌝ }
     ensures { λ r. ⌜ now (to .exit) ≡ front (mixed j m (now (from .entry))) (now (to .entry)) 32 ⌝ }
@@ -23,7 +24,7 @@ fn stage(from: &[u32], j: u32, m: u32, to: &mut [u32])
     }
 }
 
-// Turns the first 32 rows into the first 32 of `to`.
+// The first 32 rows turned: bit b of row r goes to bit r of row b.
 fn turn(rows: &[u32], spare: &mut [u32], to: &mut [u32])
     requires { ⌜ (32 ≤ length (now rows)) × (32 ≤ length (now spare)) × (32 ≤ length (now to)) ⌝ }
     ensures { λ r. ⌜ now (to .exit) ≡ turned (now (rows .entry)) ++ drop 32 (now (to .entry)) ⌝ }
@@ -49,6 +50,18 @@ fn gather(table: &[u64], block: usize, rows: &mut [u32])
     }
 }
 
+// The masks that a table holds for the 32 cells of a block.
+fn block_masks(table: &[u64], block: usize, masks: &mut [u32])
+    requires { ⌜ (128 ≤ length (now table)) × (block < 8) × (32 ≤ length (now masks)) ⌝ }
+    ensures { λ r. ⌜ now (masks .exit)
+        ≡ upTo 32 (λ b. cellMask (now (table .entry)) (32 * block + b)) ++ drop 32 (now (masks .entry)) ⌝ }
+{
+    let mut rows = [0u32; 32];
+    let mut spare = [0u32; 32];
+    gather(table, block, &mut rows);
+    turn(&rows, &mut spare, masks);
+}
+
 // The first n masks, to the places from `at` on.
 fn put(masks: &[u32], n: usize, at: usize, to: &mut [u32])
     requires { ⌜ (n ≤ length (now masks)) × (at + n ≤ length (now to)) ⌝ }
@@ -62,16 +75,38 @@ fn put(masks: &[u32], n: usize, at: usize, to: &mut [u32])
     }
 }
 
-// The masks that a table holds for the first n cells of a block, behind those of the cells before it.
+// The masks of the first n cells of a block, behind those of the cells before it.
 pub fn read_block(table: &[u64], block: usize, n: usize, masks: &mut [u32])
     requires { ⌜ (128 ≤ length (now table)) × (block < 8) × (n ≤ 32) × (32 * block + n ≤ length (now masks)) ⌝ }
     ensures { λ r. ⌜ ((old : List ℕ) → now (masks .entry) ≡ front (cellMask (now (table .entry))) old (32 * block)
         → now (masks .exit) ≡ front (cellMask (now (table .entry))) old (32 * block + n)) ⌝ }
 {
-    let mut rows = [0u32; 32];
+    let mut all = [0u32; 32];
+    block_masks(table, block, &mut all);
+    put(&all, n, 32 * block, masks);
+}
+
+// Places words in column j of a table: in plane p row p of `low`, and above it row p of `high`.
+fn scatter(low: &[u32], high: &[u32], j: usize, table: &mut [u64])
+    requires { ⌜ (32 ≤ length (now low)) × (32 ≤ length (now high)) × (j < 4) × (128 ≤ length (now table)) ⌝ }
+    ensures { λ r. ⌜ now (table .exit) ≡ withWords (joined (now (low .entry)) (now (high .entry))) j (now (table .entry)) ⌝ }
+{
+    let mut p: usize = 0;
+    while p < 32 {
+        table[4 * p + j] = (low[p] as u64) + 0x1_0000_0000 * (high[p] as u64);
+        p += 1;
+    }
+}
+
+// The words of 64 cells, into column j of a table.
+pub fn write_column(masks: &[u32], j: usize, table: &mut [u64])
+    requires { ⌜ (64 ≤ length (now masks)) × (j < 4) × (128 ≤ length (now table)) ⌝ }
+    ensures { λ r. ⌜ now (table .exit) ≡ withColumn (now (masks .entry)) j (now (table .entry)) ⌝ }
+{
+    let mut low = [0u32; 32];
+    let mut high = [0u32; 32];
     let mut spare = [0u32; 32];
-    let mut turned = [0u32; 32];
-    gather(table, block, &mut rows);
-    turn(&rows, &mut spare, &mut turned);
-    put(&turned, n, 32 * block, masks);
+    turn(masks, &mut spare, &mut low);
+    turn(&masks[32..], &mut spare, &mut high);
+    scatter(&low, &high, j, table);
 }

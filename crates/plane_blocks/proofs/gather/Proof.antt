@@ -1,17 +1,16 @@
-use Prim.Native.Nat.{ℕ, _≤_, _-_, _+_, _*_, _<_}
-use mathlib.Core.Path.{_≡_, refl, sym, ap, subst, _∙_}
-use mathlib.Core.Logic.{⊎-elim}
-use native.Mathlib.Omega.{arith}
-use lib.ListN.{length, length-set, take, drop, set, getD}
+-- `plane_blocks::gather` meets its contract. The invariant of its loop: the first `p` rows are half words, and the rest are as they were. The measure is `32 - p`.
+-- Assumes nothing.
 use borrow.Author.Needs.{needs}
+use mathlib.Core.Path.{_≡_, refl, sym, ap, _∙_}
 use mathlib.Core.List.{List}
+use Prim.Native.Nat.{ℕ, _≤_, _-_}
+use native.Mathlib.Omega.{arith}
+use lib.ListN.{length, length-set, set}
 use Rattle.sequence.specs.Inner.{front}
 use Rattle.sequence.proofs.Front.{front-start, front-next}
 use Rattle.plane_blocks.specs.Inner.{halfWord}
 use Rattle.plane_blocks.proofs.gather.Statement.{statement}
 use Rattle.plane_blocks.proofs.gather.Tie as tie
-use Rattle.plane_blocks.proofs.gather.Reads as reads
-use Rattle.plane_blocks.proofs.gather.Lts as lts
 
 abbrev Inv-loop : tie.InvT-loop
 Inv-loop table block rows₀ j shift p₀ rows p = (p ≤ 32) × (rows ≡ front (halfWord table block) rows₀ p) × (length rows ≡ length rows₀)
@@ -19,55 +18,42 @@ Inv-loop table block rows₀ j shift p₀ rows p = (p ≤ 32) × (rows ≡ front
 abbrev μ-loop : tie.MeasureT-loop
 μ-loop table block rows₀ j shift p₀ rows p = 32 - p
 
--- src/lib.rt:45:17
 mul-shift : tie.Need-mul-shift Inv-loop μ-loop
 mul-shift c = search needs
 
--- src/lib.rt:47:5
 loop-holds : tie.Need-loop-holds Inv-loop μ-loop
 loop-holds c = let args = c .args in (search needs, sym (front-start (halfWord (args .table .now) (args .block)) (args .rows .now)), refl)
 
--- src/lib.rt:48:27
 mul-rows : tie.Need-mul-rows Inv-loop μ-loop
 mul-rows c = search needs
 
--- src/lib.rt:48:27
 add-rows : tie.Need-add-rows Inv-loop μ-loop
 add-rows c = search needs
 
--- src/lib.rt:48:21
 mul-rows-2 : tie.Need-mul-rows-2 Inv-loop μ-loop
 mul-rows-2 c = search needs
 
--- src/lib.rt:48:21
 shared-slice-read-rows : tie.Need-shared-slice-read-rows Inv-loop μ-loop
 shared-slice-read-rows c = search needs
 
--- src/lib.rt:48:21
 shr-rows : tie.Need-shr-rows Inv-loop μ-loop
 shr-rows c = search needs
 
--- src/lib.rt:48:19
 cast-rows : tie.Need-cast-rows Inv-loop μ-loop
 cast-rows c = search needs
 
--- src/lib.rt:48:9
 mul-rows-3 : tie.Need-mul-rows-3 Inv-loop μ-loop
 mul-rows-3 c = search needs
 
--- src/lib.rt:48:9
 slice-write-rows : tie.Need-slice-write-rows Inv-loop μ-loop
 slice-write-rows c = search needs
 
--- src/lib.rt:49:9
 add-p : tie.Need-add-p Inv-loop μ-loop
 add-p c = search needs
 
--- src/lib.rt:47:5
 loop-less : tie.Need-loop-less Inv-loop μ-loop
 loop-less c = search needs
 
--- src/lib.rt:47:5
 loop-again : tie.Need-loop-again Inv-loop μ-loop
 unfolding halfWord
 loop-again c =
@@ -81,11 +67,9 @@ loop-again c =
       simp length-set (at-loop .loop .inv .2),
     )
 
--- src/lib.rt:40:1
 same-length : tie.Need-same-length Inv-loop μ-loop
 same-length c = c .before .loop .inv .2
 
--- src/lib.rt:40:1
 returns : tie.Need-returns Inv-loop μ-loop
 returns c =
     let at-loop = c .before in

@@ -1,45 +1,30 @@
-use Prim.Native.Nat.{ℕ, _≤_, _-_, _+_, _*_, _<_}
-use mathlib.Core.Path.{_≡_, refl, sym, ap, subst, _∙_}
-use mathlib.Core.Logic.{⊎-elim}
-use native.Mathlib.Omega.{arith}
-use lib.ListN.{length, length-set, take, drop, set, getD}
+-- `plane_blocks::turn` meets its contract: what the five stages leave, one after the other, is what `all-turned` speaks of. Assumes nothing.
 use borrow.Author.Needs.{needs}
 use Rattle.plane_blocks.proofs.Turned.{all-turned}
 use Rattle.plane_blocks.proofs.turn.Statement.{statement}
 use Rattle.plane_blocks.proofs.turn.Tie as tie
-use Rattle.plane_blocks.proofs.turn.Reads as reads
-use Rattle.plane_blocks.proofs.turn.Lts as lts
-use Rattle.plane_blocks.proofs.stage.Reads as stage-reads
 
--- src/lib.rt:32:5
 stage-requires : tie.Need-stage-requires
 stage-requires c κs = search needs
 
--- src/lib.rt:33:5
 stage-requires-2 : tie.Need-stage-requires-2
 stage-requires-2 c κs = search needs
 
--- src/lib.rt:34:5
 stage-requires-3 : tie.Need-stage-requires-3
 stage-requires-3 c κs = search needs
 
--- src/lib.rt:35:5
 stage-requires-4 : tie.Need-stage-requires-4
 stage-requires-4 c κs = search needs
 
--- src/lib.rt:36:5
 stage-requires-5 : tie.Need-stage-requires-5
 stage-requires-5 c κs = search needs
 
--- src/lib.rt:28:1
 same-length : tie.Need-same-length
 same-length c = search needs
 
--- src/lib.rt:28:1
 same-length-2 : tie.Need-same-length-2
 same-length-2 c = search needs
 
--- src/lib.rt:28:1
 returns : tie.Need-returns
 returns c =
     let after-stage5 = c .before .before in
