@@ -12,8 +12,8 @@ use lib.Bits.{bitOr, and-le-l, and-le-r, or-add-and}
 use lib.Dec.{ltb}
 use lib.ListN.{length, getD, set, length-set, replicate}
 use lib.Seq.{getD-set-same, getD-set-other}
+use Rattle.sequence.proofs.Members.{same-at}
 use Rattle.build_index.specs.Inner.{valueAt}
-use Rattle.build_index.proofs.Empty.{read-clear}
 use Rattle.build_index.proofs.Compare.{eq-or-ne}
 use Rattle.build_sieve.specs.Inner.{cellOf, shiftFor, cellIn, Sieve, Cells}
 use Rattle.build_sieve.proofs.Cells.{cell-low}
@@ -101,7 +101,7 @@ sieve-none t values marks a e h l = record {
   room = h;
   cells = l;
   values-are = λ i k. absurd (omega arith);
-  rest = λ i k. ap (λ (xs : List ℕ). getD xs i 0) e ∙ read-clear a i;
+  rest = λ i k. ap (λ (xs : List ℕ). getD xs i 0) e ∙ same-at a i 0;
   marked = λ i k. absurd (omega arith);
 }
 

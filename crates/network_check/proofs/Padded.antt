@@ -6,6 +6,7 @@ use native.Mathlib.Omega.{arith}
 use lib.IntN.{ℤ, pos}
 use lib.ListN.{length, getD, take, drop, replicate, length-append, length-replicate}
 use lib.Seq.{take-at}
+use Rattle.sequence.proofs.Members.{same-at}
 use Rattle.network_check.specs.Inner.{padded}
 
 zeros-left : (m n : ℕ) → drop m (replicate n (pos 0)) ≡ replicate (n - m) (pos 0)
@@ -39,13 +40,8 @@ unfolding padded
 take-padded h m e = take-at h (replicate (256 - length h) (pos 0)) m e
 
 -- each place: the coefficient, and 0 where there is none
-zeros-at : (n k : ℕ) → getD (replicate n (pos 0)) k (pos 0) ≡ pos 0
-zeros-at zero k = refl
-zeros-at (suc n) zero = refl
-zeros-at (suc n) (suc k) = zeros-at n k
-
 longer-at : (h : List ℤ) (n k : ℕ) → getD (h ++ replicate n (pos 0)) k (pos 0) ≡ getD h k (pos 0)
-longer-at [] n k = zeros-at n k
+longer-at [] n k = same-at n k (pos 0)
 longer-at (z ∷ h) n zero = refl
 longer-at (z ∷ h) n (suc k) = longer-at h n k
 

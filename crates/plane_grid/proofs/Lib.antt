@@ -1,5 +1,7 @@
 pub mod Tests
 pub mod Checks
+pub mod Forms
 pub mod Planes
+pub mod Columns
 pub mod Masks
 pub mod Entries

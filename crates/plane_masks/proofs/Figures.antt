@@ -10,6 +10,7 @@ use lib.IntN.{ℤ, pos}
 use lib.ListN.{length, getD, drop, replicate, length-replicate}
 use Rattle.refusal.specs.Answer.{Answer, given, refused, filled, lowestFrom}
 use Rattle.sequence.specs.UpTo.{upTo}
+use Rattle.sequence.proofs.Members.{same-at}
 use Rattle.signed_digit.specs.String.{DigitString}
 use Rattle.signed_digit.specs.Masks.{plusMask, minusMask}
 use Rattle.signed_digit.specs.Forms.{listing}
@@ -143,11 +144,6 @@ module _ (plus minus : List ℕ) (h : 128 ≤ length plus) (k : 128 ≤ length m
     plus-left = sym (ap (λ (a : Answer (Unit {0})). filled a (planeWords (map plusMask (chosenForms 2 (pos 0 ∷ pos 45 ∷ []) (0 ∷ 5 ∷ [])))) plus) sixth-refused);
     minus-left = sym (ap (λ (a : Answer (Unit {0})). filled a (planeWords (map minusMask (chosenForms 2 (pos 0 ∷ pos 45 ∷ []) (0 ∷ 5 ∷ [])))) minus) sixth-refused);
   }
-
-same-at : {A : Type 0} (n k : ℕ) (a : A) → getD (replicate n a) k a ≡ a
-same-at zero k a = refl
-same-at (suc n) zero a = refl
-same-at (suc n) (suc k) a = same-at n k a
 
 whole-grid : CanWrite 16 16 (replicate 256 (pos 0)) (replicate 256 0) 128 128
 whole-grid = record {

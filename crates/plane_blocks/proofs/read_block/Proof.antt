@@ -43,8 +43,8 @@ returns c =
     let all = after-block-masks .block-masks in
     let mask : ℕ → ℕ = cellMask (args .table .now) in
     λ old e. after-put .put .ensures mask old
-      (λ i h. mask-at (λ (b : ℕ). mask (32 * args .block + b)) (all .last .1 .1 .0) _ (all .ensures) i (omega (arith, at-start .pre .2)))
-      e
+    (λ i h. mask-at (λ (b : ℕ). mask (32 * args .block + b)) (all .last .1 .1 .0) _ (all .ensures) i (omega (arith, at-start .pre .2)))
+    e
 
 pub read-block-spec : {M : Type 1} → statement M
 read-block-spec =

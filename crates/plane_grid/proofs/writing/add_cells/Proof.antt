@@ -14,6 +14,7 @@ use Rattle.signed_digit.specs.Masks.{plusMask, minusMask}
 use Rattle.form_masks.specs.declared.Form.{Form}
 use Rattle.form_masks.specs.Form.{formOf}
 use Rattle.plane_masks.specs.Grid.{chosen}
+use Rattle.plane_grid.proofs.Forms.{choice-below, form-chosen}
 use Rattle.plane_grid.proofs.Planes.{tableOf, no-cells, table-long, has-room, cell-added}
 use Rattle.plane_grid.proofs.writing.add_cells.Statement.{statement}
 use Rattle.plane_grid.proofs.writing.add_cells.Tie as tie
@@ -57,20 +58,8 @@ form-at-requires c κs =
     let at-loop = in-loop .before in
     let at-start = at-loop .before .before .before .before in
     let args = at-start .args in
-    let n = getD (args .coefficients .now) (at-loop .loop .c) (pos 0) in
-    subst (λ (z : ℤ). getD (args .choices .now) (at-loop .loop .c) 0 < length (listing 32 z)) (sym (toZ-ofZ w32 n (record { sfits = after-form-at-arg .form-at-arg .given })))
-    (at-start .pre .1 .0 (at-loop .loop .c) (in-loop .loop-test .taken) .below)
-
--- the form of cell c, as the machine hands it on
-form-is : (c : tie.After-form-at Inv-loop μ-loop)
-    → c .form-at .result
-    ≡ formOf (chosen (c .before .before .before .before .before .before .before .before .args .coefficients .now) (c .before .before .before .before .before .before .before .before .args .choices .now) (c .before .before .before .before .loop .c))
-form-is c =
-    let after-form-at-arg = c .before .before in
-    let at-loop = after-form-at-arg .before .before in
-    let args = at-loop .before .before .before .before .args in
-    let n = getD (args .coefficients .now) (at-loop .loop .c) (pos 0) in
-    c .form-at .ensures ∙ ap (λ (z : ℤ). formOf (getD (listing 32 z) (getD (args .choices .now) (at-loop .loop .c) 0) [])) (toZ-ofZ w32 n (record { sfits = after-form-at-arg .form-at-arg .given }))
+    choice-below (args .coefficients .now) (args .choices .now) (at-loop .loop .c) (record { sfits = after-form-at-arg .form-at-arg .given })
+    (at-start .pre .1 .0 (at-loop .loop .c) (in-loop .loop-test .taken))
 
 add-form-requires : tie.Need-add-form-requires Inv-loop μ-loop
 add-form-requires c κs =
@@ -104,10 +93,11 @@ loop-again : tie.Need-loop-again Inv-loop μ-loop
 loop-again c =
     let after-add-form = c .before .before .before .before in
     let after-form-at = after-add-form .before .before .before in
-    let at-loop = after-form-at .before .before .before .before in
+    let after-form-at-arg = after-form-at .before .before in
+    let at-loop = after-form-at-arg .before .before in
     let args = at-loop .before .before .before .before .args in
     let added = after-add-form .add-form .ensures in
-    let form = form-is after-form-at in (
+    let form = form-chosen (args .coefficients .now) (args .choices .now) (at-loop .loop .c) (record { sfits = after-form-at-arg .form-at-arg .given }) (after-form-at .form-at .result) (after-form-at .form-at .ensures) in (
       search needs,
       added .0 ∙ cell-added plusMask (args .coefficients .now) (args .choices .now) (drop 128 (args .plus .now)) (at-loop .loop .c) (after-form-at .form-at .result .plus) (at-loop .loop .plus) (at-loop .loop .inv .1) (ap (λ (g : Form). g .plus) form),
       search needs,
