@@ -1,10 +1,10 @@
--- A test that is computed for each number below a bound, and a bound that is raised by one. Assumes nothing.
-use mathlib.Core.Path.{_≡_, refl, sym, ap, _∙_}
+-- A test that is computed for each number below a bound. Assumes nothing.
+use mathlib.Core.Path.{_≡_, refl, ap, _∙_}
 use mathlib.Core.Bool.{Bool, true, false, _&&_, false≢true}
-use Prim.Native.Nat.{ℕ, zero, suc, _+_, _≤_, _<_}
+use Prim.Native.Nat.{ℕ, zero, suc, _<_}
 use native.Mathlib.Omega.{arith}
-use borrow.Author.Tests.{eqb-true, eqb-false, ltb-true, ltb-false, lt-ltb, le-ltb}
-use lib.Dec.{eqb, ltb}
+use borrow.Author.Tests.{eqb-true, eqb-false}
+use lib.Dec.{eqb}
 
 pub and-true : (a b : Bool) → a && b ≡ true → (a ≡ true) × (b ≡ true)
 and-true true b e = (refl, e)
@@ -24,13 +24,3 @@ all-at (suc n) f e i h = let w = and-true (f n) (allBelow n f) e in go (eqb i n)
     go : (t : Bool) → eqb i n ≡ t → f n ≡ true → (i < n → f i ≡ true) → f i ≡ true
     go true q last below = ap f (eqb-true i n q) ∙ last
     go false q last below = below (less i n h (eqb-false i n q))
-
-pub raised : (i n : ℕ) → (i ≡ n → ⊥) → ltb i n ≡ ltb i (n + 1)
-raised i n d = go (ltb i n) refl
-  where
-    above : (i n : ℕ) → n ≤ i → (i ≡ n → ⊥) → n + 1 ≤ i
-    above i n h d = omega arith
-
-    go : (t : Bool) → ltb i n ≡ t → ltb i n ≡ ltb i (n + 1)
-    go true q = q ∙ sym (lt-ltb i (n + 1) (omega (arith, ltb-true i n q)))
-    go false q = q ∙ sym (le-ltb i (n + 1) (above i n (ltb-false i n q) d))

@@ -6,6 +6,3 @@ pub mod Stages
 pub mod Turned
 -- Blocks of cells:
 pub mod Blocks
-pub mod Columns
--- For a loop over them:
-pub mod Next

@@ -1,10 +1,10 @@
 -- Turning a square of 32 by 32 bits, and the rows that hold a block of cells. Definitions of the algorithm's own.
 use Prim.Native.Nat.{ℕ, _+_, _*_, _/_, _%_, _^_}
 use mathlib.Core.Bool.{cond}
-use mathlib.Core.List.{List, _++_}
+use mathlib.Core.List.{List}
 use lib.Bits.{bitAnd, bitOr}
 use lib.Dec.{eqb}
-use lib.ListN.{getD, drop}
+use lib.ListN.{getD}
 use Rattle.sequence.specs.UpTo.{upTo}
 use Rattle.plane_masks.specs.Binary.{bitAt, binary}
 
@@ -26,19 +26,3 @@ turned rows = upTo 32 (column rows)
 -- the 32 cells of a block in plane p: half a word
 unfoldable pub halfWord : List ℕ → ℕ → ℕ → ℕ
 halfWord table block p = getD table (4 * p + block / 2) 0 / 2 ^ (32 * (block % 2)) % 2 ^ 32
-
--- a table whose words in column j, one in each plane, have become f 0, .. f 31
-unfoldable pub withWords : (ℕ → ℕ) → ℕ → List ℕ → List ℕ
-withWords f j table = upTo 128 (λ (k : ℕ). cond (eqb (k % 4) j) (f (k / 4)) (getD table k 0)) ++ drop 128 table
-
--- row p of low, and above it row p of high
-unfoldable pub joined : List ℕ → List ℕ → ℕ → ℕ
-joined low high p = getD low p 0 + 2 ^ 32 * getD high p 0
-
--- the word of 64 cells in plane p
-unfoldable pub cellsWord : List ℕ → ℕ → ℕ
-cellsWord masks p = binary 64 (λ (b : ℕ). bitAt (getD masks b 0) p)
-
--- a table with the words of 64 cells in column j
-unfoldable pub withColumn : List ℕ → ℕ → List ℕ → List ℕ
-withColumn masks j table = withWords (cellsWord masks) j table

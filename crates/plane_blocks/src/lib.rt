@@ -6,7 +6,7 @@ ghost use lib.ListN.{length, getD, drop};
 ghost use Rattle.sequence.specs.UpTo.{upTo};
 ghost use Rattle.sequence.specs.Inner.{front};
 ghost use Rattle.plane_masks.specs.Planes.{cellMask};
-ghost use Rattle.plane_blocks.specs.Inner.{mixed, turned, halfWord, joined, withWords, withColumn};
+ghost use Rattle.plane_blocks.specs.Inner.{mixed, turned, halfWord};
 
 // One of the stages that turn rows: each row is put together from two that are 16 apart.
 fn stage(from: &[u32], j: u32, m: u32, to: &mut [u32])
@@ -84,29 +84,4 @@ pub fn read_block(table: &[u64], block: usize, n: usize, masks: &mut [u32])
     let mut all = [0u32; 32];
     block_masks(table, block, &mut all);
     put(&all, n, 32 * block, masks);
-}
-
-// Places words in column j of a table: in plane p row p of `low`, and above it row p of `high`.
-fn scatter(low: &[u32], high: &[u32], j: usize, table: &mut [u64])
-    requires { ⌜ (32 ≤ length (now low)) × (32 ≤ length (now high)) × (j < 4) × (128 ≤ length (now table)) ⌝ }
-    ensures { λ r. ⌜ now (table .exit) ≡ withWords (joined (now (low .entry)) (now (high .entry))) j (now (table .entry)) ⌝ }
-{
-    let mut p: usize = 0;
-    while p < 32 {
-        table[4 * p + j] = (low[p] as u64) + 0x1_0000_0000 * (high[p] as u64);
-        p += 1;
-    }
-}
-
-// The words of 64 cells, into column j of a table.
-pub fn write_column(masks: &[u32], j: usize, table: &mut [u64])
-    requires { ⌜ (64 ≤ length (now masks)) × (j < 4) × (128 ≤ length (now table)) ⌝ }
-    ensures { λ r. ⌜ now (table .exit) ≡ withColumn (now (masks .entry)) j (now (table .entry)) ⌝ }
-{
-    let mut low = [0u32; 32];
-    let mut high = [0u32; 32];
-    let mut spare = [0u32; 32];
-    turn(masks, &mut spare, &mut low);
-    turn(&masks[32..], &mut spare, &mut high);
-    scatter(&low, &high, j, table);
 }

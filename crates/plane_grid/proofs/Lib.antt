@@ -2,6 +2,5 @@ pub mod Tests
 pub mod Checks
 pub mod Forms
 pub mod Planes
-pub mod Columns
 pub mod Masks
 pub mod Entries

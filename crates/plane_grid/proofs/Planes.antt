@@ -50,10 +50,7 @@ module _ (f : DigitString → ℕ) (coefficients : List ℤ) (choices : List ℕ
       ∙ one-more (map f (chosenForms c coefficients choices)) c (masks-length c) rest (f (chosen coefficients choices c))
       ∙ ap (λ (masks : List ℕ). planeWords masks ++ rest) (masks-next c)
 
--- a table with no cell is long enough, and past its words as it was
-pub empty-long : (table rest : List ℕ) → table ≡ planeWords [] ++ rest → 128 ≤ length table
-empty-long table rest e = omega (arith, ap length e, length-append (planeWords []) rest, words-length [])
-
+-- a table with no cell: past its words it is as it was
 module _ (table old : List ℕ) (e : table ≡ planeWords [] ++ drop 128 old) where
   pub past-kept : drop 128 table ≡ drop 128 old
   past-kept = ap (drop 128) e ∙ drop-at (planeWords []) (drop 128 old) 128 (words-length [])

@@ -1,19 +1,12 @@
 -- `plane_grid::writing::add_cells` meets its contract. The invariant of its loop: both tables hold the planes of the first `c` cells, and past their words are as
 -- they were. The measure is `cells - c`. Assumes nothing.
 use borrow.Author.Needs.{needs}
-use mathlib.Core.Path.{_≡_, refl, sym, ap, _∙_, subst}
-use mathlib.Core.List.{[]}
+use mathlib.Core.Path.{_≡_, refl, ap, _∙_}
 use Prim.Native.Nat.{_-_, _≤_, _<_}
 use native.Mathlib.Omega.{arith}
-use lib.IntN.{ℤ, pos}
-use lib.ListN.{length, getD, drop}
-use mir.Syntax.{w32}
-use mir.ValLaws.{toZ-ofZ}
-use Rattle.signed_digit.specs.Forms.{listing}
+use lib.ListN.{length, drop}
 use Rattle.signed_digit.specs.Masks.{plusMask, minusMask}
 use Rattle.form_masks.specs.declared.Form.{Form}
-use Rattle.form_masks.specs.Form.{formOf}
-use Rattle.plane_masks.specs.Grid.{chosen}
 use Rattle.plane_grid.proofs.Forms.{choice-below, form-chosen}
 use Rattle.plane_grid.proofs.Planes.{tableOf, no-cells, table-long, has-room, cell-added}
 use Rattle.plane_grid.proofs.writing.add_cells.Statement.{statement}
