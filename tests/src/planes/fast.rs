@@ -1,12 +1,13 @@
-//! Writing and reading planes by hand for speed: the core's time is compared with this. A form is
-//! listed only where its number is not 0, and only its nonzero digits are set. Overlaps are looked for
-//! in 64 cells at a time.
+//! Writing and reading planes by hand for speed: the core's time is compared with this. A form is had by
+//! its number, and only its nonzero digits are set. Overlaps are looked for in 64 cells at a time, and
+//! masks are read 32 at a time, by turning a square of bits.
 
 use super::{Grid, MOST_SIDE, PLANES, PLANE_TABLE, PLANE_WORDS};
 use crate::answer::{Answer, ACCEPTED};
-use crate::forms::fast::minimal_forms;
+use crate::building::chosen;
+use crate::forms::fast::form_count;
 use crate::forms::links::canonical;
-use crate::forms::{Form, MOST_FORMS};
+use crate::forms::Form;
 
 type Planes = [[u64; PLANE_WORDS]; PLANES];
 
@@ -16,25 +17,15 @@ fn within_bounds(grid: Grid) -> bool {
     within(grid.height) && within(grid.width)
 }
 
-/// The tables of a listing, and what finds a form in it.
-#[derive(Default)]
-struct Lister(Option<[[u32; MOST_FORMS]; 2]>);
-
-impl Lister {
-    #[inline(always)]
-    fn form(&mut self, n: i32, choice: u32) -> Option<Form> {
-        if choice == 0 {
-            return Some(canonical(n));
-        }
-        let [plus, minus] = self.0.get_or_insert([[0; MOST_FORMS]; 2]);
-        let mut count = 0;
-        minimal_forms(n, plus, minus, &mut count);
-        let choice = choice as usize;
-        (choice < count as usize).then(|| Form {
-            plus: plus[choice],
-            minus: minus[choice],
-        })
+/// The form of this number, if there is one.
+#[inline(always)]
+fn form(n: i32, choice: u32) -> Option<Form> {
+    if choice == 0 {
+        return Some(canonical(n));
     }
+    let mut count = 0;
+    form_count(n, &mut count);
+    (choice < count).then(|| chosen::form(n, choice))
 }
 
 #[inline(always)]
@@ -66,10 +57,9 @@ pub fn write_planes(
     ) else {
         return Answer::refused(3, 0);
     };
-    let mut lister = Lister::default();
     let mut planes: [Planes; 2] = Default::default();
     for (cell, (n, choice)) in coefficients.iter().zip(choices).enumerate() {
-        let Some(form) = lister.form(*n, *choice) else {
+        let Some(form) = form(*n, *choice) else {
             return Answer::refused(9, cell);
         };
         set(&mut planes[0], form.plus, cell);
@@ -98,13 +88,50 @@ fn overlap(
     (cell < cells).then_some(cell)
 }
 
+/// Bit b of row r becomes bit r of row b.
+#[inline(always)]
+fn turn(rows: &mut [u32; PLANES]) {
+    let mut width = PLANES / 2;
+    let mut low = 0x0000_ffff;
+    while width != 0 {
+        for pair in (0..PLANES).filter(|row| row & width == 0) {
+            let other = (pair | width) % PLANES;
+            let changed = (rows[pair] >> width ^ rows[other]) & low;
+            rows[other] ^= changed;
+            rows[pair] ^= changed << width;
+        }
+        width /= 2;
+        low ^= low << width;
+    }
+}
+
 /// The bit of a cell from every plane.
 #[inline(always)]
 fn gather(planes: &[[u64; PLANE_WORDS]], cell: usize) -> u32 {
-    let bit =
-        |plane: &[u64; PLANE_WORDS]| (plane[cell / 64 % PLANE_WORDS] >> (cell % 64)) as u32 & 1;
+    let bit = |plane: &[u64; PLANE_WORDS]| (plane[0] >> cell) as u32 & 1;
     let planes = planes.iter().enumerate();
     planes.fold(0, |mask, (place, plane)| mask | bit(plane) << place)
+}
+
+/// The masks of all cells.
+#[inline(always)]
+fn read(planes: &[[u64; PLANE_WORDS]], masks: &mut [u32]) {
+    if masks.len() < 4 {
+        let cells = masks.iter_mut().enumerate();
+        cells.for_each(|(cell, mask)| *mask = gather(planes, cell));
+        return;
+    }
+    for (block, masks) in masks.chunks_mut(PLANES).enumerate() {
+        let half = |plane: &[u64; PLANE_WORDS]| {
+            (plane[block / 2 % PLANE_WORDS] >> (block % 2 * PLANES)) as u32
+        };
+        let mut rows = [0; PLANES];
+        for (row, plane) in rows.iter_mut().zip(planes) {
+            *row = half(plane);
+        }
+        turn(&mut rows);
+        masks.copy_from_slice(&rows[..masks.len()]);
+    }
 }
 
 #[inline(never)]
@@ -131,9 +158,7 @@ pub fn read_planes(
     if let Some(cell) = overlap(cells, plus, minus) {
         return Answer::refused(8, cell);
     }
-    for (cell, (to_plus, to_minus)) in cell_plus.iter_mut().zip(cell_minus).enumerate() {
-        *to_plus = gather(plus, cell);
-        *to_minus = gather(minus, cell);
-    }
+    read(plus, cell_plus);
+    read(minus, cell_minus);
     ACCEPTED
 }
