@@ -21,7 +21,7 @@
  *   stack: fir_minimal_forms     128
  *   stack: fir_form_count         64
  *   stack: fir_write_planes      384
- *   stack: fir_read_planes       192
+ *   stack: fir_read_planes       640
  *   stack: fir_build           65408
  *   stack: fir_check            1216
  *   stack: fir_coefficients     1280

@@ -218,5 +218,5 @@ fn two_at_once() {
     assert_eq!((first.status, second.status), (Some(0), Some(0)));
     assert_eq!(first.out, MODULE.as_bytes());
     assert!(second.out == printed(&["verilog", "-b", "30"], &large));
-    assert_eq!(clone.calls().len(), 5, "{:?}", clone.calls());
+    assert_eq!(clone.calls().len(), 6, "{:?}", clone.calls());
 }

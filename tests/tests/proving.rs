@@ -177,7 +177,7 @@ fn three_at_once() {
             assert!(ended.out.ends_with(b" and no other\n"));
         }
     });
-    assert_eq!(clone.calls().len(), 5, "{:?}", clone.calls());
+    assert_eq!(clone.calls().len(), 6, "{:?}", clone.calls());
 }
 
 /// Holds the lock until its standard input is closed.
