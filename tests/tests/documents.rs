@@ -122,5 +122,5 @@ fn shown_output() {
         assert_eq!(printed.lines().collect::<Vec<_>>(), wanted, "{line}");
         shown += 1;
     }
-    assert_eq!(shown, 3);
+    assert_eq!(shown, 4);
 }

@@ -166,7 +166,7 @@ pub plane-figures : PlaneFigures
 plane-figures = record {
   three-written = three-written;
   three-read = three-read;
-  three-words = small-below (2 ^ 64) threePlus (omega arith) refl;
+  three-words = (small-below (2 ^ 64) threePlus (omega arith) refl, small-below (2 ^ 64) threeMinus (omega arith) refl);
   whole-grid = whole-grid;
   lowest-cell = lowest-cell;
   past-ignored = past-ignored;

@@ -26,7 +26,7 @@ pub record PlaneFigures : Type 0 where
   pub three-written : (plus minus : List ℕ) → 128 ≤ length plus → 128 ≤ length minus
       → PlanesWritten 1 3 threeCells (4 ∷ 0 ∷ 0 ∷ []) plus minus (given tt) (threePlus ++ drop 128 plus) (threeMinus ++ drop 128 minus)
   pub three-read : PlanesRead 1 3 threePlus threeMinus (7 ∷ 7 ∷ 7 ∷ 7 ∷ []) (7 ∷ 7 ∷ 7 ∷ []) (given tt) ((32 + 8 + 4 + 1) ∷ 0 ∷ 0 ∷ 7 ∷ []) (0 ∷ 0 ∷ 2 ^ 31 ∷ [])
-  pub three-words : AllBelow (2 ^ 64) threePlus
+  pub three-words : AllBelow (2 ^ 64) threePlus × AllBelow (2 ^ 64) threeMinus
   -- a grid of 16 by 16 is written
   pub whole-grid : CanWrite 16 16 (replicate 256 (pos 0)) (replicate 256 0) 128 128
   -- the lowest cell, though it overlaps in the highest plane; where the cell that overlaps in the lowest lies past the last, it is ignored
