@@ -5,9 +5,9 @@
  * coefficient, the whole number nearest to tap * 2^F, is written in the first of its forms that
  * ./fir forms lists. Plane p has for every cell the digit at place p, which is worth 2^p. The text is
  * that of RFC 4180, with the columns plane, row and digits: for each plane from 0 to 31 one line a row
- * of the grid, its digits 1, 0 and n (for -1) from column 0 on. F is the number of fraction bits, 0 to
- * 31. Taps are numbers in text, decimal or hexadecimal, with blanks or line ends between, and # starts
- * a comment.
+ * of the grid, its digits 1, 0 and n (for -1) from column 0 on. A last row that is not full is an error.
+ * F is the number of fraction bits, 0 to 31. Taps are numbers in text, decimal or hexadecimal, with
+ * blanks or line ends between, and # starts a comment.
  *   -b  the taps are binary64 numbers of 8 bytes each, low byte first, instead of text */
 #include <stdio.h>
 
@@ -19,8 +19,8 @@ struct planes {
     uint64_t plus[FIR_PLANES_LENGTH], minus[FIR_PLANES_LENGTH];
 };
 
-/* A row that the taps only begin counts as one, so too many rows are turned down before it is asked
- * whether the last is full; its other cells are 0. Rows of no cells are none. */
+/* Writes the planes of all rows that the taps begin, so that too many are turned down before it is asked
+ * whether the last is full; its other cells are 0. With a width of 0 there are no rows. */
 static uint64_t write_planes(const struct rounded_set *set, struct planes *planes) {
     size_t width = planes->width;
     planes->height = width == 0 ? 0 : (set->given.count + width - 1) / width;

@@ -11,7 +11,7 @@ use Rattle.sequence.proofs.Front.{front-done}
 use Rattle.plane_masks.specs.Binary.{bitAt}
 use Rattle.plane_masks.specs.Planes.{planeBit, cellMask}
 use Rattle.plane_masks.proofs.Binary.{binary-ext}
-use Rattle.plane_blocks.specs.Inner.{column, turned, halfWord}
+use Rattle.plane_blocks.specs.Inner.{column, transposed, halfWord}
 use Rattle.plane_blocks.proofs.Shifts.{shr-bit, mod-bit}
 
 module _ (table rows old : List ℕ) (block : ℕ) (is : rows ≡ front (halfWord table block) old 32) where
@@ -30,6 +30,6 @@ module _ (table rows old : List ℕ) (block : ℕ) (is : rows ≡ front (halfWor
   unfolding column cellMask
   column-mask b l = binary-ext 32 (λ (p : ℕ). bitAt (getD rows p 0) b) (λ (p : ℕ). planeBit table p (32 * block + b)) (λ (p : ℕ) h. row-bit p b h l)
 
-  pub turned-masks : turned rows ≡ upTo 32 (λ (b : ℕ). cellMask table (32 * block + b))
-  unfolding turned
-  turned-masks = upTo-same (column rows) (λ (b : ℕ). cellMask table (32 * block + b)) 32 column-mask
+  pub transposed-masks : transposed rows ≡ upTo 32 (λ (b : ℕ). cellMask table (32 * block + b))
+  unfolding transposed
+  transposed-masks = upTo-same (column rows) (λ (b : ℕ). cellMask table (32 * block + b)) 32 column-mask

@@ -1,8 +1,8 @@
--- Turning rows:
+-- Transposing rows:
 pub mod Shifts
 pub mod Finite
 pub mod Rows
 pub mod Stages
-pub mod Turned
+pub mod Transposed
 -- Blocks of cells:
 pub mod Blocks

@@ -1,4 +1,4 @@
--- Turning a square of 32 by 32 bits, and the rows that hold a block of cells. Definitions of the algorithm's own.
+-- Transposing a square of 32 by 32 bits, and the rows that hold a block of cells. Definitions of the algorithm's own.
 use Prim.Native.Nat.{ℕ, _+_, _*_, _/_, _%_, _^_}
 use mathlib.Core.Bool.{cond}
 use mathlib.Core.List.{List}
@@ -19,9 +19,9 @@ mixed j m from r =
 unfoldable pub column : List ℕ → ℕ → ℕ
 column rows b = binary 32 (λ (p : ℕ). bitAt (getD rows p 0) b)
 
--- bit b of row r is bit r of row b of the rows that are turned
-unfoldable pub turned : List ℕ → List ℕ
-turned rows = upTo 32 (column rows)
+-- bit b of row r is bit r of row b of the rows that are transposed
+unfoldable pub transposed : List ℕ → List ℕ
+transposed rows = upTo 32 (column rows)
 
 -- the 32 cells of a block in plane p: half a word
 unfoldable pub halfWord : List ℕ → ℕ → ℕ → ℕ

@@ -1,4 +1,4 @@
-// Planes and masks 32 cells at a time: 32 rows of 32 bits are turned, so that columns become rows.
+// Planes and masks 32 cells at a time: 32 rows of 32 bits are transposed, so that columns become rows.
 ghost use mathlib.Core.Path.{_≡_};
 ghost use mathlib.Core.List.{List, _++_};
 ghost use Prim.Native.Nat.{ℕ, _+_, _*_, _≤_, _<_};
@@ -6,9 +6,9 @@ ghost use lib.ListN.{length, getD, drop};
 ghost use Rattle.sequence.specs.UpTo.{upTo};
 ghost use Rattle.sequence.specs.Inner.{front};
 ghost use Rattle.plane_masks.specs.Planes.{cellMask};
-ghost use Rattle.plane_blocks.specs.Inner.{mixed, turned, halfWord};
+ghost use Rattle.plane_blocks.specs.Inner.{mixed, transposed, halfWord};
 
-// One of the stages that turn rows: each row is put together from two that are 16 apart.
+// One of the stages that transpose rows: each row is put together from two that are 16 apart.
 fn stage(from: &[u32], j: u32, m: u32, to: &mut [u32])
     requires { ⌜ (32 ≤ length (now from)) × (32 ≤ length (now to)) × (j < 32) ⌝ }
     ensures { λ r. ⌜ now (to .exit) ≡ front (mixed j m (now (from .entry))) (now (to .entry)) 32 ⌝ }
@@ -24,10 +24,10 @@ fn stage(from: &[u32], j: u32, m: u32, to: &mut [u32])
     }
 }
 
-// The first 32 rows turned: bit b of row r goes to bit r of row b.
-fn turn(rows: &[u32], spare: &mut [u32], to: &mut [u32])
+// The first 32 rows transposed: bit b of row r goes to bit r of row b.
+fn transpose(rows: &[u32], spare: &mut [u32], to: &mut [u32])
     requires { ⌜ (32 ≤ length (now rows)) × (32 ≤ length (now spare)) × (32 ≤ length (now to)) ⌝ }
-    ensures { λ r. ⌜ now (to .exit) ≡ turned (now (rows .entry)) ++ drop 32 (now (to .entry)) ⌝ }
+    ensures { λ r. ⌜ now (to .exit) ≡ transposed (now (rows .entry)) ++ drop 32 (now (to .entry)) ⌝ }
 {
     stage(rows, 16, 0x0000_ffff, to);
     stage(to, 8, 0x00ff_00ff, spare);
@@ -59,7 +59,7 @@ fn block_masks(table: &[u64], block: usize, masks: &mut [u32])
     let mut rows = [0u32; 32];
     let mut spare = [0u32; 32];
     gather(table, block, &mut rows);
-    turn(&rows, &mut spare, masks);
+    transpose(&rows, &mut spare, masks);
 }
 
 // The first n masks, to the places from `at` on.

@@ -27,10 +27,7 @@ fn check_sizes(
 ) -> Converted
     ensures { λ r. ⌜ answerOf r ≡ sizesAnswer height width plus minus first second ⌝ }
 {
-    if sizes::bad_side(height) {
-        return Converted::Refused(Refusal::GridSides);
-    }
-    if sizes::bad_side(width) {
+    if sizes::bad_sides(height, width) {
         return Converted::Refused(Refusal::GridSides);
     }
     if sizes::short_table(height * width, plus, minus, first, second) {

@@ -42,7 +42,7 @@ fn by_blocks(table: &[u64], cells: usize, masks: &mut [u32])
     }
 }
 
-// A few cells take less time one by one.
+// The masks of all cells. Up to three cells take less time one by one.
 pub fn read_masks(table: &[u64], cells: usize, masks: &mut [u32])
     requires { ⌜ (128 ≤ length (now table)) × (cells ≤ 256) × (cells ≤ length (now masks)) ⌝ }
     ensures { λ r. ⌜ now (masks .exit) ≡ cellMasks cells (now (table .entry)) ++ drop cells (now (masks .entry)) ⌝ }

@@ -21,7 +21,7 @@ both-pass : (a b : Bool) → a ≡ false → b ≡ false → (a || b) ≡ false
 both-pass a b e f = ap₂ (λ (x y : Bool). x || y) e f
 
 -- ---- sides
-pub side-is : (n : ℕ) → badSide n ≡ false → (1 ≤ n) × (n ≤ 16)
+side-is : (n : ℕ) → badSide n ≡ false → (1 ≤ n) × (n ≤ 16)
 side-is n e =
     let b = neither (eqb n 0) (ltb 16 n) e in
     let z = eqb-false n 0 (b .0) in
@@ -56,6 +56,11 @@ module _ (height width : ℕ) where
   -- "up to 16 by 16": at most 256 cells
   pub few-cells : height ≤ 16 → width ≤ 16 → height * width ≤ 256
   few-cells h w = mul-le-mul h w
+
+  pub good-few : badSides height width ≡ false → height * width ≤ 256
+  good-few e =
+      let s = neither (badSide height) (badSide width) e in
+      few-cells (side-is height (s .0) .1) (side-is width (s .1) .1)
 
   module _ (pw mw first second : ℕ) where
     under-length : shortTable (height * width) pw mw first second ≡ true → TableUnderLength (height * width) pw mw first second

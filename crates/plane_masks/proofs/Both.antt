@@ -1,6 +1,6 @@
 -- The cells of a word that overlap in any plane, and the lowest of them. Assumes nothing.
 use mathlib.Core.Path.{_≡_, refl, sym, ap, ap₂, _∙_}
-use mathlib.Core.Bool.{Bool, true, false, _||_}
+use mathlib.Core.Bool.{Bool, true, false, _||_, _&&_}
 use mathlib.Core.Logic.{_≢_}
 use mathlib.Core.List.{List}
 use Prim.Native.Nat.{ℕ, zero, suc, _+_, _-_, _*_, _≤_, _<_, _/_, _%_, _^_, min, max}
@@ -32,7 +32,7 @@ both-next n x plus minus j e =
     ap (λ (w : ℕ). bitOr w (bitAnd (getD plus (4 * n + j) 0) (getD minus (4 * n + j) 0))) e ∙ ap (λ (k : ℕ). bothWord k plus minus j) (sym (add-one n))
 
 -- ---- a bit that both have, and one that either has
-both-ones : (i j : ℕ) → i < 2 → j < 2 → eqb (min i j) 1 ≡ eqb (i + j) 2
+both-ones : (i j : ℕ) → i < 2 → j < 2 → eqb (min i j) 1 ≡ (eqb i 1 && eqb j 1)
 both-ones zero zero h k = refl
 both-ones zero (suc zero) h k = refl
 both-ones zero (suc (suc j)) h k = absurd (omega arith)
@@ -60,15 +60,15 @@ module _ (plus minus : List ℕ) (j b : ℕ) (low : b < 64) where
       let r : b ≡ (64 * j + b) % 64 = omega arith in
       ap₂ (λ (x y : ℕ). bitAt (getD table (4 * p + x) 0) y) q r
 
-  both-at : (p : ℕ) → eqb (bitAt (bitAnd (getD plus (4 * p + j) 0) (getD minus (4 * p + j) 0)) b) 1 ≡ eqb (planeBit plus p cell + planeBit minus p cell) 2
+  both-at : (p : ℕ) → eqb (bitAt (bitAnd (getD plus (4 * p + j) 0) (getD minus (4 * p + j) 0)) b) 1 ≡ (eqb (planeBit plus p cell) 1 && eqb (planeBit minus p cell) 1)
   both-at p =
       let x : ℕ = getD plus (4 * p + j) 0 in
       let y : ℕ = getD minus (4 * p + j) 0 in
       ap (λ (n : ℕ). eqb n 1) (and-bit x y b)
       ∙ both-ones (bitAt x b) (bitAt y b) (bit-small x b) (bit-small y b)
-      ∙ ap₂ (λ (u v : ℕ). eqb (u + v) 2) (here plus p) (here minus p)
+      ∙ ap₂ (λ (u v : ℕ). eqb u 1 && eqb v 1) (here plus p) (here minus p)
 
-  upto : (n : ℕ) → eqb (bitAt (bothWord n plus minus j) b) 1 ≡ anyBelow n (λ (p : ℕ). eqb (planeBit plus p cell + planeBit minus p cell) 2)
+  upto : (n : ℕ) → eqb (bitAt (bothWord n plus minus j) b) 1 ≡ anyBelow n (λ (p : ℕ). (eqb (planeBit plus p cell) 1 && eqb (planeBit minus p cell) 1))
   unfolding bothWord
   upto zero = ap (λ (n : ℕ). eqb n 1) (no-bit b)
   upto (suc n) =

@@ -1,11 +1,12 @@
 -- `plane-claims`: the claims of specs/Claims.antt. Assumes nothing.
 use mathlib.Core.Path.{_≡_, sym, ap, ap₂, _∙_, subst}
-use mathlib.Core.List.{List, [], _++_, map, List·Memᴰ}
-use Prim.Native.Nat.{ℕ, _*_, _≤_, _<_, _^_}
+use mathlib.Core.List.{List, [], _∷_, _++_, map, List·Memᴰ}
+use Prim.Native.Nat.{ℕ, zero, suc, _+_, _*_, _≤_, _<_, _^_}
+use native.Mathlib.Nat.{suc-mul, mul-le-mul}
 use native.Mathlib.Omega.{arith}
 use lib.IntN.{ℤ, pos}
 use lib.ListN.{length, getD, take, drop, length-append, length-map, List·getD-map, List·getD-append}
-use lib.Seq.{take-append-seam, drop-append-seam}
+use lib.Seq.{take-append-seam, drop-append-seam, getD-append-add, getD-take}
 use Rattle.refusal.specs.Answer.{Answer, given, filled}
 use Rattle.sequence.specs.UpTo.{upTo}
 use Rattle.sequence.proofs.UpTo.{length-upTo, getD-upTo, upTo-take, upTo-same}
@@ -18,7 +19,7 @@ use Rattle.signed_digit.proofs.Listing.{listing-is}
 use Rattle.form_masks.specs.Form.{formOf, stringOf, TwoMasks}
 use Rattle.form_masks.specs.Value.{valueOf}
 use Rattle.form_masks.proofs.Forms.{string-form}
-use Rattle.plane_masks.specs.Planes.{cellString, scaledSum, cellMask, cellMasks, planeWords, pastCleared, formIn}
+use Rattle.plane_masks.specs.Planes.{cellString, scaledSum, cellMask, cellMasks, planeWords, pastCleared, cellAt, joinRows, formIn}
 use Rattle.plane_masks.specs.Grid.{chosen, chosenForms}
 use Rattle.plane_masks.specs.Written.{PlanesWritten, PlanesRead}
 use Rattle.plane_masks.specs.Claims.{CanWrite, CanRead, Planes, Returned, Cells, AllBelow, PlaneClaims}
@@ -136,6 +137,38 @@ module _ (height width : ℕ) (coefficients : List ℤ) (choices plus minus plus
         minus-past = seam minus-words minus (words-length (map minusMask written-forms));
       })
 
+-- ---- row by row
+joined-at : (width : ℕ) (rows : List (List ℤ)) → ((r : ℕ) → r < length rows → length (getD rows r []) ≡ width) → (row column : ℕ) → row < length rows → column < width
+    → getD (joinRows rows) (row * width + column) (pos 0) ≡ getD (getD rows row []) column (pos 0)
+unfolding joinRows
+joined-at width [] wide row column h k = absurd (omega arith)
+joined-at width (r ∷ rows) wide zero column h k =
+    let e : 0 * width + column ≡ column = omega arith in
+    ap (λ (i : ℕ). getD (r ++ joinRows rows) i (pos 0)) e ∙ List·getD-append r (joinRows rows) (pos 0) column (omega (arith, wide 0 (omega arith)))
+joined-at width (r ∷ rows) wide (suc row) column h k =
+    let e : suc row * width + column ≡ length r + (row * width + column) = omega (arith, wide 0 (omega arith), suc-mul row width) in
+    ap (λ (i : ℕ). getD (r ++ joinRows rows) i (pos 0)) e
+    ∙ getD-append-add r (joinRows rows) (row * width + column) (pos 0)
+    ∙ joined-at width rows (λ i l. wide (suc i) (omega arith)) row column (omega arith) k
+
+cell-inside : (height width row column : ℕ) → row < height → column < width → cellAt width row column < height * width
+cell-inside height width row column h k =
+    let same : width ≤ width = omega arith in
+    let rows : suc row * width ≤ height * width = mul-le-mul h same in
+    omega (arith, suc-mul row width, rows)
+
+grid-at : (width : ℕ) (rows : List (List ℤ)) → ((r : ℕ) → r < length rows → length (getD rows r []) ≡ width)
+    → (choices plus minus plus′ minus′ : List ℕ) → PlanesWritten (length rows) width (joinRows rows) choices plus minus (given tt) plus′ minus′
+    → (row column : ℕ) → row < length rows → column < width → scaledSum plus′ minus′ (cellAt width row column) ≡ getD (getD rows row []) column (pos 0)
+grid-at width rows wide choices plus minus plus′ minus′ w row column h k =
+    let cells : ℕ = length rows * width in
+    let c : ℕ = cellAt width row column in
+    let l : c < cells = cell-inside (length rows) width row column h k in
+    sym (getD-upTo cells (scaledSum plus′ minus′) (pos 0) c l)
+    ∙ ap (λ (sums : List ℤ). getD sums c (pos 0)) (planes-left (length rows) width (joinRows rows) choices plus minus plus′ minus′ w .adds-up)
+    ∙ getD-take cells (joinRows rows) c (pos 0) l
+    ∙ joined-at width rows wide row column h k
+
 -- ---- what reading left
 module _ (height width : ℕ) (plus minus first second first′ second′ : List ℕ) (r : PlanesRead height width plus minus first second (given tt) first′ second′) where
   abbrev read-cells : ℕ
@@ -247,6 +280,7 @@ module _ (height width : ℕ) (coefficients : List ℤ) (choices plus minus plus
 pub plane-claims : PlaneClaims
 plane-claims = record {
   written = planes-left;
+  row-by-row = grid-at;
   there-and-back = returned;
   read = cells-left;
   back-and-there = words-again;

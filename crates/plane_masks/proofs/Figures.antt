@@ -17,17 +17,30 @@ use Rattle.signed_digit.specs.Forms.{listing}
 use Rattle.signed_digit.specs.Figures.{form}
 use Rattle.signed_digit.proofs.Figures.{figures}
 use Rattle.plane_masks.specs.Binary.{binary}
-use Rattle.plane_masks.specs.Planes.{cellMask, cellMasks, planeWord, planeWords}
+use Rattle.plane_masks.specs.Planes.{cellMask, cellMasks, planeWord, planeWords, joinRows}
 use Rattle.plane_masks.specs.Grid.{noForm, chosen, chosenForms, formlessCell, sizesAnswer, planesAnswer, overlaps, cellsAnswer}
 use Rattle.plane_masks.specs.Written.{PlanesWritten, PlanesRead}
 use Rattle.plane_masks.specs.Claims.{AllBelow, CanWrite, HasForm}
-use Rattle.plane_masks.specs.Figures.{threeCells, threePlus, threeMinus, twoCells, PlaneFigures}
+use Rattle.plane_masks.specs.Figures.{threeCells, threePlus, threeMinus, twoCells, farCells, PlaneFigures}
 use Rattle.plane_masks.proofs.Lists.{lowest-cell as lowest-cell-is}
 use Rattle.plane_masks.proofs.Answers.{fits-given, found-at, writes}
 
 three-read : PlanesRead 1 3 threePlus threeMinus (7 ∷ 7 ∷ 7 ∷ 7 ∷ []) (7 ∷ 7 ∷ 7 ∷ []) (given tt) ((32 + 8 + 4 + 1) ∷ 0 ∷ 0 ∷ 7 ∷ []) (0 ∷ 0 ∷ 2 ^ 31 ∷ [])
 unfolding cellsAnswer sizesAnswer lowestFrom upTo overlaps cellMasks cellMask binary
 three-read = record { answer = refl; plus-left = refl; minus-left = refl }
+
+far-read : PlanesRead 16 16 farCells (replicate 128 0) (replicate 256 7) (replicate 256 7) (given tt)
+    (replicate 63 0 ++ (2 ^ 5 ∷ 1 ∷ (replicate 190 0 ++ (2 ^ 31 ∷ [])))) (replicate 256 0)
+unfolding cellsAnswer sizesAnswer lowestFrom upTo overlaps cellMasks cellMask binary
+far-read = record { answer = refl; plus-left = refl; minus-left = refl }
+
+far-overlap : PlanesRead 16 16 farCells farCells (replicate 256 7) (replicate 256 7) (refused 8 63) (replicate 256 7) (replicate 256 7)
+unfolding cellsAnswer sizesAnswer lowestFrom upTo overlaps
+far-overlap = record { answer = refl; plus-left = refl; minus-left = refl }
+
+two-rows : joinRows ((pos 1 ∷ pos 2 ∷ []) ∷ (pos 3 ∷ pos 4 ∷ []) ∷ []) ≡ pos 1 ∷ pos 2 ∷ pos 3 ∷ pos 4 ∷ []
+unfolding joinRows
+two-rows = refl
 
 lowest-cell : PlanesRead 1 2 twoCells twoCells (0 ∷ 0 ∷ []) (0 ∷ 0 ∷ []) (refused 8 0) (0 ∷ 0 ∷ []) (0 ∷ 0 ∷ [])
 unfolding cellsAnswer sizesAnswer lowestFrom upTo overlaps
@@ -167,6 +180,9 @@ plane-figures = record {
   three-written = three-written;
   three-read = three-read;
   three-words = (small-below (2 ^ 64) threePlus (omega arith) refl, small-below (2 ^ 64) threeMinus (omega arith) refl);
+  far-read = far-read;
+  far-overlap = far-overlap;
+  two-rows = two-rows;
   whole-grid = whole-grid;
   lowest-cell = lowest-cell;
   past-ignored = past-ignored;

@@ -1,11 +1,11 @@
 -- The string that two tables hold for a cell: its value is the sum of the scaled planes, and where the cell overlaps in no plane, its masks are those that the
 -- tables hold. Assumes nothing.
 use mathlib.Core.Path.{_≡_, refl, sym, ap, ap₂, _∙_, subst}
-use mathlib.Core.Bool.{Bool, true, false, _||_, true≢false}
+use mathlib.Core.Bool.{Bool, true, false, _||_, _&&_, true≢false}
 use mathlib.Core.List.{List}
 use Prim.Native.Nat.{ℕ, zero, suc, _+_, _<_, _^_}
 use native.Mathlib.Omega.{arith}
-use borrow.Author.Tests.{ne-eqb, eqb-true, eqb-false}
+use borrow.Author.Tests.{eqb-true, eqb-false, eq-eqb}
 use lib.Dec.{eqb}
 use lib.IntN.{ℤ, pos, _+ℤ_, _*ℤ_}
 use lib.ListN.{length}
@@ -65,27 +65,37 @@ module _ (plus minus : List ℕ) (c : ℕ) where
   minus-small : (p : ℕ) → planeBit minus p c < 2
   minus-small p = bit-small _ _
 
-  two : (x y : ℕ) → x < 2 → y < 2 → x + y ≡ 2 → (x ≡ 1) × (y ≡ 1)
-  two x y h k e = omega arith
+  both-true : (a b : Bool) → (a && b) ≡ true → (a ≡ true) × (b ≡ true)
+  both-true true b e = (refl, e)
+  both-true false b e = absurd (true≢false (sym e))
 
-  both : (p : ℕ) → planeBit plus p c + planeBit minus p c ≡ 2 → InBoth plus minus c p
-  both p e = let q = two (planeBit plus p c) (planeBit minus p c) (plus-small p) (minus-small p) e in record { in-plus = q .0; in-minus = q .1 }
+  -- the test of a plane
+  abbrev shared : ℕ → Bool
+  shared p = eqb (planeBit plus p c) 1 && eqb (planeBit minus p c) 1
+
+  in-both : (p : ℕ) → shared p ≡ true → InBoth plus minus c p
+  in-both p e =
+      let b = both-true (eqb (planeBit plus p c) 1) (eqb (planeBit minus p c) 1) e in
+      record { in-plus = eqb-true (planeBit plus p c) 1 (b .0); in-minus = eqb-true (planeBit minus p c) 1 (b .1) }
+
+  is-shared : (p : ℕ) → InBoth plus minus c p → shared p ≡ true
+  is-shared p o = ap₂ (λ (a b : Bool). a && b) (eq-eqb (planeBit plus p c) 1 (o .in-plus)) (eq-eqb (planeBit minus p c) 1 (o .in-minus))
 
   pub not-apart : overlaps plus minus c ≡ true → (p : ℕ) × (p < 32) × InBoth plus minus c p
   unfolding overlaps
-  not-apart e =
-      let r = below-some 32 (λ (p : ℕ). eqb (planeBit plus p c + planeBit minus p c) 2) e in
-      (r .0, r .1, both (r .0) (eqb-true (planeBit plus (r .0) c + planeBit minus (r .0) c) 2 (r .2)))
+  not-apart e = let r = below-some 32 shared e in (r .0, r .1, in-both (r .0) (r .2))
 
   pub are-apart : overlaps plus minus c ≡ false → Apart plus minus c
   unfolding overlaps
-  are-apart e p h o =
-      eqb-false (planeBit plus p c + planeBit minus p c) 2 (below-none 32 (λ (p : ℕ). eqb (planeBit plus p c + planeBit minus p c) 2) e p h)
-      (omega (arith, o .in-plus, o .in-minus))
+  are-apart e p h o = true≢false (sym (is-shared p o) ∙ below-none 32 shared e p h)
 
   pub apart-is : Apart plus minus c → overlaps plus minus c ≡ false
   unfolding overlaps
-  apart-is a = none-below 32 (λ (p : ℕ). eqb (planeBit plus p c + planeBit minus p c) 2) (λ p h. ne-eqb (planeBit plus p c + planeBit minus p c) 2 (λ e. a p h (both p e)))
+  apart-is a = none-below 32 shared (λ p h. go p h (shared p) refl)
+    where
+      go : (p : ℕ) → p < 32 → (t : Bool) → shared p ≡ t → shared p ≡ false
+      go p h true e = absurd (a p h (in-both p e))
+      go p h false e = e
 
   -- ---- its string
   pub string-length : length (cellString plus minus c) ≡ 32
@@ -117,7 +127,10 @@ module _ (plus minus : List ℕ) (c : ℕ) where
     minus-bit (suc x) (suc y) h k n = absurd (n (omega arith))
 
     not-two : (p : ℕ) → p < 32 → planeBit plus p c + planeBit minus p c ≡ 2 → ⊥
-    not-two p h e = apart p h (both p e)
+    not-two p h e =
+        let x = plus-small p in
+        let y = minus-small p in
+        apart p h (record { in-plus = omega (arith, x, y, e); in-minus = omega (arith, x, y, e) })
 
     fits : plusMask (cellString plus minus c) + minusMask (cellString plus minus c) < 2 ^ 32
     fits = omega (arith, small (cellString plus minus c), ap (λ (n : ℕ). 2 ^ n) string-length)

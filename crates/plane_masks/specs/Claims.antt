@@ -1,6 +1,6 @@
 -- What is claimed of digit planes, in the words of document 02, request 3. Statements only; proofs/Claims.antt proves `PlaneClaims`.
 use mathlib.Core.Path.{_≡_}
-use mathlib.Core.List.{List, map, List·Memᴰ}
+use mathlib.Core.List.{List, [], map, List·Memᴰ}
 use mathlib.Core.Logic.{_↔_}
 use Prim.Native.Nat.{ℕ, _*_, _≤_, _<_, _^_}
 use lib.IntN.{ℤ, pos}
@@ -11,7 +11,7 @@ use Rattle.signed_digit.specs.Digit.{nought}
 use Rattle.signed_digit.specs.Forms.{listing}
 use Rattle.form_masks.specs.Form.{formOf, stringOf, TwoMasks}
 use Rattle.form_masks.specs.Value.{valueOf}
-use Rattle.plane_masks.specs.Planes.{planeBit, digitIn, cellString, scaledSum, planeWords, pastCleared, formIn}
+use Rattle.plane_masks.specs.Planes.{planeBit, digitIn, cellString, scaledSum, planeWords, pastCleared, cellAt, joinRows, formIn}
 use Rattle.plane_masks.specs.Grid.{chosen, chosenForms}
 use Rattle.plane_masks.specs.Written.{PlanesWritten, PlanesRead}
 
@@ -55,7 +55,7 @@ pub record InBoth (plus minus : List ℕ) (c p : ℕ) : Type 0 where
 abbrev pub Apart : List ℕ → List ℕ → ℕ → Type 0
 Apart plus minus c = (p : ℕ) → p < 32 → InBoth plus minus c p → ⊥
 
--- what a number and a place mean that both entries return first; `first` and `second` are the lengths of the tables with an element per cell
+-- what the numbers and places mean that come of the sizes; `first` and `second` are the lengths of the two tables with an element per cell
 pub data SizeRefusals (height width plusWords minusWords first second number place : ℕ) : Type 0 where
   -- "14 when a side is 0 or above 16, before 3, place 0"
   grid-sides : number ≡ 14 → place ≡ 0 → BadSides height width → SizeRefusals height width plusWords minusWords first second number place
@@ -98,7 +98,7 @@ pub record Planes (cells : ℕ) (coefficients : List ℤ) (choices plus minus pl
   pub strings : upTo cells (cellString plus′ minus′) ≡ chosenForms cells coefficients choices
   -- "planes scaled by their powers add up to the grid"
   pub adds-up : upTo cells (scaledSum plus′ minus′) ≡ take cells coefficients
-  -- "Mask bits past the last cell are written 0"
+  -- "Mask bits past the last cell are written 0": a digit is 0 where neither table has the bit
   pub past : (p c : ℕ) → p < 32 → cells ≤ c → c < 256 → digitIn plus′ minus′ p c ≡ nought
   -- a plane's two masks never share a cell
   pub apart : (c : ℕ) → c < 256 → Apart plus′ minus′ c
@@ -107,22 +107,22 @@ pub record Planes (cells : ℕ) (coefficients : List ℤ) (choices plus minus pl
   pub minus-past : drop 128 minus′ ≡ drop 128 minus
 
 -- by reading what writing left
-pub record Returned (cells : ℕ) (coefficients : List ℤ) (choices : List ℕ) (a : Answer (Unit {0})) (first′ second′ : List ℕ) : Type 0 where
+pub record Returned (cells : ℕ) (coefficients : List ℤ) (choices : List ℕ) (a : Answer (Unit {0})) (cellPlus′ cellMinus′ : List ℕ) : Type 0 where
   pub accepted : a ≡ given tt
-  pub forms : upTo cells (formIn first′ second′) ≡ map formOf (chosenForms cells coefficients choices)
-  pub strings : upTo cells (λ (c : ℕ). stringOf (formIn first′ second′ c)) ≡ chosenForms cells coefficients choices
+  pub forms : upTo cells (formIn cellPlus′ cellMinus′) ≡ map formOf (chosenForms cells coefficients choices)
+  pub strings : upTo cells (λ (c : ℕ). stringOf (formIn cellPlus′ cellMinus′ c)) ≡ chosenForms cells coefficients choices
 
--- by reading any planes, in tables that were first and second
-pub record Cells (cells : ℕ) (plus minus first second first′ second′ : List ℕ) : Type 0 where
+-- by reading any planes, in tables that were cellPlus and cellMinus
+pub record Cells (cells : ℕ) (plus minus cellPlus cellMinus cellPlus′ cellMinus′ : List ℕ) : Type 0 where
   -- "each cell's two masks"
-  pub two-masks : (c : ℕ) → c < cells → TwoMasks (formIn first′ second′ c)
+  pub two-masks : (c : ℕ) → c < cells → TwoMasks (formIn cellPlus′ cellMinus′ c)
   -- their digits are those of the planes
-  pub strings : upTo cells (λ (c : ℕ). stringOf (formIn first′ second′ c)) ≡ upTo cells (cellString plus minus)
+  pub strings : upTo cells (λ (c : ℕ). stringOf (formIn cellPlus′ cellMinus′ c)) ≡ upTo cells (cellString plus minus)
   -- their values are the sums of the scaled planes
-  pub values : upTo cells (λ (c : ℕ). valueOf (formIn first′ second′ c)) ≡ upTo cells (λ (c : ℕ). given (scaledSum plus minus c))
+  pub values : upTo cells (λ (c : ℕ). valueOf (formIn cellPlus′ cellMinus′ c)) ≡ upTo cells (λ (c : ℕ). given (scaledSum plus minus c))
   -- what lies past the cells is as it was
-  pub plus-past : drop cells first′ ≡ drop cells first
-  pub minus-past : drop cells second′ ≡ drop cells second
+  pub plus-past : drop cells cellPlus′ ≡ drop cells cellPlus
+  pub minus-past : drop cells cellMinus′ ≡ drop cells cellMinus
 
 -- every element of a table is below a bound, as 64-bit words are below 2^64
 abbrev pub AllBelow : ℕ → List ℕ → Type 0
@@ -132,28 +132,32 @@ pub record PlaneClaims : Type 0 where
   -- ---- "Given a grid and one listed form per cell, the part writes 32 planes"
   pub written : (height width : ℕ) (coefficients : List ℤ) (choices plus minus plus′ minus′ : List ℕ)
       → PlanesWritten height width coefficients choices plus minus (given tt) plus′ minus′ → Planes (height * width) coefficients choices plus minus plus′ minus′
+  -- "Cells count row by row": of a grid given as rows of equal width, the coefficient in a row and a column stands in the planes at the cell of these
+  pub row-by-row : (width : ℕ) (rows : List (List ℤ)) → ((r : ℕ) → r < length rows → length (getD rows r []) ≡ width)
+      → (choices plus minus plus′ minus′ : List ℕ) → PlanesWritten (length rows) width (joinRows rows) choices plus minus (given tt) plus′ minus′
+      → (row column : ℕ) → row < length rows → column < width → scaledSum plus′ minus′ (cellAt width row column) ≡ getD (getD rows row []) column (pos 0)
   -- ---- "Turning there and back returns every form"
   pub there-and-back : (height width : ℕ) (coefficients : List ℤ) (choices plus minus plus′ minus′ : List ℕ)
       → PlanesWritten height width coefficients choices plus minus (given tt) plus′ minus′
-      → (first second : List ℕ) (a : Answer (Unit {0})) (first′ second′ : List ℕ) → height * width ≤ length first → height * width ≤ length second
-      → PlanesRead height width plus′ minus′ first second a first′ second′ → Returned (height * width) coefficients choices a first′ second′
+      → (cellPlus cellMinus : List ℕ) (a : Answer (Unit {0})) (cellPlus′ cellMinus′ : List ℕ) → height * width ≤ length cellPlus → height * width ≤ length cellMinus
+      → PlanesRead height width plus′ minus′ cellPlus cellMinus a cellPlus′ cellMinus′ → Returned (height * width) coefficients choices a cellPlus′ cellMinus′
   -- ---- "another part turns planes back into each cell's two masks", whatever planes without an overlap
-  pub read : (height width : ℕ) (plus minus first second first′ second′ : List ℕ) → PlanesRead height width plus minus first second (given tt) first′ second′
-      → Cells (height * width) plus minus first second first′ second′
+  pub read : (height width : ℕ) (plus minus cellPlus cellMinus cellPlus′ cellMinus′ : List ℕ) → PlanesRead height width plus minus cellPlus cellMinus (given tt) cellPlus′ cellMinus′
+      → Cells (height * width) plus minus cellPlus cellMinus cellPlus′ cellMinus′
   -- back and there: the words made of the masks that are read are those of the planes, but for "Mask bits past the last cell", which are "written 0 and ignored when
   -- read". So reading loses nothing else
-  pub back-and-there : (height width : ℕ) (plus minus first second first′ second′ : List ℕ) → PlanesRead height width plus minus first second (given tt) first′ second′
+  pub back-and-there : (height width : ℕ) (plus minus cellPlus cellMinus cellPlus′ cellMinus′ : List ℕ) → PlanesRead height width plus minus cellPlus cellMinus (given tt) cellPlus′ cellMinus′
       → AllBelow (2 ^ 64) plus → AllBelow (2 ^ 64) minus
-      → (planeWords (take (height * width) first′) ≡ pastCleared (height * width) plus) × (planeWords (take (height * width) second′) ≡ pastCleared (height * width) minus)
+      → (planeWords (take (height * width) cellPlus′) ≡ pastCleared (height * width) plus) × (planeWords (take (height * width) cellMinus′) ≡ pastCleared (height * width) minus)
   -- ---- what is accepted, exactly
   pub writes : (height width : ℕ) (coefficients : List ℤ) (choices plus minus : List ℕ) (a : Answer (Unit {0})) (plus′ minus′ : List ℕ)
       → PlanesWritten height width coefficients choices plus minus a plus′ minus′ → a ≡ given tt ↔ CanWrite height width coefficients choices (length plus) (length minus)
-  pub reads : (height width : ℕ) (plus minus first second : List ℕ) (a : Answer (Unit {0})) (first′ second′ : List ℕ)
-      → PlanesRead height width plus minus first second a first′ second′ → a ≡ given tt ↔ CanRead height width plus minus (length first) (length second)
+  pub reads : (height width : ℕ) (plus minus cellPlus cellMinus : List ℕ) (a : Answer (Unit {0})) (cellPlus′ cellMinus′ : List ℕ)
+      → PlanesRead height width plus minus cellPlus cellMinus a cellPlus′ cellMinus′ → a ≡ given tt ↔ CanRead height width plus minus (length cellPlus) (length cellMinus)
   -- ---- what is turned down, and lent memory is then unchanged
   pub writing-refused : (height width : ℕ) (coefficients : List ℤ) (choices plus minus : List ℕ) (number place : ℕ) (plus′ minus′ : List ℕ)
       → PlanesWritten height width coefficients choices plus minus (refused number place) plus′ minus′
       → WritingRefusals height width coefficients choices (length plus) (length minus) number place × (plus′ ≡ plus) × (minus′ ≡ minus)
-  pub reading-refused : (height width : ℕ) (plus minus first second : List ℕ) (number place : ℕ) (first′ second′ : List ℕ)
-      → PlanesRead height width plus minus first second (refused number place) first′ second′
-      → ReadingRefusals height width plus minus (length first) (length second) number place × (first′ ≡ first) × (second′ ≡ second)
+  pub reading-refused : (height width : ℕ) (plus minus cellPlus cellMinus : List ℕ) (number place : ℕ) (cellPlus′ cellMinus′ : List ℕ)
+      → PlanesRead height width plus minus cellPlus cellMinus (refused number place) cellPlus′ cellMinus′
+      → ReadingRefusals height width plus minus (length cellPlus) (length cellMinus) number place × (cellPlus′ ≡ cellPlus) × (cellMinus′ ≡ cellMinus)

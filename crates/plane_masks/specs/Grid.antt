@@ -1,6 +1,6 @@
 -- What writing and reading planes answer. Document 02, request 3, and document 01, "Turned down". Definitions only.
-use Prim.Native.Nat.{ℕ, zero, suc, _+_, _*_}
-use mathlib.Core.Bool.{Bool, false, not, _||_}
+use Prim.Native.Nat.{ℕ, zero, suc, _*_}
+use mathlib.Core.Bool.{Bool, false, not, _||_, _&&_}
 use mathlib.Core.List.{List, []}
 use lib.Dec.{eqb, ltb}
 use lib.IntN.{ℤ, pos}
@@ -42,7 +42,7 @@ noForm coefficients choices c = not (ltb (getD choices c 0) (length (listing 32 
 abbrev pub chosen : List ℤ → List ℕ → ℕ → DigitString
 chosen coefficients choices c = getD (listing 32 (getD coefficients c (pos 0))) (getD choices c 0) []
 
--- "one listed form per cell", the cells "row by row"
+-- "one listed form per cell", in the order of the cells
 unfoldable pub chosenForms : ℕ → List ℤ → List ℕ → List DigitString
 chosenForms cells coefficients choices = upTo cells (chosen coefficients choices)
 
@@ -63,7 +63,7 @@ anyBelow (suc n) f = anyBelow n f || f n
 
 -- "overlaps in any plane": both tables have the bit
 unfoldable pub overlaps : List ℕ → List ℕ → ℕ → Bool
-overlaps plus minus c = anyBelow 32 (λ (p : ℕ). eqb (planeBit plus p c + planeBit minus p c) 2)
+overlaps plus minus c = anyBelow 32 (λ (p : ℕ). eqb (planeBit plus p c) 1 && eqb (planeBit minus p c) 1)
 
 -- check 8: "the lowest cell that overlaps in any plane"; bits past the last cell are "ignored when read"
 abbrev pub overlapCell : ℕ → List ℕ → List ℕ → Place

@@ -1,6 +1,6 @@
 -- Digit planes in two mask tables, and the masks of cells. Document 02, request 3. Definitions only.
 use Prim.Native.Nat.{ℕ, _+_, _-_, _*_, _/_, _%_, _^_}
-use mathlib.Core.List.{List}
+use mathlib.Core.List.{List, [], _∷_, _++_}
 use lib.IntN.{ℤ, pos, _*ℤ_}
 use lib.ListN.{getD}
 use Rattle.sequence.specs.Sum.{sumBelow}
@@ -48,6 +48,15 @@ planeWords masks = upTo 128 (planeWord masks)
 -- the 128 words of a table with the bits past the last cell cleared
 unfoldable pub pastCleared : ℕ → List ℕ → List ℕ
 pastCleared cells table = upTo 128 (λ (k : ℕ). getD table k 0 % 2 ^ (cells - 64 * (k % 4)))
+
+-- "Cells count row by row"
+abbrev pub cellAt : ℕ → ℕ → ℕ → ℕ
+cellAt width row column = row * width + column
+
+-- a grid, given as its rows, cell by cell
+unfoldable pub joinRows : List (List ℤ) → List ℤ
+joinRows [] = []
+joinRows (row ∷ rows) = row ++ joinRows rows
 
 -- the two masks that stand for cell c in two tables with one element per cell
 abbrev pub formIn : List ℕ → List ℕ → ℕ → Form

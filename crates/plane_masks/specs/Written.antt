@@ -16,9 +16,9 @@ pub record PlanesWritten (height width : ℕ) (coefficients : List ℤ) (choices
   pub plus-left : plus′ ≡ filled (planesAnswer height width coefficients choices (length plus) (length minus)) (planeWords (map plusMask (chosenForms (height * width) coefficients choices))) plus
   pub minus-left : minus′ ≡ filled (planesAnswer height width coefficients choices (length plus) (length minus)) (planeWords (map minusMask (chosenForms (height * width) coefficients choices))) minus
 
--- reading planes into the lent tables first and second, the masks of the 1s and of the -1s of each cell, answers a and leaves first′ and second′: the contract of
+-- reading planes into the lent tables cellPlus and cellMinus, the masks of the 1s and of the -1s of each cell, answers a and leaves cellPlus′ and cellMinus′: the contract of
 -- `read_planes`, and what every claim about it speaks of
-pub record PlanesRead (height width : ℕ) (plus minus first second : List ℕ) (a : Answer (Unit {0})) (first′ second′ : List ℕ) : Type 0 where
-  pub answer : a ≡ cellsAnswer height width plus minus (length first) (length second)
-  pub plus-left : first′ ≡ filled (cellsAnswer height width plus minus (length first) (length second)) (cellMasks (height * width) plus) first
-  pub minus-left : second′ ≡ filled (cellsAnswer height width plus minus (length first) (length second)) (cellMasks (height * width) minus) second
+pub record PlanesRead (height width : ℕ) (plus minus cellPlus cellMinus : List ℕ) (a : Answer (Unit {0})) (cellPlus′ cellMinus′ : List ℕ) : Type 0 where
+  pub answer : a ≡ cellsAnswer height width plus minus (length cellPlus) (length cellMinus)
+  pub plus-left : cellPlus′ ≡ filled (cellsAnswer height width plus minus (length cellPlus) (length cellMinus)) (cellMasks (height * width) plus) cellPlus
+  pub minus-left : cellMinus′ ≡ filled (cellsAnswer height width plus minus (length cellPlus) (length cellMinus)) (cellMasks (height * width) minus) cellMinus

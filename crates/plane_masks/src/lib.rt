@@ -10,8 +10,8 @@ ghost use Rattle.plane_masks.specs.Planes.{cellMask, planeWords};
 ghost use Rattle.plane_masks.specs.Grid.{overlapCell};
 ghost use Rattle.plane_masks.specs.Inner.{withCell, bothWord};
 
-// The lowest place where x has a one.
-fn lowest_place(x: u32) -> usize
+// A place where x has a one.
+fn some_place(x: u32) -> usize
     requires { ⌜ x ≢ 0 ⌝ }
     ensures { λ r. ⌜ (r < 32) × (x / 2 ^ r % 2 ≡ 1) ⌝ }
 {
@@ -47,7 +47,8 @@ pub fn clear(table: &mut [u64])
     }
 }
 
-// Cell c of a table that has nothing from cell c on: only the ones of the mask are written.
+// Writes the mask of cell c into a table that has nothing from cell c on. Only words with a one of it
+// are touched.
 pub fn write_cell(table: &mut [u64], c: usize, mask: u32)
     requires { ⌜ (128 ≤ length (now table)) × (c < 256) ⌝ }
     requires { ⌜ ((p : ℕ) → p < 32 → getD (now table) (4 * p + c / 64) 0 < 2 ^ (c % 64)) ⌝ }
@@ -57,7 +58,7 @@ pub fn write_cell(table: &mut [u64], c: usize, mask: u32)
     let bit: u64 = 1u64 << (c % 64);
     let mut rest = mask;
     while rest != 0 {
-        let p = lowest_place(rest);
+        let p = some_place(rest);
         table[4 * p + j] += bit;
         rest -= 1u32 << p;
     }

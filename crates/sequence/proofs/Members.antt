@@ -1,4 +1,4 @@
--- A member of a list, by its number, and the elements of a list of one element. Assumes nothing.
+-- A member of a list, by its number, and the elements of a list that repeats one. Assumes nothing.
 use mathlib.Core.Path.{_≡_, refl}
 use mathlib.Core.List.{List, [], _∷_, List·Memᴰ, List·Memᴰ·head, List·Memᴰ·tail}
 use Prim.Native.Nat.{ℕ, zero, suc, _<_}

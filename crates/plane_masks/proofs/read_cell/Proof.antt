@@ -58,7 +58,7 @@ cast-mask : tie.Need-cast-mask Inv-loop μ-loop
 cast-mask c = search needs
 
 add-mask : tie.Need-add-mask Inv-loop μ-loop
-add-mask c = record { fits = within c }
+add-mask c = record { fits = omega (arith, within c) }
 
 loop-less : tie.Need-loop-less Inv-loop μ-loop
 loop-less c = search needs

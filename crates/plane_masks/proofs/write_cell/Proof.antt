@@ -17,11 +17,11 @@ start c = c .before .before .before .before .before
 
 -- the place that is taken
 step : (c : tie.After-slice-known2 Inv-loop μ-loop)
-    → Step (start c .args .table .now) (start c .args .c) (start c .args .mask) (c .before .before .before .loop .rest) (c .before .before .before .loop .table) (c .before .lowest-place .result)
+    → Step (start c .args .table .now) (start c .args .c) (start c .args .mask) (c .before .before .before .loop .rest) (c .before .before .before .loop .table) (c .before .some-place .result)
 step c =
     let pre = start c .pre in
-    let lowest = c .before .lowest-place .ensures in
-    record { few = pre .0 .1; long = pre .0 .0; so-far = c .before .before .before .loop .inv; low = lowest .0; one = lowest .1 }
+    let place = c .before .some-place .ensures in
+    record { few = pre .0 .1; long = pre .0 .0; so-far = c .before .before .before .loop .inv; low = place .0; one = place .1 }
 
 shl-bit : tie.Need-shl-bit Inv-loop μ-loop
 shl-bit c = search needs
@@ -29,8 +29,8 @@ shl-bit c = search needs
 loop-holds : tie.Need-loop-holds Inv-loop μ-loop
 loop-holds c = let args = c .before .args in adding-start (args .table .now) (args .c) (args .mask)
 
-lowest-place-requires : tie.Need-lowest-place-requires Inv-loop μ-loop
-lowest-place-requires c κs = λ e. omega (arith, e)
+some-place-requires : tie.Need-some-place-requires Inv-loop μ-loop
+some-place-requires c κs = λ e. omega (arith, e)
 
 mul-table : tie.Need-mul-table Inv-loop μ-loop
 mul-table c = search needs
@@ -46,7 +46,7 @@ slice-read-table c = let s = step c in omega (arith, s .low, s .long, s .so-far 
 
 add-table-2 : tie.Need-add-table-2 Inv-loop μ-loop
 add-table-2 c =
-    let place = c .before .lowest-place in
+    let place = c .before .some-place in
     record { fits = machine-fits (step c) (start c .pre .1 (place .result) (place .ensures .0)) }
 
 slice-write-table : tie.Need-slice-write-table Inv-loop μ-loop
@@ -85,7 +85,7 @@ write-cell-spec =
     μ-loop
     shl-bit
     loop-holds
-    lowest-place-requires
+    some-place-requires
     mul-table
     add-table
     mul-table-2

@@ -1,8 +1,8 @@
--- `plane_blocks::turn` meets its contract: what the five stages leave, one after the other, is what `all-turned` speaks of. Assumes nothing.
+-- `plane_blocks::transpose` meets its contract: what the five stages leave, one after the other, is what `all-transposed` speaks of. Assumes nothing.
 use borrow.Author.Needs.{needs}
-use Rattle.plane_blocks.proofs.Turned.{all-turned}
-use Rattle.plane_blocks.proofs.turn.Statement.{statement}
-use Rattle.plane_blocks.proofs.turn.Tie as tie
+use Rattle.plane_blocks.proofs.Transposed.{all-transposed}
+use Rattle.plane_blocks.proofs.transpose.Statement.{statement}
+use Rattle.plane_blocks.proofs.transpose.Tie as tie
 
 stage-requires : tie.Need-stage-requires
 stage-requires c κs = search needs
@@ -33,12 +33,12 @@ returns c =
     let after-stage2 = after-stage3 .before .before .before .before .before in
     let after-stage = after-stage2 .before .before .before .before .before in
     let args = after-stage .before .before .before .before .before .args in
-    all-turned (args .rows .now) (args .spare .now) (args .to .now) (after-stage .stage .last .1 .1 .1 .0) (after-stage2 .stage2 .last .1 .1 .1 .0)
+    all-transposed (args .rows .now) (args .spare .now) (args .to .now) (after-stage .stage .last .1 .1 .1 .0) (after-stage2 .stage2 .last .1 .1 .1 .0)
     (after-stage3 .stage3 .last .1 .1 .1 .0) (after-stage4 .stage4 .last .1 .1 .1 .0) (after-stage5 .stage5 .last .1 .1 .1 .0)
     (after-stage .stage .ensures) (after-stage2 .stage2 .ensures) (after-stage3 .stage3 .ensures) (after-stage4 .stage4 .ensures) (after-stage5 .stage5 .ensures)
 
-pub turn-spec : {M : Type 1} → statement M
-turn-spec =
+pub transpose-spec : {M : Type 1} → statement M
+transpose-spec =
     tie.close
     (tie.spec
     stage-requires

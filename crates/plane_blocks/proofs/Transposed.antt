@@ -1,4 +1,4 @@
--- Five stages turn 32 rows. Assumes nothing.
+-- Five stages transpose 32 rows. Assumes nothing.
 use mathlib.Core.Path.{_≡_, refl, sym, ap, ap₂, _∙_}
 use mathlib.Core.Bool.{Bool, true, _&&_}
 use mathlib.Core.List.{List, _++_}
@@ -13,7 +13,7 @@ use Rattle.sequence.proofs.UpTo.{length-upTo, upTo-same}
 use Rattle.sequence.proofs.Front.{front-done}
 use Rattle.plane_masks.specs.Binary.{bitAt}
 use Rattle.plane_masks.proofs.Binary.{binary-ext, binary-whole}
-use Rattle.plane_blocks.specs.Inner.{mixed, column, turned}
+use Rattle.plane_blocks.specs.Inner.{mixed, column, transposed}
 use Rattle.plane_blocks.proofs.Rows.{mixed-small}
 use Rattle.plane_blocks.proofs.Finite.{and-true, allBelow, all-at}
 use Rattle.plane_blocks.proofs.Stages.{rowOf, placeOf, apart, apart-at, stage-bit, in-rows, in-places}
@@ -44,16 +44,16 @@ leads-on j m f g k old row place e p is = record { same = same }
 abbrev fiveTimes : (ℕ → ℕ → ℕ) → ℕ → ℕ → ℕ
 fiveTimes at = after 1 (after 2 (after 4 (after 8 (after 16 at))))
 
-abbrev turns : ℕ → ℕ → Bool
-turns r b = eqb (fiveTimes (λ (r b : ℕ). r) r b) b && eqb (fiveTimes (λ (r b : ℕ). b) r b) r
+abbrev transposes : ℕ → ℕ → Bool
+transposes r b = eqb (fiveTimes (λ (r b : ℕ). r) r b) b && eqb (fiveTimes (λ (r b : ℕ). b) r b) r
 
-all-turn : allBelow 32 (λ (r : ℕ). allBelow 32 (turns r)) ≡ true
-all-turn = refl
+all-transpose : allBelow 32 (λ (r : ℕ). allBelow 32 (transposes r)) ≡ true
+all-transpose = refl
 
 pub changed-about : (f g : List ℕ) → Leads f g (fiveTimes (λ (r b : ℕ). r)) (fiveTimes (λ (r b : ℕ). b)) → (r b : ℕ) → r < 32 → b < 32
     → bitAt (getD g r 0) b ≡ bitAt (getD f b 0) r
 changed-about f g p r b h l =
-    let w = and-true (eqb (fiveTimes (λ (r b : ℕ). r) r b) b) _ (all-at 32 (turns r) (all-at 32 (λ (r : ℕ). allBelow 32 (turns r)) all-turn r h) b l) in
+    let w = and-true (eqb (fiveTimes (λ (r b : ℕ). r) r b) b) _ (all-at 32 (transposes r) (all-at 32 (λ (r : ℕ). allBelow 32 (transposes r)) all-transpose r h) b l) in
     p .same r b h l ∙ ap₂ (λ (r b : ℕ). bitAt (getD f r 0) b) (eqb-true _ b (w .0)) (eqb-true _ r (w .1))
 
 past : (g : ℕ → ℕ) (old : List ℕ) → drop 32 (front g old 32) ≡ drop 32 old
@@ -82,9 +82,9 @@ module _ (rows spare to a b c d e : List ℕ) (is-a : a ≡ front (mixed 16 6553
       ∙ binary-ext 32 (bitAt (mixed 1 1431655765 d r)) (λ (p : ℕ). bitAt (getD rows p 0) r) (λ (p : ℕ) l.
       ap (λ (x : ℕ). bitAt x p) (sym (ap (λ (t : List ℕ). getD t r 0) is-e ∙ front-done (mixed 1 1431655765 d) c 32 r 0 h)) ∙ changed-about rows e all-lead r p h l)
 
-  pub all-turned : e ≡ turned rows ++ drop 32 to
-  unfolding turned front
-  all-turned =
+  pub all-transposed : e ≡ transposed rows ++ drop 32 to
+  unfolding transposed front
+  all-transposed =
       is-e
       ∙ ap₂ (λ (x y : List ℕ). x ++ y) (upTo-same (mixed 1 1431655765 d) (column rows) 32 row-is)
       (ap (drop 32) is-c ∙ past (mixed 4 252645135 b) a ∙ ap (drop 32) is-a ∙ past (mixed 16 65535 rows) to)
