@@ -63,7 +63,6 @@ fn usage() {
     let round = "usage: fir round F [-n] [-b] [FILE]";
     let draw = "usage: fir draw [--svg|--dot] [SHEET]";
     let forms = "usage: fir forms N";
-    let planes = "usage: fir planes F WIDTH [-b] [FILE]";
     let verilog = "usage: fir verilog F [-b] [FILE]";
     for (arguments, words) in [
         (&["nosuch"][..], format!("fir: {none} nosuch; {list}\n")),
@@ -109,22 +108,6 @@ fn usage() {
             said("forms", &["too many arguments", forms]),
         ),
         (
-            &["planes", "1"],
-            said("planes", &["too few arguments", planes]),
-        ),
-        (
-            &["planes", "1", "2", "3", "4"],
-            said("planes", &["too many arguments", planes]),
-        ),
-        (
-            &["planes", "1", "2", "-n"],
-            said("planes", &["there is no option -n", planes]),
-        ),
-        (
-            &["planes", "1", "2", "/no/such/file"],
-            said("planes", &["cannot read /no/such/file"]),
-        ),
-        (
             &["verilog"],
             said("verilog", &["too few arguments", verilog]),
         ),
@@ -165,6 +148,36 @@ fn usage() {
         let ended = clone.run(&["fir", "forms", "--", number], b"");
         let words = format!("{number} is no whole number from -2147483648 to 2147483647");
         assert_eq!(ended.errors, said("forms", &[&words, forms]));
+        assert_eq!((ended.status, ended.out.len()), (Some(2), 0));
+    }
+    assert!(clone.calls().is_empty());
+}
+
+/// The same of `planes`, whose second word is a number too.
+#[test]
+fn usage_of_planes() {
+    let clone = Clone::fresh();
+    let planes = "usage: fir planes F WIDTH [-b] [FILE]";
+    for (arguments, words) in [
+        (
+            &["planes", "1"][..],
+            said("planes", &["too few arguments", planes]),
+        ),
+        (
+            &["planes", "1", "2", "3", "4"],
+            said("planes", &["too many arguments", planes]),
+        ),
+        (
+            &["planes", "1", "2", "-n"],
+            said("planes", &["there is no option -n", planes]),
+        ),
+        (
+            &["planes", "1", "2", "/no/such/file"],
+            said("planes", &["cannot read /no/such/file"]),
+        ),
+    ] {
+        let ended = clone.run(&[&["fir"], arguments].concat(), b"");
+        assert_eq!(ended.errors, words, "{arguments:?}");
         assert_eq!((ended.status, ended.out.len()), (Some(2), 0));
     }
     for number in [

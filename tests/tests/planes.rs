@@ -17,16 +17,9 @@ const WHOLE: Grid = Grid {
     width: MOST_SIDE,
 };
 
-fn empty() -> Masks<u64> {
-    Masks {
-        plus: vec![0; PLANE_TABLE],
-        minus: vec![0; PLANE_TABLE],
-    }
-}
-
 /// The wanted words that are not 0, each with its number.
 fn figure(call: &Writing, plus: &[(usize, u64)], minus: &[(usize, u64)]) {
-    let mut wanted = empty();
+    let mut wanted = Masks::zeros(PLANE_TABLE);
     for (table, words) in [(&mut wanted.plus, plus), (&mut wanted.minus, minus)] {
         for (number, word) in words {
             table[*number] = *word;
@@ -69,7 +62,7 @@ fn figures_of_planes() {
 /// Every cell's digits differ, and are at the planes that they come from.
 #[test]
 fn figures_of_cells() {
-    let mut planes = empty();
+    let mut planes = Masks::zeros(PLANE_TABLE);
     for cell in 0..MOST_CELLS {
         let (word, bit) = (cell / 64, 1 << (cell % 64));
         for plane in (0..8).filter(|plane| cell >> plane & 1 == 1) {
@@ -182,7 +175,7 @@ fn overlaps_past_the_cells() {
         for cells in [past.clone(), past.start..past.start + 1] {
             let plane = random.below(PLANES);
             for planes in [0..PLANES, plane..plane + 1] {
-                let mut masks = empty();
+                let mut masks = Masks::zeros(PLANE_TABLE);
                 for cell in cells.clone() {
                     planes
                         .clone()
@@ -201,7 +194,7 @@ fn every_place_of_an_overlap() {
     let mut tally = Read::default();
     for cell in 0..MOST_CELLS {
         for plane in 0..PLANES {
-            let mut masks = empty();
+            let mut masks = Masks::zeros(PLANE_TABLE);
             plant(&mut masks, cell, plane);
             let call = Reading::new(WHOLE, &masks);
             assert_eq!(check_reading(&call, &mut tally), refused(8, cell));
@@ -262,7 +255,7 @@ fn order_of_refusals() {
         writing.choices[cell] = choice;
         assert_eq!(check_writing(&writing, written), refused(9, cell));
     }
-    let mut reading = Reading::new(grid, &empty());
+    let mut reading = Reading::new(grid, &Masks::zeros(PLANE_TABLE));
     check_reading(&reading, read).unwrap();
     for (cell, plane) in [(5, 0), (3, 31), (1, 7), (0, 31)] {
         plant(&mut reading.planes, cell, plane);
@@ -290,10 +283,7 @@ fn sides_past_the_bounds() {
             assert_eq!(check_writing(&writing, written), refused(14, 0));
             let reading = Reading {
                 grid,
-                planes: Masks {
-                    plus: vec![0; words],
-                    minus: vec![0; words],
-                },
+                planes: Masks::zeros(words),
                 tables: [cells; 2],
             };
             assert_eq!(check_reading(&reading, read), refused(14, 0));

@@ -15,14 +15,14 @@ pub const REPETITIONS: usize = 120;
 
 /// What a call answers and leaves.
 #[derive(PartialEq)]
-struct Lent<T> {
+struct Left<T> {
     answer: Answer,
     masks: Masks<T>,
 }
 
-impl<T: Clone + Default> Lent<T> {
+impl<T: Clone + Default> Left<T> {
     fn new([plus, minus]: [usize; 2]) -> Self {
-        Lent {
+        Left {
             answer: ACCEPTED,
             masks: Masks {
                 plus: vec![T::default(); plus],
@@ -32,7 +32,7 @@ impl<T: Clone + Default> Lent<T> {
     }
 }
 
-impl Lent<u64> {
+impl Left<u64> {
     /// So many calls, all into the same tables.
     #[inline(always)]
     fn write(&mut self, call: &Writing, calls: usize, writer: Writer) {
@@ -44,7 +44,7 @@ impl Lent<u64> {
     }
 }
 
-impl Lent<u32> {
+impl Left<u32> {
     /// So many calls, all into the same tables.
     #[inline(always)]
     fn read(&mut self, call: &Reading, calls: usize, reader: Reader) {
@@ -57,7 +57,7 @@ impl Lent<u32> {
 }
 
 /// So many calls by the core, and by the fast version.
-type Versions<'a, T> = [&'a dyn Fn(&mut Lent<T>, usize); 2];
+type Versions<'a, T> = [&'a dyn Fn(&mut Left<T>, usize); 2];
 
 /// Prints the times of a call that has this answer, and gives the core's over the fast version's.
 fn measure<T: Clone + Default + PartialEq>(
@@ -66,7 +66,7 @@ fn measure<T: Clone + Default + PartialEq>(
     answer: Answer,
     [core, fast]: Versions<T>,
 ) -> f64 {
-    let mut lent = [(); 2].map(|_| Lent::new(tables));
+    let mut lent = [(); 2].map(|_| Left::new(tables));
     let [a, b] = &mut lent;
     let calls = calls(&mut || fast(b, 1));
     let times = best_of(
@@ -79,14 +79,14 @@ fn measure<T: Clone + Default + PartialEq>(
 }
 
 fn measure_writing(what: &str, call: &Writing, answer: Answer) -> f64 {
-    let core = |lent: &mut Lent<u64>, calls| lent.write(call, calls, core::write_planes);
-    let fast = |lent: &mut Lent<u64>, calls| lent.write(call, calls, fast::write_planes);
+    let core = |lent: &mut Left<u64>, calls| lent.write(call, calls, core::write_planes);
+    let fast = |lent: &mut Left<u64>, calls| lent.write(call, calls, fast::write_planes);
     measure(what, call.tables, answer, [&core, &fast])
 }
 
 fn measure_reading(what: &str, call: &Reading, answer: Answer) -> f64 {
-    let core = |lent: &mut Lent<u32>, calls| lent.read(call, calls, core::read_planes);
-    let fast = |lent: &mut Lent<u32>, calls| lent.read(call, calls, fast::read_planes);
+    let core = |lent: &mut Left<u32>, calls| lent.read(call, calls, core::read_planes);
+    let fast = |lent: &mut Left<u32>, calls| lent.read(call, calls, fast::read_planes);
     measure(what, call.tables, answer, [&core, &fast])
 }
 
@@ -97,7 +97,7 @@ fn worst(ratios: impl IntoIterator<Item = f64>) -> f64 {
 
 /// The planes that the fast version writes.
 fn planes(call: &Writing) -> Masks<u64> {
-    let mut lent = Lent::new(call.tables);
+    let mut lent = Left::new(call.tables);
     lent.write(call, 1, fast::write_planes);
     assert_eq!(lent.answer, ACCEPTED);
     lent.masks

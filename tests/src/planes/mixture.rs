@@ -89,10 +89,7 @@ fn cell_bits(grid: Grid, word: usize) -> u64 {
 pub fn planes(random: &mut Random, grid: Grid) -> Masks<u64> {
     let (used, sign) = (random.below(5), random.below(5));
     let past = random.below(3);
-    let mut planes = Masks {
-        plus: vec![0; PLANE_TABLE],
-        minus: vec![0; PLANE_TABLE],
-    };
+    let mut planes = Masks::zeros(PLANE_TABLE);
     for word in 0..PLANE_TABLE {
         let (nonzero, ones) = (thinned(random, used), thinned(random, sign));
         let cells = cell_bits(grid, word);

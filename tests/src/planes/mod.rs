@@ -47,3 +47,13 @@ pub struct Masks<T> {
     pub plus: Vec<T>,
     pub minus: Vec<T>,
 }
+
+impl<T: Clone + Default> Masks<T> {
+    /// No digit at all, in tables of this length.
+    pub fn zeros(length: usize) -> Self {
+        Masks {
+            plus: vec![T::default(); length],
+            minus: vec![T::default(); length],
+        }
+    }
+}
