@@ -38,6 +38,10 @@ far-overlap : PlanesRead 16 16 farCells farCells (replicate 256 7) (replicate 25
 unfolding cellsAnswer sizesAnswer lowestFrom upTo overlaps
 far-overlap = record { answer = refl; plus-left = refl; minus-left = refl }
 
+one-row : joinRows (threeCells ∷ []) ≡ threeCells
+unfolding joinRows
+one-row = refl
+
 two-rows : joinRows ((pos 1 ∷ pos 2 ∷ []) ∷ (pos 3 ∷ pos 4 ∷ []) ∷ []) ≡ pos 1 ∷ pos 2 ∷ pos 3 ∷ pos 4 ∷ []
 unfolding joinRows
 two-rows = refl
@@ -182,6 +186,7 @@ plane-figures = record {
   three-words = (small-below (2 ^ 64) threePlus (omega arith) refl, small-below (2 ^ 64) threeMinus (omega arith) refl);
   far-read = far-read;
   far-overlap = far-overlap;
+  one-row = one-row;
   two-rows = two-rows;
   whole-grid = whole-grid;
   lowest-cell = lowest-cell;

@@ -37,7 +37,8 @@ pub record PlaneFigures : Type 0 where
   pub far-read : PlanesRead 16 16 farCells (replicate 128 0) (replicate 256 7) (replicate 256 7) (given tt)
       (replicate 63 0 ++ (2 ^ 5 ∷ 1 ∷ (replicate 190 0 ++ (2 ^ 31 ∷ [])))) (replicate 256 0)
   pub far-overlap : PlanesRead 16 16 farCells farCells (replicate 256 7) (replicate 256 7) (refused 8 63) (replicate 256 7) (replicate 256 7)
-  -- two rows of two cells
+  -- a grid by its rows: the three cells in one, and two rows of two
+  pub one-row : joinRows (threeCells ∷ []) ≡ threeCells
   pub two-rows : joinRows ((pos 1 ∷ pos 2 ∷ []) ∷ (pos 3 ∷ pos 4 ∷ []) ∷ []) ≡ pos 1 ∷ pos 2 ∷ pos 3 ∷ pos 4 ∷ []
   -- a grid of 16 by 16 is written
   pub whole-grid : CanWrite 16 16 (replicate 256 (pos 0)) (replicate 256 0) 128 128
