@@ -1,6 +1,6 @@
 //! Writing and reading planes by hand for speed: the core's time is compared with this. A form is had by
 //! its number, and only its nonzero digits are set. Overlaps are looked for in 64 cells at a time, and
-//! masks are read 32 at a time, by turning a square of bits.
+//! masks are read 32 at a time, by transposing a square of bits.
 
 use super::{Grid, MOST_SIDE, PLANES, PLANE_TABLE, PLANE_WORDS};
 use crate::answer::{Answer, ACCEPTED};
@@ -90,7 +90,7 @@ fn overlap(
 
 /// Bit b of row r becomes bit r of row b.
 #[inline(always)]
-fn turn(rows: &mut [u32; PLANES]) {
+fn transpose(rows: &mut [u32; PLANES]) {
     let mut width = PLANES / 2;
     let mut low = 0x0000_ffff;
     while width != 0 {
@@ -129,7 +129,7 @@ fn read(planes: &[[u64; PLANE_WORDS]], masks: &mut [u32]) {
         for (row, plane) in rows.iter_mut().zip(planes) {
             *row = half(plane);
         }
-        turn(&mut rows);
+        transpose(&mut rows);
         masks.copy_from_slice(&rows[..masks.len()]);
     }
 }
