@@ -9,9 +9,9 @@ use lib.ListN.{length, drop}
 use Rattle.refusal.specs.Answer.{Answer, given, refused, Place, nowhere, at-place, placeOr, lowest, filled}
 use Rattle.sequence.proofs.UpTo.{length-upTo}
 use Rattle.signed_digit.specs.Masks.{plusMask, minusMask}
-use Rattle.plane_masks.specs.Planes.{cellMask, cellMasks, planeWords}
+use Rattle.plane_masks.specs.Planes.{cellMask, cellMasks}
 use Rattle.plane_masks.specs.Grid.{sizesAnswer, cellNumbers, chosenForms, formlessCell, planesAnswer, overlapCell, cellsAnswer}
-use Rattle.plane_masks.specs.Written.{PlanesWritten, PlanesRead}
+use Rattle.plane_masks.specs.Written.{gridWords, PlanesWritten, PlanesRead}
 use Rattle.plane_masks.proofs.Lists.{cell-of}
 use Rattle.plane_masks.proofs.Planes.{words-length}
 use Rattle.plane_masks.proofs.Answers.{pass, stopped, found-at}
@@ -41,10 +41,10 @@ module _ (height width : ℕ) (coefficients : List ℤ) (choices plus minus : Li
   missing = formlessCell (height * width) coefficients choices
 
   abbrev plusWords : List ℕ
-  plusWords = planeWords (map plusMask (chosenForms (height * width) coefficients choices))
+  plusWords = gridWords plusMask height width coefficients choices
 
   abbrev minusWords : List ℕ
-  minusWords = planeWords (map minusMask (chosenForms (height * width) coefficients choices))
+  minusWords = gridWords minusMask height width coefficients choices
 
   -- from the answer
   by-answer : (a : Answer (Unit {0})) (plus′ minus′ : List ℕ) → planesAnswer height width coefficients choices (length plus) (length minus) ≡ a

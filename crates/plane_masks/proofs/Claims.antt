@@ -7,7 +7,7 @@ use native.Mathlib.Omega.{arith}
 use lib.IntN.{ℤ, pos}
 use lib.ListN.{length, getD, take, drop, length-append, length-map, List·getD-map, List·getD-append}
 use lib.Seq.{take-append-seam, drop-append-seam, getD-append-add, getD-take}
-use Rattle.refusal.specs.Answer.{Answer, given, filled}
+use Rattle.refusal.specs.Answer.{Answer, given, refused, filled}
 use Rattle.sequence.specs.UpTo.{upTo}
 use Rattle.sequence.proofs.UpTo.{length-upTo, getD-upTo, upTo-take, upTo-same}
 use Rattle.sequence.proofs.Members.{member}
@@ -20,14 +20,34 @@ use Rattle.form_masks.specs.Form.{formOf, stringOf, TwoMasks}
 use Rattle.form_masks.specs.Value.{valueOf}
 use Rattle.form_masks.proofs.Forms.{string-form}
 use Rattle.plane_masks.specs.Planes.{cellString, scaledSum, cellMask, cellMasks, planeWords, pastCleared, cellAt, joinRows, formIn}
-use Rattle.plane_masks.specs.Grid.{chosen, chosenForms}
-use Rattle.plane_masks.specs.Written.{PlanesWritten, PlanesRead}
+use Rattle.plane_masks.specs.Grid.{chosen, chosenForms, planesAnswer, cellsAnswer}
+use Rattle.plane_masks.specs.Written.{gridWords, PlanesWritten, PlanesRead}
 use Rattle.plane_masks.specs.Claims.{CanWrite, CanRead, Planes, Returned, Cells, AllBelow, PlaneClaims}
 use Rattle.plane_masks.proofs.Lists.{listed}
 use Rattle.plane_masks.proofs.Planes.{words-length, words-back}
 use Rattle.plane_masks.proofs.Strings.{scaled-value, form-is, string-is, value-is, two-masks}
 use Rattle.plane_masks.proofs.Held.{string-held, past-held, apart-held}
 use Rattle.plane_masks.proofs.Answers.{few-cells, can-write, writes, writing-refused, can-read, reads, reading-refused}
+
+-- ---- a table after a refusal
+kept : (a : Answer (Unit {0})) (words old table : List ℕ) (number place : ℕ) → table ≡ filled a words old → a ≡ refused number place → table ≡ old
+kept a words old table number place e r = e ∙ ap (λ (b : Answer (Unit {0})). filled b words old) r
+
+writing-kept : (height width : ℕ) (coefficients : List ℤ) (choices plus minus : List ℕ) (number place : ℕ) (plus′ minus′ : List ℕ)
+    → PlanesWritten height width coefficients choices plus minus (refused number place) plus′ minus′ → (plus′ ≡ plus) × (minus′ ≡ minus)
+writing-kept height width coefficients choices plus minus number place plus′ minus′ w =
+    let a = planesAnswer height width coefficients choices (length plus) (length minus) in (
+      kept a (gridWords plusMask height width coefficients choices) plus plus′ number place (w .plus-left) (sym (w .answer)),
+      kept a (gridWords minusMask height width coefficients choices) minus minus′ number place (w .minus-left) (sym (w .answer)),
+    )
+
+reading-kept : (height width : ℕ) (plus minus first second : List ℕ) (number place : ℕ) (first′ second′ : List ℕ)
+    → PlanesRead height width plus minus first second (refused number place) first′ second′ → (first′ ≡ first) × (second′ ≡ second)
+reading-kept height width plus minus first second number place first′ second′ r =
+    let a = cellsAnswer height width plus minus (length first) (length second) in (
+      kept a (cellMasks (height * width) plus) first first′ number place (r .plus-left) (sym (r .answer)),
+      kept a (cellMasks (height * width) minus) second second′ number place (r .minus-left) (sym (r .answer)),
+    )
 
 -- ---- a grid that can be written
 module _ (height width : ℕ) (coefficients : List ℤ) (choices : List ℕ) (pw mw : ℕ) (can : CanWrite height width coefficients choices pw mw) where
@@ -292,14 +312,10 @@ plane-claims = record {
     λ e. can-read height width plus minus (length first) (length second) (sym (r .answer) ∙ e),
     λ can. r .answer ∙ reads height width plus minus (length first) (length second) can,
   );
-  writing-refused = λ height width coefficients choices plus minus number place plus′ minus′ w. (
-    writing-refused height width coefficients choices (length plus) (length minus) number place (sym (w .answer)),
-    w .plus-left ∙ ap (λ (b : Answer (Unit {0})). filled b (planeWords (map plusMask (chosenForms (height * width) coefficients choices))) plus) (sym (w .answer)),
-    w .minus-left ∙ ap (λ (b : Answer (Unit {0})). filled b (planeWords (map minusMask (chosenForms (height * width) coefficients choices))) minus) (sym (w .answer)),
-  );
-  reading-refused = λ height width plus minus first second number place first′ second′ r. (
-    reading-refused height width plus minus (length first) (length second) number place (sym (r .answer)),
-    r .plus-left ∙ ap (λ (b : Answer (Unit {0})). filled b (cellMasks (height * width) plus) first) (sym (r .answer)),
-    r .minus-left ∙ ap (λ (b : Answer (Unit {0})). filled b (cellMasks (height * width) minus) second) (sym (r .answer)),
-  );
+  writing-refused = λ height width coefficients choices plus minus number place plus′ minus′ w.
+      let k = writing-kept height width coefficients choices plus minus number place plus′ minus′ w in
+      (writing-refused height width coefficients choices (length plus) (length minus) number place (sym (w .answer)), k .0, k .1);
+  reading-refused = λ height width plus minus first second number place first′ second′ r.
+      let k = reading-kept height width plus minus first second number place first′ second′ r in
+      (reading-refused height width plus minus (length first) (length second) number place (sym (r .answer)), k .0, k .1);
 }
