@@ -1,13 +1,14 @@
 // A grid of coefficients as digit planes, and planes back to the masks of each cell.
 mod choices;
-mod reading;
 mod sizes;
-mod writing;
 
 ghost use mathlib.Core.Path.{_≡_};
 ghost use Rattle.plane_masks.specs.Grid.{sizesAnswer};
 ghost use Rattle.plane_masks.specs.Written.{PlanesWritten, PlanesRead};
 ghost use Rattle.plane_grid.specs.Answer.{answerOf};
+use plane_cells::reading::read_masks;
+use plane_cells::writing::write_cells;
+use plane_words::first_overlap;
 use refusal::Refusal;
 
 pub enum Converted {
@@ -65,7 +66,7 @@ pub fn write_planes(
     if cell < cells {
         return Converted::Refused(Refusal::NoSuchForm(cell as u32));
     }
-    writing::write_cells(coefficients, choices, cells, plus, minus);
+    write_cells(coefficients, choices, cells, plus, minus);
     Converted::Done
 }
 
@@ -94,11 +95,11 @@ pub fn read_planes(
         return sizes;
     };
     let cells = height * width;
-    let cell = plane_masks::first_overlap(plus, minus, cells);
+    let cell = first_overlap(plus, minus, cells);
     if cell < cells {
         return Converted::Refused(Refusal::MasksOverlap(cell as u32));
     }
-    reading::read_masks(plus, cells, first);
-    reading::read_masks(minus, cells, second);
+    read_masks(plus, cells, first);
+    read_masks(minus, cells, second);
     Converted::Done
 }

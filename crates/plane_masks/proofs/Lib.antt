@@ -8,9 +8,3 @@ pub mod Planes
 pub mod Strings
 pub mod Held
 pub mod Answers
--- The loops:
-pub mod High
-pub mod Places
-pub mod Adding
-pub mod OneMore
-pub mod Both

@@ -4,4 +4,3 @@ pub mod Grid
 pub mod Written
 pub mod Claims
 pub mod Figures
-pub mod Inner
