@@ -2,7 +2,7 @@
  * each tap with its coefficient and leftover, and the gain at rest
  *
  * F is the number of fraction bits, 0 to 31. The coefficient is the whole number nearest to tap * 2^F, a
- * half going away from zero; the leftover is tap * 2^F less the coefficient, exactly. Taps are numbers
+ * half going to the even one; the leftover is tap * 2^F less the coefficient, exactly. Taps are numbers
  * in text, decimal or hexadecimal, with blanks or line ends between, and # starts a comment.
  *   -n  normalised: the taps are added up, and each is divided by the sum (the divisor) first
  *   -b  the taps are binary64 numbers of 8 bytes each, low byte first, instead of text

@@ -12,7 +12,7 @@
  * A call needs at most so many bytes of stack, accepted or turned down, its arguments and return
  * address included (measured on x86-64; what memcpy and memset need of their own comes on top):
  *   stack: fir_round_tap          64
- *   stack: fir_round_taps       3392
+ *   stack: fir_round_taps       3264
  *   stack: fir_reduce             64
  *   stack: fir_trimmed            64
  *   stack: fir_form_value         64
@@ -38,9 +38,9 @@ extern "C" {
 #endif
 
 /* The first number changes where a program has to be compiled again. */
-#define FIR_VERSION "1.2"
+#define FIR_VERSION "1.3"
 #define FIR_VERSION_MAJOR 1
-#define FIR_VERSION_MINOR 2
+#define FIR_VERSION_MINOR 3
 
 /* A call answers one 64-bit number. Its upper half is the refusal number, 0 for none. Where nothing
  * else is said, the lower half is the place of the refusal, counted from 0, and 0 where the call is
@@ -92,12 +92,13 @@ enum {
 #define FIR_VERILOG_BYTES 276457
 
 /* One tap, given as the 64 bits of a binary64 number: the whole number N nearest to
- * tap * 2^fraction_bits, an exact half away from zero. The lower half of the answer is N's 32-bit
- * pattern, and 0 when turned down: the place, always 0, is not sent. Turned down with 4, 5 or 6. */
+ * tap * 2^fraction_bits, and of two that are as near the even one. The lower half of the answer is
+ * N's 32-bit pattern, and 0 when turned down: the place, always 0, is not sent. Turned down with 4, 5
+ * or 6. */
 uint64_t fir_round_tap(uint64_t bits, uint32_t fraction_bits);
 
-/* A set of taps. Where normalised is not 0, the taps are added in order and each is divided by the
- * sum, and the quotient stands for the tap.
+/* A set of taps, each rounded as fir_round_tap does. Where normalised is not 0, the taps are added in
+ * order and each is divided by the sum, and the quotient stands for the tap.
  *   taps[tap_count]                  the taps
  *   coefficients[coefficient_count]  tap_count coefficients are written, from the start; the table
  *                                    may be longer, and is then untouched past them

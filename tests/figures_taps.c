@@ -14,9 +14,13 @@ static void tap(const char *what, double value, uint32_t fraction_bits, uint32_t
 static void one_tap(void)
 {
     const double two31 = 2147483648.0;
-    tap("0.625 at F = 2", 0.625, 2, 0, 3);
-    tap("-0.625 at F = 2", -0.625, 2, 0, -3);
+    tap("0.625 at F = 2", 0.625, 2, 0, 2);
+    tap("-0.625 at F = 2", -0.625, 2, 0, -2);
     tap("0.5 at F = 2", 0.5, 2, 0, 2);
+    tap("0.5 at F = 0", 0.5, 0, 0, 0);
+    tap("-0.5 at F = 0", -0.5, 0, 0, 0);
+    tap("1.5 at F = 0", 1.5, 0, 0, 2);
+    tap("-1.5 at F = 0", -1.5, 0, 0, -2);
     tap("-1 at F = 31", -1.0, 31, 0, INT32_MIN);
     tap("1 at F = 31", 1.0, 31, 6, 0);
     tap("1 - 2^-53 at F = 31", 1.0 - 0x1p-53, 31, 6, 0);
@@ -25,7 +29,8 @@ static void one_tap(void)
     tap("2^31 - 1 at F = 0", two31 - 1, 0, 0, INT32_MAX);
     tap("2^31 - 0.5 at F = 0", two31 - 0.5, 0, 6, 0);
     tap("-2^31 - 0.25 at F = 0", -two31 - 0.25, 0, 0, INT32_MIN);
-    tap("-2^31 - 0.5 at F = 0", -two31 - 0.5, 0, 6, 0);
+    tap("-2^31 - 0.5 at F = 0", -two31 - 0.5, 0, 0, INT32_MIN);
+    tap("the next number below it", -two31 - 0.5 - 0x1p-21, 0, 6, 0);
     tap("0.625 at F = 32", 0.625, 32, 4, 0);
     answer("not-a-number with a payload", 5, 0, fir_round_tap(0x7ff4000012345678, 15));
     answer("negative not-a-number", 5, 0, fir_round_tap(0xfff8000000000001, 15));
@@ -84,16 +89,17 @@ static void refused(const char *what, const struct call c, uint32_t refusal, int
 
 static void accepted_sets(void)
 {
-    const double ones[] = {1, 1, 1, 1}, up[] = {0.625}, down[] = {-0.625}, exact[] = {0.5};
-    const double both[] = {0.5, 0.625, -0.625}, turned[] = {-0.625, 0.625};
-    const int32_t quarters[] = {1, 1, 1, 1}, three[] = {3}, minus_three[] = {-3}, two[] = {2};
-    const int32_t three_of[] = {2, 3, -3}, two_of[] = {-3, 3};
+    const double ones[] = {1, 1, 1, 1}, positive[] = {0.625}, negative[] = {-0.625}, exact[] = {0.5};
+    const double both[] = {0.5, 0.625, -0.625}, turned[] = {-0.625, 0.625}, up[] = {0.375, 0.625};
+    const int32_t quarters[] = {1, 1, 1, 1}, two[] = {2}, minus_two[] = {-2};
+    const int32_t three_of[] = {2, 2, -2}, two_of[] = {-2, 2}, twos[] = {2, 2};
     accepted("1, 1, 1, 1 normalised at F = 2", ones, 4, 1, quarters, 4, 0);
-    accepted("0.625 at F = 2", up, 1, 0, three, 1, -0.5);
-    accepted("-0.625 at F = 2", down, 1, 0, minus_three, 1, 0.5);
+    accepted("0.625 at F = 2", positive, 1, 0, two, 1, 0.5);
+    accepted("-0.625 at F = 2", negative, 1, 0, minus_two, 1, -0.5);
     accepted("0.5 at F = 2", exact, 1, 0, two, 1, 0);
-    accepted("0.5, 0.625, -0.625 at F = 2", both, 3, 0, three_of, 1, -0.5);
-    accepted("-0.625, 0.625 at F = 2", turned, 2, 0, two_of, 1, 0.5);
+    accepted("0.5, 0.625, -0.625 at F = 2", both, 3, 0, three_of, 1, 0.5);
+    accepted("-0.625, 0.625 at F = 2", turned, 2, 0, two_of, 1, -0.5);
+    accepted("0.375, 0.625 at F = 2", up, 2, 0, twos, 1, -0.5);
 }
 
 static void refused_sets(void)

@@ -43,7 +43,7 @@ fn check(taps: &[f64], fraction_bits: i32, width: usize, text: &[u8]) {
     let cells = digits(text, taps.len() / width, width);
     for (tap, digits) in taps.iter().zip(cells) {
         let worth = |place: usize| digits[place] << place;
-        let coefficient = (tap * 2f64.powi(fraction_bits)).round() as i64;
+        let coefficient = (tap * 2f64.powi(fraction_bits)).round_ties_even() as i64;
         assert_eq!((0..32).map(worth).sum::<i64>(), coefficient, "{tap}");
         assert!(digits.windows(2).all(|pair| pair[0] * pair[1] == 0));
     }
@@ -114,7 +114,7 @@ fn random_grids() {
     }
 }
 
-/// The coefficients at both bounds, halves and a subnormal tap.
+/// The coefficients at both bounds, a half and a subnormal tap.
 #[test]
 fn bounds() {
     let taps = [
@@ -123,13 +123,14 @@ fn bounds() {
         0.0,
         -0.0,
         5e-324,
-        2f64.powi(-32),
+        3.0 * 2f64.powi(-32),
     ];
     let text = printed(&["planes", "31", "3", "-b"], &packed(&taps));
     check(&taps, 31, 3, &text);
     let lines: Vec<&[u8]> = text.split(|b| *b == b'\n').collect();
     assert_eq!(lines[1 + 2 * 31], b"31,0,n10\r");
-    assert_eq!(lines[1..3], [b"0,0,0n0\r", b"0,1,001\r"]);
+    assert_eq!(lines[1..3], [b"0,0,0n0\r", b"0,1,000\r"]);
+    assert_eq!(lines[3..5], [b"1,0,000\r", b"1,1,001\r"]);
 }
 
 /// What is wrong with F or the taps is said before anything about the grid.

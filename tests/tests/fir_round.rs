@@ -82,6 +82,18 @@ fn random_sets() {
     }
 }
 
+/// A half goes to the even number, and its leftover's sign says where that is.
+#[test]
+fn halves() {
+    let taps = [0.375, 0.625, -0.625, -0.375, 0.125, 0.5];
+    let lines = words(&["round", "2"], b"0.375 0.625 -0.625 -0.375 0.125 0.5");
+    check(&taps, 2, false, &lines);
+    let column = |number: usize| lines[1..7].iter().map(move |line| line[number].as_str());
+    assert!(column(2).eq(["2", "2", "-2", "-2", "0", "2"]));
+    assert!(column(3).eq(["-0.5", "0.5", "-0.5", "0.5", "0.5", "0"]));
+    assert_eq!(lines[8].join(" "), "largest leftover -0.5");
+}
+
 #[test]
 fn refusals() {
     let says = |number: &str| format!("fir round: {number}\n");

@@ -48,6 +48,36 @@ fn figures_of_the_sheet() {
     assert_eq!(refused, wanted.as_bytes());
 }
 
+/// 0.5, 1.5, 2.5 and their negatives times 2^-F, and the halves beyond both ends of the range.
+#[test]
+fn taps_that_are_halves() {
+    let sheet = "kind,number,left,shift,sign,right,value\r
+node,0,,,,,1\r
+tap,0,,,,,0\r
+tap,1,0,1,+,,2\r
+tap,2,0,1,+,,2\r
+tap,3,,,,,0\r
+tap,4,0,1,-,,-2\r
+tap,5,0,1,-,,-2\r
+total,3,,,,,\r
+";
+    let tally = &mut Tally::default();
+    for fraction_bits in 0..=31 {
+        let unit = (1u64 << fraction_bits) as f64;
+        let taps = [0.5, 1.5, 2.5, -0.5, -1.5, -2.5].map(|tap| tap / unit);
+        let input = Input::new(&taps, &fraction_bits.to_string());
+        check(&input, tally);
+        assert_eq!(literal::sheet(&input), sheet.as_bytes());
+        let ends = [-2147483648.5, 2147483647.5].map(|tap| tap / unit);
+        is_refused(&Input::new(&ends, &fraction_bits.to_string()), 6, 1);
+        let least = Input::new(&ends[..1], &fraction_bits.to_string());
+        check(&least, tally);
+        let sheet = String::from_utf8(literal::sheet(&least)).unwrap();
+        assert!(sheet.contains("\r\ntap,0,0,31,-,,-2147483648\r\n"));
+    }
+    assert_eq!(tally.accepted, 2 * 32);
+}
+
 #[test]
 fn every_fraction_bits() {
     let tally = &mut Tally::default();

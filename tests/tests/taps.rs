@@ -39,9 +39,15 @@ fn figures_of_one_tap() {
         };
         assert_eq!(answer, wanted, "{tap} at {fraction_bits}");
     };
-    accepted(0.625, 2, 3);
-    accepted(-0.625, 2, -3);
+    accepted(0.625, 2, 2);
+    accepted(-0.625, 2, -2);
     accepted(0.5, 2, 2);
+    accepted(0.5, 0, 0);
+    accepted(-0.5, 0, 0);
+    accepted(1.5, 0, 2);
+    accepted(-1.5, 0, -2);
+    accepted(2147483646.5, 0, i32::MAX - 1);
+    accepted(-2147483648.5, 0, i32::MIN);
     accepted(-1.0, 31, i32::MIN);
     accepted(-0.0, 15, 0);
     accepted(0.49999999999999994, 0, 0);
@@ -54,15 +60,15 @@ fn figures_of_one_tap() {
     refused(1.0, 31, 6);
     refused(1.0 - f64::EPSILON / 2.0, 31, 6);
     refused(2147483647.5, 0, 6);
-    refused(-2147483648.5, 0, 6);
+    refused(-2147483648.5000005, 0, 6);
     refused(f64::NAN, 31, 5);
     refused(f64::NAN, 32, 4);
 }
 
 #[test]
 fn figures_of_sets() {
-    figure(Set::new(&[0.625], 2, 0), &[3], 1.0, -0.5);
-    figure(Set::new(&[-0.625], 2, 0), &[-3], 1.0, 0.5);
+    figure(Set::new(&[0.625], 2, 0), &[2], 1.0, 0.5);
+    figure(Set::new(&[-0.625], 2, 0), &[-2], 1.0, -0.5);
     figure(Set::new(&[0.5], 2, 0), &[2], 1.0, 0.0);
     figure(Set::new(&[1.0; 4], 2, 1), &[1; 4], 4.0, 0.0);
     figure(Set::new(&[-1.0; 4], 2, 1), &[1; 4], -4.0, 0.0);
@@ -70,6 +76,7 @@ fn figures_of_sets() {
     figure(Set::new(&[-0.25, 0.25], 0, 0), &[0, 0], 1.0, -0.25);
     figure(Set::new(&[-0.0], 3, 0), &[0], 1.0, 0.0);
     figure(Set::new(&[-2147483648.25], 0, 0), &[i32::MIN], 1.0, -0.25);
+    figure(Set::new(&[-2147483648.5], 0, 0), &[i32::MIN], 1.0, -0.5);
     refused(Set::new(&[], 2, 1), 1, 0);
     refused(Set::new(&[0.0; 257], 2, 0), 2, 0);
     refused(Set::new(&[0.0; 2], 2, 0).with_table(1), 3, 0);
@@ -86,13 +93,65 @@ fn figures_of_sets() {
     refused(Set::new(&taps, 0, 1), 7, 1);
 }
 
+/// The earliest of several halves is reported, with the sign of where it went.
+#[test]
+fn figures_of_halves() {
+    figure(Set::new(&[0.25, 2.5, 1.5], 0, 0), &[0, 2, 2], 1.0, 0.5);
+    figure(Set::new(&[0.25, 1.5, 2.5], 0, 0), &[0, 2, 2], 1.0, -0.5);
+    figure(Set::new(&[-1.5, -2.5, 1.5], 0, 0), &[-2, -2, 2], 1.0, 0.5);
+    figure(Set::new(&[-2.5, -1.5, 1.5], 0, 0), &[-2, -2, 2], 1.0, -0.5);
+    figure(Set::new(&[-0.5, 0.5], 0, 0), &[0, 0], 1.0, -0.5);
+    figure(Set::new(&[0.5, -0.5], 0, 0), &[0, 0], 1.0, 0.5);
+    figure(Set::new(&[0.625, 0.375], 2, 0), &[2, 2], 1.0, 0.5);
+    figure(Set::new(&[1.0, 3.0], 1, 1), &[0, 2], 4.0, 0.5);
+    figure(Set::new(&[3.0, 1.0], 1, 1), &[2, 0], 4.0, -0.5);
+}
+
+/// A half and both its neighbours at every F, of both signs and beside every power of two: it goes to
+/// the even number beside it, and they to the nearer one.
+#[test]
+fn halves_go_to_even() {
+    let mut tally = Tally::default();
+    for fraction_bits in 0..=31 {
+        for (whole, negative) in hard::whole_parts().into_iter().flat_map(both_signs) {
+            let half = (whole as f64 + 0.5) / (1u64 << fraction_bits) as f64;
+            let sizes = [whole, whole + whole % 2, whole + 1];
+            for (bits, size) in hard::with_neighbours(half.to_bits()).into_iter().zip(sizes) {
+                let bits = bits | (negative as u64) << 63;
+                check_tap(bits, fraction_bits, &mut tally);
+                let number = if negative {
+                    -(size as i64)
+                } else {
+                    size as i64
+                };
+                let wanted = match i32::try_from(number) {
+                    Err(_) => TapAnswer::refused(6),
+                    Ok(coefficient) => TapAnswer {
+                        refusal: 0,
+                        coefficient,
+                    },
+                };
+                let found = literal::round_tap(bits, fraction_bits);
+                assert_eq!(found, wanted, "{bits:#018x} at {fraction_bits}");
+            }
+        }
+    }
+    println!("halves {:?}, refused {:?}", tally.halves, tally.refused);
+    assert!(tally.halves.iter().all(|count| *count > 32 * 200));
+    assert!(tally.refused[6] > 32 * 20);
+}
+
+fn both_signs(whole: u64) -> [(u64, bool); 2] {
+    [(whole, false), (whole, true)]
+}
+
 #[test]
 fn hard_taps() {
     let mut tally = Tally::default();
     for (bits, fraction_bits) in hard::taps() {
         check_tap(bits, fraction_bits, &mut tally);
     }
-    assert!(tally.halves > 300, "{}", tally.halves);
+    assert!(tally.halves.iter().all(|count| *count > 150));
     assert!(tally.exact > 300 && tally.rounded > 3000);
     assert!(tally.refused[4..7].iter().all(|count| *count > 300));
 }
@@ -107,8 +166,8 @@ fn random_taps() {
         check_tap(bits, fraction_bits, &mut tally);
     }
     println!("exact {}, rounded {}", tally.exact, tally.rounded);
-    println!("halves {}, refused {:?}", tally.halves, tally.refused);
-    assert!(tally.halves > RANDOM_TAPS / 20);
+    println!("halves {:?}, refused {:?}", tally.halves, tally.refused);
+    assert!(tally.halves.iter().all(|count| *count > RANDOM_TAPS / 50));
     assert!(tally.rounded > RANDOM_TAPS / 2 && tally.exact > RANDOM_TAPS / 1000);
     assert!(tally.refused[4] > RANDOM_TAPS / 20);
     assert!(tally.refused[5] > RANDOM_TAPS / 10_000);
@@ -124,6 +183,7 @@ fn hard_sets_agree() {
     assert!(tally.refused[1..].iter().all(|count| *count >= 10));
     assert!(tally.places[5].len() == 256 && tally.places[6].len() == 256);
     assert!(tally.ties > 50, "{}", tally.ties);
+    assert!(tally.half_ties.iter().all(|count| *count > 50));
 }
 
 #[test]
@@ -135,12 +195,14 @@ fn random_sets() {
     }
     println!("exact {}, rounded {}", tally.exact, tally.rounded);
     println!("ties {}, normalised {}", tally.ties, tally.normalised);
+    println!("ties of halves {:?}", tally.half_ties);
     println!("refused {:?}", tally.refused);
     println!("places {:?}", tally.places.each_ref().map(HashSet::len));
     let enough = RANDOM_SETS / 200;
     assert!(tally.refused[1..].iter().all(|count| *count > enough));
     assert!(tally.exact > enough && tally.rounded > enough);
     assert!(tally.ties > enough && tally.normalised > enough);
+    assert!(tally.half_ties.iter().all(|count| *count > enough));
     assert!(tally.places[5..].iter().all(|places| places.len() > 200));
     let pairs = "14 17 23 24 25 26 27 34 35 36 37 45 46 47 56 57 76";
     assert_pairs(pairs, &tally.beside);

@@ -58,6 +58,15 @@ fn whole_part(x: f64) -> Parts {
     Parts { whole, rest }
 }
 
+// Whether a whole number and the rest go up: past a half, and at a half from an odd number.
+fn goes_up(whole: u64, rest: f64) -> bool {
+    if rest == 0.5 {
+        whole % 2 == 1
+    } else {
+        rest > 0.5
+    }
+}
+
 fn most(negative: bool) -> u64
     ensures { λ r. ⌜ (r ≤ 2 ^ 31) × (negative ≡ false → r ≤ 2 ^ 31 - 1) ⌝ }
 {
@@ -84,7 +93,7 @@ pub fn round(tap: f64, f: u32) -> Rounded
         return refused(6);
     }
     let parts = whole_part(size);
-    let up = parts.rest >= 0.5;
+    let up = goes_up(parts.whole, parts.rest);
     let whole = if up {
         std::num::wrapping_add_u64(parts.whole, 1)
     } else {

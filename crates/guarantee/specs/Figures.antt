@@ -1,4 +1,4 @@
--- All figures that document 01, "Bench figures", marks [P], in one list. Definitions only; the theorem is in proofs/Figures.antt.
+-- All figures that document 01, "Bench figures", marks [P], those on taps as request 4 of document 02 amends them, in one list. Definitions only; the theorem is in proofs/Figures.antt.
 use mathlib.Core.Path.{_≡_}
 use mathlib.Core.List.{List, [], _∷_, _++_, map}
 use Prim.Native.Nat.{ℕ, _*_, _-_, _≤_}
@@ -44,7 +44,7 @@ pub record SheetCalls : Type 0 where
 pub record ProvedFigures : Type 0 where
   -- "Forms of 45 .. in order", of 180, -45, 3, 11, 13, 0, 1, 2^31 - 1 and -2^31; and the tables that `minimal_forms` leaves for 45
   pub forms : Figures
-  -- "0.625 at F = 2", and its neighbours
+  -- "0.625 at F = 2" (now 2, leftover 0.5), and its neighbours
   pub taps : TapFigures
   -- "The sheet's filter": its rows, and "cleared, samples 1, 2, -32768: 3, 0, -98271"
   pub rows-of-the-sheet : built sheetCoefficients sheetChoices ≡ sheetNetwork

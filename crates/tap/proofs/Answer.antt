@@ -20,7 +20,8 @@ use Rattle.refusal.specs.Answer.{given, refused, refuseIf}
 use Rattle.refusal.proofs.Checks.{check-applies, check-passes}
 use Rattle.tap.specs.Rounding.{exact, rounded, nearestWhole, signed, leftover, split, finite, sizeOf, outside, resultOf, roundedTap, absOf}
 use Rattle.tap.specs.Inner.{nearestOf, parted, magnitudeOf}
-use Rattle.tap.proofs.Whole.{nearest-same, nearest-le, nearest-ge}
+use Rattle.tap.proofs.Whole.{nearest-le, nearest-ge}
+use Rattle.tap.proofs.Rule.{nearest-same}
 use Rattle.tap.proofs.Value.{scaled-is, scaled-exact, over, lt-pow, nought, two-to}
 use Rattle.tap.proofs.Even.{nearest-is}
 use Rattle.tap.proofs.Steps.{parted-yes, parted-no}

@@ -14,8 +14,8 @@ use Rattle.word.proofs.Bounds.{within-bounds, bounds-within}
 use Rattle.refusal.specs.Answer.{Answer, given, refused, refuseIf}
 use Rattle.refusal.proofs.Checks.{given-refused}
 use Rattle.tap.specs.Rounding.{TapResult, signed, finite, sizeOf, outside, resultOf, roundedTap, wholeOf, TapRounded}
-use Rattle.tap.specs.Claims.{NearestAway, TapRefusals, TapClaims}
-use Rattle.tap.proofs.Distance.{none-nearer, none-larger, no-other}
+use Rattle.tap.specs.Claims.{NearestEven, TapRefusals, TapClaims}
+use Rattle.tap.proofs.Distance.{none-nearer, even-as-near, no-other}
 use Rattle.tap.proofs.Sign.{size-is}
 use Rattle.tap.proofs.Answer.{refused-bits, refused-tap, of-finite, outside-bounds, rounded-is}
 use Rattle.tap.proofs.Theorems as Theorems
@@ -24,21 +24,21 @@ use Rattle.tap.proofs.Theorems as Theorems
 abbrev wholeAt : ℕ → Bool → ℕ → ℤ → ℤ
 wholeAt F s m e = signed s (sizeOf F (fin s m e))
 
-nearest-at : (F : ℕ) (s : Bool) (m : ℕ) (e : ℤ) → NearestAway F (fin s m e) (wholeAt F s m e)
+nearest-at : (F : ℕ) (s : Bool) (m : ℕ) (e : ℤ) → NearestEven F (fin s m e) (wholeAt F s m e)
 nearest-at F s m e =
-    subst (λ (n : ℕ). NearestAway F (fin s m e) (signed s n)) (sym (size-is F s m e))
-    (record { nearest = none-nearer s (m * up e * 2 ^ F) (down e) (down-pos e); away = none-larger s (m * up e * 2 ^ F) (down e) (down-pos e) })
+    subst (λ (n : ℕ). NearestEven F (fin s m e) (signed s n)) (sym (size-is F s m e))
+    (record { nearest = none-nearer s (m * up e * 2 ^ F) (down e) (down-pos e); even = even-as-near s (m * up e * 2 ^ F) (down e) (down-pos e) })
 
-only-at : (F : ℕ) (s : Bool) (m : ℕ) (e : ℤ) (N : ℤ) → NearestAway F (fin s m e) N → wholeAt F s m e ≡ N
-only-at F s m e N w = sym (no-other s (m * up e * 2 ^ F) (down e) (down-pos e) N (w .nearest) (w .away) ∙ ap (signed s) (sym (size-is F s m e)))
+only-at : (F : ℕ) (s : Bool) (m : ℕ) (e : ℤ) (N : ℤ) → NearestEven F (fin s m e) N → wholeAt F s m e ≡ N
+only-at F s m e N w = sym (no-other s (m * up e * 2 ^ F) (down e) (down-pos e) N (w .nearest) (w .even) ∙ ap (signed s) (sym (size-is F s m e)))
 
-some-nearest : (F : ℕ) (tap : Float) → finite tap ≡ true → (N : ℤ) × NearestAway F tap N
+some-nearest : (F : ℕ) (tap : Float) → finite tap ≡ true → (N : ℤ) × NearestEven F tap N
 some-nearest F nan h = absurd (false≢true h)
 some-nearest F (inf s) h = absurd (false≢true h)
 some-nearest F (fin s m e) h = (wholeAt F s m e, nearest-at F s m e)
 
 -- a finite tap is turned down, with 6, where N is not within the bounds
-by-bounds : (F : ℕ) (tap : Float) (N : ℤ) (b : Bool) → F ≤ 31 → finite tap ≡ true → NearestAway F tap N → withinBounds N ≡ b → roundedTap F tap ≡ refuseIf (not b) 6 (given (resultOf F tap))
+by-bounds : (F : ℕ) (tap : Float) (N : ℤ) (b : Bool) → F ≤ 31 → finite tap ≡ true → NearestEven F tap N → withinBounds N ≡ b → roundedTap F tap ≡ refuseIf (not b) 6 (given (resultOf F tap))
 by-bounds F nan N b f h w e = absurd (false≢true h)
 by-bounds F (inf s) N b f h w e = absurd (false≢true h)
 by-bounds F (fin s m g) N b f h w e =
@@ -76,7 +76,7 @@ by-five false false true r q = absurd (no (same-number 6 5 q))
 by-five false false false r q = given-refused r 5 0 q
 
 module _ (F : ℕ) (tap : Float) (a : Answer TapResult) (w : TapRounded F tap a) where
-  out : F ≤ 31 → finite tap ≡ true → (N : ℤ) → NearestAway F tap N → a ≡ refused 6 0 ↔ (Coefficient N → ⊥)
+  out : F ≤ 31 → finite tap ≡ true → (N : ℤ) → NearestEven F tap N → a ≡ refused 6 0 ↔ (Coefficient N → ⊥)
   out f h N near = go (withinBounds N) refl
     where
       go : (b : Bool) → withinBounds N ≡ b → a ≡ refused 6 0 ↔ (Coefficient N → ⊥)
@@ -85,7 +85,7 @@ module _ (F : ℕ) (tap : Float) (a : Answer TapResult) (w : TapRounded F tap a)
           (λ q. given-refused (resultOf F tap) 6 0 (sym g ∙ q), λ no. absurd (no (bounds-within N e)))
       go false e = (λ q. λ c. true≢false (sym (within-bounds N c) ∙ e), λ no. w .answer ∙ by-bounds F tap N false f h near e)
 
-  inside : F ≤ 31 → finite tap ≡ true → (N : ℤ) → NearestAway F tap N → Coefficient N → (r : TapResult) × (a ≡ given r) × (wholeOf r ≡ N)
+  inside : F ≤ 31 → finite tap ≡ true → (N : ℤ) → NearestEven F tap N → Coefficient N → (r : TapResult) × (a ≡ given r) × (wholeOf r ≡ N)
   inside f h N near c =
       let g = w .answer ∙ by-bounds F tap N true f h near (within-bounds N c) in
       (resultOf F tap, g, sym (Theorems.nearest-only F tap (resultOf F tap) N (sym (w .answer) ∙ g) near))
@@ -106,7 +106,7 @@ refusals F tap a w = record {
 
 pub tap-claims : TapClaims
 tap-claims = record {
-  nearest-away = λ F tap r w. Theorems.nearest-away F tap r (sym (w .answer));
+  nearest-even = λ F tap r w. Theorems.nearest-even F tap r (sym (w .answer));
   nearest-only = λ F tap r M w. Theorems.nearest-only F tap r M (sym (w .answer));
   some-nearest = some-nearest;
   exact-whole = λ F tap N w. Theorems.exact-whole F tap N (sym (w .answer));

@@ -1,17 +1,17 @@
--- How far whole numbers are from the fraction ±a / d: `signed s (nearestWhole a d)` is nearest, and of two that are as near it is the larger in size. Assumes nothing.
+-- How far whole numbers are from the fraction ±a / d: `signed s (nearestWhole a d)` is nearest, and where another is as near it is even. Assumes nothing.
 use mathlib.Core.Path.{_≡_, refl, sym, ap, _∙_}
 use mathlib.Core.Logic.{_⊎_, inl, inr}
 use mathlib.Core.Bool.{Bool, true, false, not, cond}
-use Prim.Native.Nat.{ℕ, zero, suc, _+_, _-_, _*_, _≤_, _<_}
-use native.Mathlib.Nat.{le-trans, le-of-eq, add-mul, one-mul, zero-mul, mul-le-mul-right, le-antisymm}
+use Prim.Native.Nat.{ℕ, zero, suc, _+_, _-_, _*_, _%_, _≤_, _<_}
+use native.Mathlib.Nat.{le-trans, le-of-eq, add-mul, one-mul, zero-mul, zero-lt-suc, mul-le-mul-right, le-antisymm, eq-of-mul-eq-mul-right}
 use native.Mathlib.Omega.{arith}
 use lib.IntN.{ℤ, pos, negsuc, negℤ, natAbs, _+ℤ_, _-ℤ_, _*ℤ_, negℤ-negℤ, negℤ-+ℤ}
 use lib.Dec.{leb}
 use borrow.Author.Tests.{lt-ltb, le-ltb, lt-leb, le-leb}
 use Rattle.word.proofs.Order.{lt-or-le}
 use Rattle.tap.specs.Rounding.{nearestWhole, signed}
-use Rattle.tap.proofs.Whole.{nearest-near}
-use Rattle.tap.proofs.Rule.{nearest-within}
+use Rattle.tap.proofs.Whole.{up-one, nearest-near}
+use Rattle.tap.proofs.Rule.{nearest-even}
 use Rattle.tap.proofs.Exact.{apart, side, apart-le}
 
 -- ---- sizes of sums and differences
@@ -107,9 +107,6 @@ nearer a d x y h k (inl e) = le-of-eq (ap (apart a) (sym e))
 nearer a d x y h k (inr (inl l)) = omega arith
 nearer a d x y h k (inr (inr l)) = omega arith
 
-beyond : (a d x y : ℕ) → 0 < d → a * 2 < x * 2 + d → x + d ≤ y → apart a x < apart a y
-beyond a d x y D h l = omega arith
-
 compared : (k n d : ℕ) → (k * d ≡ n * d) ⊎ ((k * d + d ≤ n * d) ⊎ (n * d + d ≤ k * d))
 compared k n d = go (lt-or-le k n) (lt-or-le n k)
   where
@@ -141,71 +138,88 @@ module _ (s : Bool) (a d : ℕ) (D : 0 < d) where
           low : (a y : ℕ) → a ≤ a + y
           low a y = omega arith
 
-  pub none-larger : (z : ℤ) → distance s a d z ≡ distance s a d N → natAbs z ≤ natAbs N
-  none-larger z e = go (sided s z)
+  -- a number that is as near stands on the same side of zero
+  as-near : (z : ℤ) → distance s a d z ≡ distance s a d N → (k : ℕ) × (signed s k ≡ z)
+  as-near z e = go (sided s z)
     where
-      size : natAbs N ≡ nearestWhole a d
-      size = size-signed s (nearestWhole a d)
+      zeros : (s : Bool) → signed s 0 ≡ signed (not s) 0
+      zeros true = refl
+      zeros false = refl
 
-      go : Sided s z → natAbs z ≤ natAbs N
-      go (inl w) = le-trans (le-of-eq (ap natAbs (sym (w .1)) ∙ size-signed s (w .0))) (le-trans (at-most (lt-or-le (nearestWhole a d) (w .0))) (le-of-eq (sym size)))
+      none : (k : ℕ) → a + k * d ≤ a → k ≡ 0
+      none zero h = refl
+      none (suc k) h = absurd (more a (suc k * d) d D (next 0 (suc k) d (zero-lt-suc k)) h)
         where
-          irr : (x y : ℕ) → x ≡ y → y < x → ⊥
-          irr x y p q = omega arith
+          more : (a y d : ℕ) → 0 < d → 0 * d + d ≤ y → a + y ≤ a → ⊥
+          more a y d D h l = omega (arith, zero-mul d)
 
-          at-most : (nearestWhole a d < w .0) ⊎ (w .0 ≤ nearestWhole a d) → w .0 ≤ nearestWhole a d
-          at-most (inr h) = h
-          at-most (inl h) =
-              absurd
-              (irr (apart a (w .0 * d)) (apart a (nearestWhole a d * d)) (sym (same-side s a d (w .0)) ∙ ap (distance s a d) (w .1) ∙ e ∙ is-near)
-              (beyond a d (nearestWhole a d * d) (w .0 * d) D (nearest-within a d D .1) (next (nearestWhole a d) (w .0) d h)))
-      go (inr w) = le-trans (le-of-eq (ap natAbs (sym (w .1)) ∙ size-signed (not s) (w .0))) (le-trans (none (w .0) far) (low (natAbs N)))
-        where
-          far : a + w .0 * d ≤ a
-          far = le-trans (le-of-eq (sym (other-side s a d (w .0)) ∙ ap (distance s a d) (w .1) ∙ e ∙ is-near)) (apart-le a d D)
+      go : Sided s z → (k : ℕ) × (signed s k ≡ z)
+      go (inl w) = w
+      go (inr w) =
+          let far : a + w .0 * d ≤ a = le-trans (le-of-eq (sym (other-side s a d (w .0)) ∙ ap (distance s a d) (w .1) ∙ e ∙ is-near)) (apart-le a d D) in
+          (0, zeros s ∙ ap (signed (not s)) (sym (none (w .0) far)) ∙ w .1)
 
-          none : (k : ℕ) → a + k * d ≤ a → k ≤ 0
-          none zero h = le-of-eq refl
-          none (suc k) h = absurd (more a (suc k * d) d D (next 0 (suc k) d (pos-suc k)) h)
-            where
-              pos-suc : (k : ℕ) → 0 < suc k
-              pos-suc k = omega arith
+  -- and is N, or N's neighbour across a half; N is even then
+  abbrev Neighbour : ℕ → Type 0
+  Neighbour k = ((k + 1 ≡ nearestWhole a d) ⊎ (nearestWhole a d + 1 ≡ k)) × (nearestWhole a d % 2 ≡ 0)
 
-              more : (a y d : ℕ) → 0 < d → 0 * d + d ≤ y → a + y ≤ a → ⊥
-              more a y d D h l = omega (arith, zero-mul d)
+  neighbour : (k : ℕ) → apart a (k * d) ≡ apart a (nearestWhole a d * d) → (k ≡ nearestWhole a d) ⊎ Neighbour k
+  neighbour k e = go (compared k (nearestWhole a d) d)
+    where
+      below : (a d x y : ℕ) → 0 < d → x * 2 ≤ a * 2 + d → apart a y ≡ apart a x → y + d ≤ x → (y + d ≡ x) × (x * 2 ≡ a * 2 + d)
+      below a d x y D h e l = omega arith
 
-          low : (n : ℕ) → 0 ≤ n
-          low n = omega arith
+      above : (a d x y : ℕ) → 0 < d → a * 2 ≤ x * 2 + d → apart a y ≡ apart a x → x + d ≤ y → (x + d ≡ y) × (a * 2 ≡ x * 2 + d)
+      above a d x y D h e l = omega arith
 
-  -- no other number is both
-  pub no-other : (z : ℤ) → ((y : ℤ) → distance s a d z ≤ distance s a d y) → ((y : ℤ) → distance s a d y ≡ distance s a d z → natAbs y ≤ natAbs z) → z ≡ N
-  no-other z near large = go (sided s z)
+      go : (k * d ≡ nearestWhole a d * d) ⊎ ((k * d + d ≤ nearestWhole a d * d) ⊎ (nearestWhole a d * d + d ≤ k * d)) → (k ≡ nearestWhole a d) ⊎ Neighbour k
+      go (inl q) = inl (eq-of-mul-eq-mul-right d D k (nearestWhole a d) q)
+      go (inr (inl l)) =
+          let w = below a d (nearestWhole a d * d) (k * d) D (nearest-near a d D .0) e l in
+          inr (inl (eq-of-mul-eq-mul-right d D (k + 1) (nearestWhole a d) (up-one k d ∙ w .0)), nearest-even a d D .0 (w .1))
+      go (inr (inr l)) =
+          let w = above a d (nearestWhole a d * d) (k * d) D (nearest-near a d D .1) e l in
+          inr (inr (eq-of-mul-eq-mul-right d D (nearestWhole a d + 1) k (up-one (nearestWhole a d) d ∙ w .0)), nearest-even a d D .1 (w .1))
+
+  found : (z : ℤ) (k : ℕ) → signed s k ≡ z → distance s a d z ≡ distance s a d N → (k ≡ nearestWhole a d) ⊎ Neighbour k
+  found z k q e = neighbour k (sym (same-side s a d k) ∙ ap (distance s a d) q ∙ e ∙ is-near)
+
+  pub even-as-near : (z : ℤ) → (z ≡ N → ⊥) → distance s a d z ≡ distance s a d N → natAbs N % 2 ≡ 0
+  even-as-near z other e = go (found z (w .0) (w .1) e)
+    where
+      w : (k : ℕ) × (signed s k ≡ z)
+      w = as-near z e
+
+      go : (w .0 ≡ nearestWhole a d) ⊎ Neighbour (w .0) → natAbs N % 2 ≡ 0
+      go (inl q) = absurd (other (sym (w .1) ∙ ap (signed s) q))
+      go (inr q) = ap (λ (n : ℕ). n % 2) (size-signed s (nearestWhole a d)) ∙ q .1
+
+  -- no other number is both: of two neighbours one is odd
+  pub no-other : (z : ℤ) → ((y : ℤ) → distance s a d z ≤ distance s a d y) → ((y : ℤ) → (y ≡ z → ⊥) → distance s a d y ≡ distance s a d z → natAbs z % 2 ≡ 0) → z ≡ N
+  no-other z near even = go (found z (w .0) (w .1) e)
     where
       e : distance s a d z ≡ distance s a d N
       e = le-antisymm (near N) (none-nearer z)
 
-      size : natAbs z ≡ nearestWhole a d
-      size = le-antisymm (none-larger z e) (large N (sym e)) ∙ size-signed s (nearestWhole a d)
+      w : (k : ℕ) × (signed s k ≡ z)
+      w = as-near z e
 
-      go : Sided s z → z ≡ N
-      go (inl w) = sym (w .1) ∙ ap (signed s) (sym (size-signed s (w .0)) ∙ ap natAbs (w .1) ∙ size)
-      go (inr w) =
-          let k : w .0 ≡ nearestWhole a d = sym (size-signed (not s) (w .0)) ∙ ap natAbs (w .1) ∙ size in
-          sym (w .1) ∙ ap (signed (not s)) k ∙ same (nearestWhole a d) (le-trans (le-of-eq (ap (λ (x : ℕ). a + x * d) (sym k) ∙ sym (other-side s a d (w .0)) ∙ ap (distance s a d) (w .1) ∙ e ∙ is-near)) (apart-le a d D))
-        where
-          zeros : (s : Bool) → signed (not s) 0 ≡ signed s 0
-          zeros true = refl
-          zeros false = refl
+      size : natAbs z ≡ w .0
+      size = ap natAbs (sym (w .1)) ∙ size-signed s (w .0)
 
-          more : (a y : ℕ) → 0 < y → a + y ≤ a → ⊥
-          more a y h l = omega arith
+      apart-by-one : (k n : ℕ) → (k + 1 ≡ n) ⊎ (n + 1 ≡ k) → n ≡ k → ⊥
+      apart-by-one k n (inl h) q = omega arith
+      apart-by-one k n (inr h) q = omega arith
 
-          same : (n : ℕ) → a + n * d ≤ a → signed (not s) n ≡ signed s n
-          same zero h = zeros s
-          same (suc n) h = absurd (more a (suc n * d) (le-trans D (le-trans (le-of-eq (sym (one-mul d))) (mul-le-mul-right d (one-le n)))) h)
-            where
-              one-le : (n : ℕ) → 1 ≤ suc n
-              one-le n = omega arith
+      both-even : (k n : ℕ) → (k + 1 ≡ n) ⊎ (n + 1 ≡ k) → n % 2 ≡ 0 → k % 2 ≡ 0 → ⊥
+      both-even k n (inl h) p q = omega arith
+      both-even k n (inr h) p q = omega arith
+
+      go : (w .0 ≡ nearestWhole a d) ⊎ Neighbour (w .0) → z ≡ N
+      go (inl q) = sym (w .1) ∙ ap (signed s) q
+      go (inr q) =
+          let other : N ≡ z → ⊥ = λ h. apart-by-one (w .0) (nearestWhole a d) (q .0) (sym (size-signed s (nearestWhole a d)) ∙ ap natAbs h ∙ size) in
+          absurd (both-even (w .0) (nearestWhole a d) (q .0) (q .1) (ap (λ (n : ℕ). n % 2) (sym size) ∙ even N other (sym e)))
 
 -- ---- ±a less ±n * d, with its sign
 neg-signed : (b : Bool) (k : ℕ) → negℤ (signed (cond b false true) k) ≡ signed (cond b true false) k

@@ -85,10 +85,10 @@ module _ (A B C a d N : ℕ) (P : 0 < C) (Q : 0 < d) (hA : A * d ≡ a * C) (hB 
       go N a h = omega arith
 
 -- ---- X is ±a / d, and Y is ±n, with the same sign or 0
-crossA : (x d a e g : ℕ) → x * d ≡ a * e → x * g * d ≡ a * (e * g)
+pub crossA : (x d a e g : ℕ) → x * d ≡ a * e → x * g * d ≡ a * (e * g)
 crossA x d a e g h = mul-right-comm x g d ∙ ap (λ (z : ℕ). z * g) h ∙ mul-assoc a e g
 
-crossB : (y n g e d : ℕ) → y * 1 ≡ n * g → y * e * d ≡ n * d * (e * g)
+pub crossB : (y n g e d : ℕ) → y * 1 ≡ n * g → y * e * d ≡ n * d * (e * g)
 crossB y n g e d h = ap (λ (z : ℕ). z * e * d) (sym (mul-one y) ∙ h) ∙ simp (mul-assoc, mul-comm, mul-left-comm)
 
 pub leftover-is : (s : Bool) (a d n : ℕ) → leftover s a d n ≡ cond (leb (n * d) a) (round binary64 s (a - n * d) d) (round binary64 (not s) (n * d - a) d)

@@ -14,10 +14,10 @@ use borrow.Author.Tests.{not-false, ltb-false, le-ltb, eqb-true, eqb-false, eq-e
 use Rattle.refusal.specs.Answer.{given}
 use Rattle.refusal.proofs.Checks.{given-same, check-passes, given-if}
 use Rattle.tap.specs.Rounding.{TapResult, exact, rounded, nearestWhole, signed, leftover, split, finite, sizeOf, outside, resultOf, roundedTap, absOf, wholeOf, leftOf}
-use Rattle.tap.specs.Claims.{numerator, denominator, NearestAway, Exactly, AtMostHalf, ExactLeftover}
+use Rattle.tap.specs.Claims.{numerator, denominator, NearestEven, Exactly, AtMostHalf, ExactLeftover}
 use Rattle.tap.proofs.Whole.{nearest-near, nearest-whole}
 use Rattle.tap.proofs.Exact.{apart, side, one-round, leftover-exact, leftover-fits}
-use Rattle.tap.proofs.Distance.{signed-mul, difference-is, none-nearer, none-larger, no-other}
+use Rattle.tap.proofs.Distance.{signed-mul, difference-is, none-nearer, even-as-near, no-other}
 use Rattle.tap.proofs.Sign.{round-abs, size-is}
 use Rattle.tap.proofs.Answer.{most, rounded-is, of-finite, outside-is, result-is, split-is}
 
@@ -54,20 +54,20 @@ whole-of : (F : ℕ) (s : Bool) (m : ℕ) (e : ℤ) (c : TapResult) → resultOf
 whole-of F s m e c h =
     ap (signed s) (sym (size-is F s m e)) ∙ sym (whole-is s (m * up e * 2 ^ F) (down e) (sizeOf F (fin s m e))) ∙ ap wholeOf (sym (result-is F s m e) ∙ h)
 
--- N is the nearest whole number, a half away from zero
-pub nearest-away : (F : ℕ) (tap : Float) (c : TapResult) → roundedTap F tap ≡ given c → NearestAway F tap (wholeOf c)
-nearest-away F nan c h = absurd (false≢true (passed F nan c h .1))
-nearest-away F (inf s) c h = absurd (false≢true (passed F (inf s) c h .1))
-nearest-away F (fin s m e) c h =
-    subst (NearestAway F (fin s m e)) (whole-of F s m e c (passed F (fin s m e) c h .3))
-    (record { nearest = none-nearer s (m * up e * 2 ^ F) (down e) (down-pos e); away = none-larger s (m * up e * 2 ^ F) (down e) (down-pos e) })
+-- N is the nearest whole number, at a half the even one
+pub nearest-even : (F : ℕ) (tap : Float) (c : TapResult) → roundedTap F tap ≡ given c → NearestEven F tap (wholeOf c)
+nearest-even F nan c h = absurd (false≢true (passed F nan c h .1))
+nearest-even F (inf s) c h = absurd (false≢true (passed F (inf s) c h .1))
+nearest-even F (fin s m e) c h =
+    subst (NearestEven F (fin s m e)) (whole-of F s m e c (passed F (fin s m e) c h .3))
+    (record { nearest = none-nearer s (m * up e * 2 ^ F) (down e) (down-pos e); even = even-as-near s (m * up e * 2 ^ F) (down e) (down-pos e) })
 
 -- and no other whole number is
-pub nearest-only : (F : ℕ) (tap : Float) (c : TapResult) (M : ℤ) → roundedTap F tap ≡ given c → NearestAway F tap M → M ≡ wholeOf c
+pub nearest-only : (F : ℕ) (tap : Float) (c : TapResult) (M : ℤ) → roundedTap F tap ≡ given c → NearestEven F tap M → M ≡ wholeOf c
 nearest-only F nan c M h w = absurd (false≢true (passed F nan c h .1))
 nearest-only F (inf s) c M h w = absurd (false≢true (passed F (inf s) c h .1))
 nearest-only F (fin s m e) c M h w =
-    no-other s (m * up e * 2 ^ F) (down e) (down-pos e) M (w .nearest) (w .away) ∙ whole-of F s m e c (passed F (fin s m e) c h .3)
+    no-other s (m * up e * 2 ^ F) (down e) (down-pos e) M (w .nearest) (w .even) ∙ whole-of F s m e c (passed F (fin s m e) c h .3)
 
 -- an exact tap leaves nothing: tap × 2^F is N
 pub exact-whole : (F : ℕ) (tap : Float) (N : ℤ) → roundedTap F tap ≡ given (exact N) → numerator F tap ≡ N *ℤ pos (denominator tap)

@@ -1,8 +1,9 @@
--- What document 01, "Taps to coefficients" and "Turned down", says of one tap, as claims about every answer of `round_tap`. Definitions only; the proof is in proofs/Claims.antt.
+-- What document 01, "Taps to coefficients" and "Turned down", and request 4 of document 02 say of one tap, as claims about every answer of `round_tap`. Definitions only; the
+-- proof is in proofs/Claims.antt.
 use mathlib.Core.Path.{_≡_}
 use mathlib.Core.Logic.{_↔_}
 use mathlib.Core.Bool.{true, false}
-use Prim.Native.Nat.{ℕ, _*_, _^_, _≤_, _<_}
+use Prim.Native.Nat.{ℕ, _*_, _%_, _^_, _≤_, _<_}
 use lib.IntN.{ℤ, pos, natAbs, _-ℤ_, _*ℤ_}
 use lib.Dec.{T}
 use lib.Ieee.{Float, nan, inf, fin, binary64, up, down, eq, fits, isNan}
@@ -25,10 +26,10 @@ denominator (fin s m e) = down e
 abbrev pub distance : ℕ → Float → ℤ → ℕ
 distance F tap z = natAbs (numerator F tap -ℤ z *ℤ pos (denominator tap))
 
--- "the whole number nearest to tap × 2^F, .. an exact half going away from zero": none is nearer, and none as near is larger in size
-pub record NearestAway (F : ℕ) (tap : Float) (N : ℤ) : Type 0 where
+-- "the whole number nearest to tap × 2^F", by "IEEE 754's ties-to-even": none is nearer, and where another is as near N is even
+pub record NearestEven (F : ℕ) (tap : Float) (N : ℤ) : Type 0 where
   pub nearest : (z : ℤ) → distance F tap N ≤ distance F tap z
-  pub away : (z : ℤ) → distance F tap z ≡ distance F tap N → natAbs z ≤ natAbs N
+  pub even : (z : ℤ) → (z ≡ N → ⊥) → distance F tap z ≡ distance F tap N → natAbs N % 2 ≡ 0
 
 -- x is the number z / d exactly
 abbrev pub Exactly : Float → ℤ → ℕ → Type 0
@@ -57,17 +58,17 @@ pub record TapRefusals (F : ℕ) (tap : Float) (a : Answer TapResult) : Type 0 w
   -- "5, tap: tap infinite or not-a-number"
   pub not-finite : F ≤ 31 → a ≡ refused 5 0 ↔ finite tap ≡ false
   -- "6, tap: N outside the bounds"
-  pub out-of-bounds : F ≤ 31 → finite tap ≡ true → (N : ℤ) → NearestAway F tap N → a ≡ refused 6 0 ↔ (Coefficient N → ⊥)
+  pub out-of-bounds : F ≤ 31 → finite tap ≡ true → (N : ℤ) → NearestEven F tap N → a ≡ refused 6 0 ↔ (Coefficient N → ⊥)
   -- "a number is returned in no other circumstances"
-  pub accepted : F ≤ 31 → finite tap ≡ true → (N : ℤ) → NearestAway F tap N → Coefficient N → (r : TapResult) × (a ≡ given r) × (wholeOf r ≡ N)
+  pub accepted : F ≤ 31 → finite tap ≡ true → (N : ℤ) → NearestEven F tap N → Coefficient N → (r : TapResult) × (a ≡ given r) × (wholeOf r ≡ N)
 
 pub record TapClaims : Type 0 where
-  -- "The coefficient N is the whole number nearest to tap × 2^F .., an exact half going away from zero"
-  pub nearest-away : (F : ℕ) (tap : Float) (r : TapResult) → TapRounded F tap (given r) → NearestAway F tap (wholeOf r)
+  -- "The coefficient N is the whole number nearest to tap × 2^F", "ties-to-even"
+  pub nearest-even : (F : ℕ) (tap : Float) (r : TapResult) → TapRounded F tap (given r) → NearestEven F tap (wholeOf r)
   -- no other whole number is
-  pub nearest-only : (F : ℕ) (tap : Float) (r : TapResult) (M : ℤ) → TapRounded F tap (given r) → NearestAway F tap M → M ≡ wholeOf r
+  pub nearest-only : (F : ℕ) (tap : Float) (r : TapResult) (M : ℤ) → TapRounded F tap (given r) → NearestEven F tap M → M ≡ wholeOf r
   -- every finite tap has one
-  pub some-nearest : (F : ℕ) (tap : Float) → finite tap ≡ true → (N : ℤ) × NearestAway F tap N
+  pub some-nearest : (F : ℕ) (tap : Float) → finite tap ≡ true → (N : ℤ) × NearestEven F tap N
   -- "A rounded tap comes back either as exact, with N": tap × 2^F is N
   pub exact-whole : (F : ℕ) (tap : Float) (N : ℤ) → TapRounded F tap (given (exact N)) → numerator F tap ≡ N *ℤ pos (denominator tap)
   -- "or as rounded, with N and its leftover", for a tap that is a binary64 number: nothing is rounded away, and the leftover is not 0

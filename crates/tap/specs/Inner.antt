@@ -3,7 +3,6 @@ use Prim.Native.Nat.{ℕ, _*_}
 use mathlib.Core.Bool.{Bool, true, false, cond}
 use lib.IntN.{ℤ, pos}
 use lib.Ieee.{Float, nan, inf, fin, binary64, up, down, eq, lt, neg, sub, ofInt}
-use lib.Ieee.Nearest.{closest}
 use Rattle.refusal.specs.Answer.{Answer, given, refused}
 use Rattle.tap.specs.Rounding.{TapResult, exact, rounded, nearestWhole, wholeOf, leftOf}
 
@@ -13,12 +12,6 @@ unfolding nearestWhole
 nearestOf nan = 0
 nearestOf (inf s) = 0
 nearestOf (fin s m e) = nearestWhole (m * up e) (down e)
-
--- the same, but that of two numbers as near it is the even one
-unfoldable pub evenOf : Float → ℕ
-evenOf nan = 0
-evenOf (inf s) = 0
-evenOf (fin s m e) = closest (m * up e) (down e)
 
 -- x as the whole number z and the rest
 unfoldable pub parted : Float → ℤ → TapResult

@@ -1,4 +1,4 @@
--- One tap to a coefficient: document 01, "Taps to coefficients". Definitions only.
+-- One tap to a coefficient: document 01, "Taps to coefficients", with the half rule of request 4 of document 02. Definitions only.
 -- A finite tap is ±m × 2^e (`fin` of lib.Ieee) and 2^e is the fraction up e / down e. So tap × 2^F is exactly ±a / d with a = m × up e × 2^F and d = down e.
 use mathlib.Core.Path.{_≡_}
 use Prim.Native.Nat.{ℕ, _+_, _-_, _*_, _/_, _%_, _^_, compare, Ordering, Ordering·lt, Ordering·eq, Ordering·gt}
@@ -11,9 +11,9 @@ use Rattle.refusal.specs.Answer.{Answer, given, turnedDown, refuseIf}
 use Rattle.tap.specs.declared.RoundedTap.{RoundedTap}
 use Rattle.tap.specs.declared.RoundedTap.the-variants.{Exact, Rounded, Refused}
 
--- "an exact half going away from zero": the size that q + 1/2 goes to. The one place where the half rule stands
+-- "IEEE 754's ties-to-even": the size that q + 1/2 goes to is the even one of q and q + 1, which are as near. The one place where the half rule stands
 unfoldable pub halfOf : ℕ → ℕ
-halfOf q = q + 1
+halfOf q = q + q % 2
 
 -- q or the next number up, by how twice the remainder compares with the divisor
 unfoldable pub toNearest : ℕ → Ordering → ℕ

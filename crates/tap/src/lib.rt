@@ -13,8 +13,8 @@ ghost use lib.IntN.{pos};
 ghost use lib.Ieee as Ieee;
 ghost use lib.Ieee.{fin, binary64};
 ghost use Rattle.refusal.specs.Answer.{given};
-ghost use Rattle.tap.specs.Rounding.{halfOf, signed, answerOf, TapRounded};
-ghost use Rattle.tap.specs.Inner.{nearestOf, evenOf, parted, magnitudeOf};
+ghost use Rattle.tap.specs.Rounding.{signed, answerOf, TapRounded};
+ghost use Rattle.tap.specs.Inner.{nearestOf, parted, magnitudeOf};
 use refusal::Refusal;
 
 // What a tap comes back as: N with nothing left over, N with the leftover tap * 2^F - N, or a
@@ -40,35 +40,21 @@ fn scaled(x: f64, f: u32) -> f64
     x * f64::from_bits((1023 + (f as u64)) * 0x10_0000_0000_0000)
 }
 
-// The half rule: the size that q + 1/2 goes to. Away from zero.
-fn half(q: u64) -> u64
-    requires { ⌜ q ≤ 2 ^ 32 ⌝ }
-    ensures { λ r. ⌜ r ≡ halfOf q ⌝ }
-{
-    q + 1
-}
-
 // The whole number nearest to x, and of two that are as near the even one. A sum of 2^52 or more
 // has no digits for a fraction.
 fn nearest_even(x: f64) -> f64
     requires { ⌜ (Ieee.lt x (fin false 1 (pos 32)) ≡ true) × (Ieee.lt x (fin false 0 (pos 0)) ≡ false) ⌝ }
-    ensures { λ r. ⌜ r ≡ Ieee.ofInt binary64 (pos (evenOf x)) ⌝ }
+    ensures { λ r. ⌜ r ≡ Ieee.ofInt binary64 (pos (nearestOf x)) ⌝ }
 {
     (x + 4503599627370496.0) - 4503599627370496.0
 }
 
-// The whole number nearest to x. Where x is a half above the even number that is as near, the half
-// rule decides; where it is a half below one, every rule takes that number.
+// The same, no longer a float.
 fn nearest(x: f64) -> u64
     requires { ⌜ (Ieee.lt x (fin false 1 (pos 32)) ≡ true) × (Ieee.lt x (fin false 0 (pos 0)) ≡ false) ⌝ }
     ensures { λ r. ⌜ r ≡ nearestOf x ⌝ }
 {
-    let even = nearest_even(x);
-    let n = (even as i64) as u64;
-    if x == even + 0.5 {
-        return half(n);
-    }
-    n
+    (nearest_even(x) as i64) as u64
 }
 
 // The whole number of a size and a sign.
@@ -95,7 +81,7 @@ fn part(x: f64, n: i32) -> RoundedTap
     }
 }
 
-// The tap times 2^F rounded to the nearest whole number, an exact half away from zero.
+// The tap times 2^F rounded to the nearest whole number, an exact half to the even one.
 pub fn round_tap(tap: f64, fraction_bits: u32) -> RoundedTap
     ensures { λ r. ⌜ TapRounded «fraction_bits» tap (answerOf r) ⌝ }
 {

@@ -17,7 +17,7 @@ use Rattle.refusal.specs.Answer.{Answer, given, refused, refuseIf, refuseAt, Pl
 use Rattle.refusal.proofs.Checks.{given-refused, check-applies, check-passes, lowest-none-at}
 use Rattle.refusal.proofs.Lowest.{lowest-is, is-lowest, is-nowhere}
 use Rattle.tap.specs.Rounding.{finite, outside, resultOf, roundedTap}
-use Rattle.tap.specs.Claims.{NearestAway}
+use Rattle.tap.specs.Claims.{NearestEven}
 use Rattle.tap.proofs.Answer.{of-finite}
 use Rattle.tap.proofs.Claims.{tap-claims}
 use Rattle.tap_normalise.specs.Normalised.{sumOf, unusable, infinite, used, divisorOf}
@@ -95,7 +95,7 @@ outside-words F x f h =
       λ w. row .0 (words (w .whole) (w .nearest) .1 (w .not-within)),
     )
   where
-    words : (N : ℤ) → NearestAway F x N → roundedTap F x ≡ refused 6 0 ↔ (Coefficient N → ⊥)
+    words : (N : ℤ) → NearestEven F x N → roundedTap F x ≡ refused 6 0 ↔ (Coefficient N → ⊥)
     words = tap-claims .refusals F x (roundedTap F x) (record { answer = refl }) .out-of-bounds f h
 
 -- ---- the rows
@@ -194,7 +194,7 @@ module _ (F : ℕ) (normalised : Bool) (taps : List Float) (room : ℕ) where
       counted : (i : ℕ) → i < length taps → i < length (used normalised taps)
       counted i h = lt-of-lt-of-le h (le-of-eq (sym (length-used normalised taps)))
 
-      inside : (i : ℕ) → i < length taps → (N : ℤ) → NearestAway F (getD (used normalised taps) i nan) N → Coefficient N
+      inside : (i : ℕ) → i < length taps → (N : ℤ) → NearestEven F (getD (used normalised taps) i nan) N → Coefficient N
       inside i h N near =
           let x = getD (used normalised taps) i nan in
           let number : finite x ≡ true = all-finite (used normalised taps) (w .numbers) i (counted i h) in

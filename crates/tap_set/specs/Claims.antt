@@ -12,7 +12,7 @@ use lib.Ieee.{Float, nan, fin, binary64, lt, fits, isNan}
 use Rattle.word.specs.Bounds.{Coefficient}
 use Rattle.refusal.specs.Answer.{Answer, given, refused}
 use Rattle.tap.specs.Rounding.{TapResult, exact, finite, resultOf, absOf, wholeOf, leftOf, TapRounded}
-use Rattle.tap.specs.Claims.{NearestAway}
+use Rattle.tap.specs.Claims.{NearestEven}
 use Rattle.tap_normalise.specs.Normalised.{sumOf, unusable, infinite, used, divisorOf}
 use Rattle.tap_set.specs.declared.Report.{Report}
 use Rattle.tap_set.specs.Set.{TapsRounded}
@@ -76,12 +76,12 @@ pub record SetAccepted (F : ℕ) (normalised : Bool) (taps : List Float) (room :
   pub sized : SetSized F taps room
   pub each-finite : EachFinite taps
   pub divisible : Divisible normalised taps
-  pub within-bounds : (i : ℕ) → i < length taps → (N : ℤ) → NearestAway F (getD (used normalised taps) i nan) N → Coefficient N
+  pub within-bounds : (i : ℕ) → i < length taps → (N : ℤ) → NearestEven F (getD (used normalised taps) i nan) N → Coefficient N
 
 -- "N outside the bounds"
 pub record OutsideBounds (F : ℕ) (x : Float) : Type 0 where
   pub whole : ℤ
-  pub nearest : NearestAway F x whole
+  pub nearest : NearestEven F x whole
   pub not-within : Coefficient whole → ⊥
 
 -- "the lowest place that breaks it": the number there does, and no earlier one

@@ -28,5 +28,5 @@ pub record SetFigures : Type 0 where
   pub no-sum : TapsRounded 2 true (one ∷ fin true 1 (pos 0) ∷ []) (pos 9 ∷ pos 9 ∷ []) (refused 7 0) (pos 9 ∷ pos 9 ∷ [])
   -- "zero length gives refusal 1"
   pub no-taps : TapsRounded 2 true [] (pos 9 ∷ []) (refused 1 0) (pos 9 ∷ [])
-  -- not normalised at F = 2: the leftovers are +0, -0.5 and 0.5, of which -0.5 is the earlier
-  pub earliest : TapsRounded 2 false three (pos 9 ∷ pos 9 ∷ pos 9 ∷ []) (given (record { divisor = one; leftover = fin true 1 (negℤ (pos 1)) })) (pos 2 ∷ pos 3 ∷ negℤ (pos 3) ∷ [])
+  -- not normalised at F = 2: the leftovers are +0, 0.5 and -0.5, of which 0.5 is the earlier
+  pub earliest : TapsRounded 2 false three (pos 9 ∷ pos 9 ∷ pos 9 ∷ []) (given (record { divisor = one; leftover = half })) (pos 2 ∷ pos 2 ∷ negℤ (pos 2) ∷ [])

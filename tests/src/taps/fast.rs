@@ -4,23 +4,27 @@
 use crate::answer::{Answer, TapAnswer, ACCEPTED};
 use std::mem::MaybeUninit;
 
-/// The largest number below a half. A number plus this, with the number's sign, cut to a whole
-/// number, is the nearest whole number, a half going away from zero.
-const BELOW_HALF: f64 = 0.49999999999999994;
+/// 2^52 and half of it. A number below 2^51 in size plus this has no digits for a fraction, so the
+/// sum is rounded to a whole number, a half to the even one; its low 32 bits are those of that number.
+const LIFT: f64 = 6755399441055744.0;
 
 fn power_of_two(fraction_bits: u32) -> f64 {
     f64::from_bits((1023 + fraction_bits as u64) << 52)
 }
 
-/// The nearest whole number, where it is within the bounds.
+/// The nearest whole number plus LIFT, where that number is within the bounds.
 #[inline(always)]
-fn nearest(scaled: f64) -> Option<i32> {
-    if scaled > -2147483648.5 && scaled < 2147483647.5 {
-        // SAFETY: the sum, cut to a whole number, is within the bounds of an i32.
-        Some(unsafe { (scaled + BELOW_HALF.copysign(scaled)).to_int_unchecked() })
+fn lifted(scaled: f64) -> Option<f64> {
+    if scaled >= -2147483648.5 && scaled < 2147483647.5 {
+        Some(scaled + LIFT)
     } else {
         None
     }
+}
+
+#[inline(always)]
+fn low_bits(lifted: f64) -> i32 {
+    lifted.to_bits() as i32
 }
 
 #[inline(never)]
@@ -29,10 +33,10 @@ pub fn round_tap(bits: u64, fraction_bits: u32) -> TapAnswer {
         return TapAnswer::refused(4);
     }
     let tap = f64::from_bits(bits);
-    match nearest(tap * power_of_two(fraction_bits)) {
-        Some(coefficient) => TapAnswer {
+    match lifted(tap * power_of_two(fraction_bits)) {
+        Some(lifted) => TapAnswer {
             refusal: 0,
-            coefficient,
+            coefficient: low_bits(lifted),
         },
         None => TapAnswer::refused(if tap.is_finite() { 6 } else { 5 }),
     }
@@ -52,9 +56,9 @@ fn round_all<const DIVIDE: bool>(
     let mut largest = 0.0f64;
     for (place, (tap, out)) in taps.iter().zip(buffer.iter_mut()).enumerate() {
         let scaled = if DIVIDE { tap / divisor } else { *tap } * power;
-        let whole = nearest(scaled).ok_or(place)?;
-        out.write(whole);
-        let leftover = scaled - whole as f64;
+        let lifted = lifted(scaled).ok_or(place)?;
+        out.write(low_bits(lifted));
+        let leftover = scaled - (lifted - LIFT);
         if leftover.abs() > largest.abs() {
             largest = leftover;
         }

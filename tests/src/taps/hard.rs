@@ -47,8 +47,17 @@ fn scaled_values() -> Vec<f64> {
 }
 
 /// The bits below, at and above.
-fn with_neighbours(bits: u64) -> [u64; 3] {
+pub fn with_neighbours(bits: u64) -> [u64; 3] {
     [bits - 1, bits, bits + 1]
+}
+
+/// Whole parts of halves: small ones, and those beside every power of two up to 2^32.
+pub fn whole_parts() -> Vec<u64> {
+    let mut list: Vec<u64> = (0..40).collect();
+    for power in 5..=32 {
+        list.extend((1u64 << power) - 4..(1 << power) + 4);
+    }
+    list
 }
 
 fn scaled_cases(list: &mut Vec<TapCase>) {

@@ -107,9 +107,10 @@ fn quotients(list: &mut Vec<Set>) {
     both_modes(list, &filters);
 }
 
-/// Equal leftovers of different sign, larger ones later, and none at all; each also times 2^-F.
+/// Equal leftovers of different sign, larger ones later, and none at all; several halves, with either
+/// sign first; each also times 2^-F.
 fn leftovers(list: &mut Vec<Set>) {
-    let filters: [&[f64]; 12] = [
+    let filters: [&[f64]; 18] = [
         &[0.25, -0.25],
         &[-0.25, 0.25],
         &[0.5, -0.5],
@@ -122,6 +123,12 @@ fn leftovers(list: &mut Vec<Set>) {
         &[LEAST, -LEAST],
         &[-LEAST, LEAST, 3.0],
         &[0.49999999999999994, -0.49999999999999994, 4.0],
+        &[0.25, 2.5, 1.5, -0.5],
+        &[0.25, 1.5, 2.5, -0.5],
+        &[3.0, -1.5, -2.5, 0.5, 7.5],
+        &[3.0, -2.5, -1.5, 0.5, 7.5],
+        &[1.5, 3.5, 5.5, -0.5, -4.5],
+        &[0.49999999999999994, 0.5, 1.5],
     ];
     for filter in filters {
         for fraction_bits in 0..=31u32 {

@@ -12,8 +12,8 @@ pub enum Tap {
     Refused(u32),
 }
 
-/// The whole number nearest to mantissa × 2^exponent, an exact half going up, and what is left of
-/// the mantissa when it is taken away. None where that number is far above 2^31.
+/// The whole number nearest to mantissa × 2^exponent, of two that are as near the even one, and what
+/// is left of the mantissa when it is taken away. None where that number is far above 2^31.
 fn nearest(mantissa: u64, exponent: i64) -> Option<(u64, i64)> {
     if mantissa == 0 {
         Some((0, 0))
@@ -25,7 +25,10 @@ fn nearest(mantissa: u64, exponent: i64) -> Option<(u64, i64)> {
         Some((0, mantissa as i64))
     } else {
         let one = 1u64 << -exponent;
-        let whole = (2 * mantissa + one) / (2 * one);
+        let (whole, rest) = (mantissa / one, mantissa % one);
+        let odd = whole % 2 == 1;
+        let up = 2 * rest > one || 2 * rest == one && odd;
+        let whole = whole + up as u64;
         Some((whole, mantissa as i64 - (whole * one) as i64))
     }
 }

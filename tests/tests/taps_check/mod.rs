@@ -1,6 +1,6 @@
 //! One input through the core and the fast version, each compared with the literal one.
 
-use fir_tests::answer::ACCEPTED;
+use fir_tests::answer::{TapAnswer, ACCEPTED};
 use fir_tests::taps::literal::{self, Tap};
 use fir_tests::taps::set::{Outcome, Set, DIVISOR_BEFORE, GUARD, LEFTOVER_BEFORE};
 use fir_tests::taps::{core, fast};
@@ -11,7 +11,8 @@ use std::collections::HashSet;
 pub struct Tally {
     pub exact: usize,
     pub rounded: usize,
-    pub halves: usize,
+    /// Halves that went down, and up.
+    pub halves: [usize; 2],
     pub refused: [usize; 8],
     /// `beside[a][b]`: a was returned, and b applied as well.
     pub beside: [[usize; 8]; 8],
@@ -20,19 +21,45 @@ pub struct Tally {
     pub places: [HashSet<u32>; 8],
     /// Accepted sets whose largest leftover has an equal of the other sign.
     pub ties: usize,
+    /// Of these, halves that went down first, and up.
+    pub half_ties: [usize; 2],
     pub normalised: usize,
+}
+
+/// What Rust's own rounding gives, where tap × 2^F may have a fraction.
+fn by_ties_even(bits: u64, fraction_bits: u32) -> Option<TapAnswer> {
+    if fraction_bits > 31 {
+        return None;
+    }
+    let scaled = f64::from_bits(bits) * (1u64 << fraction_bits) as f64;
+    let near = scaled.abs() < (1u64 << 52) as f64;
+    let whole = scaled.round_ties_even();
+    let held = whole == whole as i32 as f64;
+    near.then(|| match held {
+        true => TapAnswer {
+            refusal: 0,
+            coefficient: whole as i32,
+        },
+        false => TapAnswer::refused(6),
+    })
 }
 
 pub fn check_tap(bits: u64, fraction_bits: u32, tally: &mut Tally) {
     let wanted = literal::round_tap(bits, fraction_bits);
     let at = || format!("tap {bits:#018x}, F = {fraction_bits}");
+    if let Some(third) = by_ties_even(bits, fraction_bits) {
+        assert_eq!(third, wanted, "{}", at());
+    }
     assert_eq!(core::round_tap(bits, fraction_bits), wanted, "{}", at());
     assert_eq!(fast::round_tap(bits, fraction_bits), wanted, "{}", at());
     match literal::tap(bits, fraction_bits) {
         Tap::Exact(_) => tally.exact += 1,
         Tap::Rounded(_, leftover) => {
             tally.rounded += 1;
-            tally.halves += (f64::from_bits(leftover).abs() == 0.5) as usize;
+            let leftover = f64::from_bits(leftover);
+            let sides = [leftover == 0.5, leftover == -0.5];
+            tally.halves[0] += sides[0] as usize;
+            tally.halves[1] += sides[1] as usize;
         }
         Tap::Refused(refusal) => tally.refused[refusal as usize] += 1,
     }
@@ -89,7 +116,11 @@ fn count(set: &Set, outcome: &Outcome, tally: &mut Tally) {
         tally.normalised += (set.normalised != 0) as usize;
         tally.exact += (outcome.leftover == 0) as usize;
         tally.rounded += (outcome.leftover != 0) as usize;
-        tally.ties += has_tie(set, outcome) as usize;
+        let tie = has_tie(set, outcome);
+        tally.ties += tie as usize;
+        let leftover = f64::from_bits(outcome.leftover);
+        tally.half_ties[0] += (tie && leftover == 0.5) as usize;
+        tally.half_ties[1] += (tie && leftover == -0.5) as usize;
         return;
     };
     let number = returned.refusal as usize;

@@ -1,18 +1,20 @@
--- `tap::nearest_even` meets its contract. Assumes nothing.
-use mathlib.Core.Path.{_≡_, refl, ap, _∙_}
-use lib.Ieee.{Float, binary64, add, sub, ofBits}
-use Rattle.tap.proofs.Value.{two-to}
-use Rattle.tap.proofs.Even.{even-whole}
+-- `tap::nearest_even` meets its contract: the number that it adds and takes off again is one that rounds (`IsLift`). Assumes nothing.
+use mathlib.Core.Path.{refl}
+use lib.Dec.{lit≤}
+use lib.Ieee.{ofBits}
+use Rattle.tap.proofs.Even.{rounded-by}
 use Rattle.tap.proofs.nearest_even.Statement.{statement}
 use Rattle.tap.proofs.nearest_even.Tie as tie
 
--- 2 ^ 52 by its bit pattern, as the code has it
-lift-is : ofBits binary64 0x4330_0000_0000_0000 ≡ two-to 52
-unfolding ofBits
-lift-is = refl
-
 returns : tie.Need-returns
-returns c = let x = c .args .x in ap (λ (m : Float). sub binary64 (add binary64 x m) m) lift-is ∙ even-whole x (c .pre .0) (c .pre .1)
+unfolding ofBits
+returns c = rounded-by (c .args .x) _ (c .pre .0) (c .pre .1) (record {
+  positive = refl;
+  whole = refl;
+  large = lit≤ tt;
+  room = lit≤ tt;
+  even = refl;
+})
 
 pub nearest-even-spec : {M : Type 1} → statement M
 nearest-even-spec = tie.close (tie.spec returns)

@@ -50,6 +50,9 @@ returns-3 c =
 whole-part-requires : tie.Need-whole-part-requires
 whole-part-requires c κs = search needs
 
+goes-up-requires : tie.Need-goes-up-requires
+goes-up-requires c κs = search needs
+
 wrapping-add-u64-requires : tie.Need-wrapping-add-u64-requires
 wrapping-add-u64-requires c κs = search needs
 
@@ -95,6 +98,7 @@ round-spec =
     refused-requires-3
     returns-3
     whole-part-requires
+    goes-up-requires
     wrapping-add-u64-requires
     most-requires
     refused-requires-4
