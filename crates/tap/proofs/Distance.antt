@@ -3,14 +3,14 @@ use mathlib.Core.Path.{_≡_, refl, sym, ap, _∙_}
 use mathlib.Core.Logic.{_⊎_, inl, inr}
 use mathlib.Core.Bool.{Bool, true, false, not, cond}
 use Prim.Native.Nat.{ℕ, zero, suc, _+_, _-_, _*_, _%_, _≤_, _<_}
-use native.Mathlib.Nat.{le-trans, le-of-eq, add-mul, one-mul, zero-mul, zero-lt-suc, mul-le-mul-right, le-antisymm, eq-of-mul-eq-mul-right}
+use native.Mathlib.Nat.{le-trans, le-of-eq, zero-mul, zero-lt-suc, le-antisymm, eq-of-mul-eq-mul-right}
 use native.Mathlib.Omega.{arith}
 use lib.IntN.{ℤ, pos, negsuc, negℤ, natAbs, _+ℤ_, _-ℤ_, _*ℤ_, negℤ-negℤ, negℤ-+ℤ}
 use lib.Dec.{leb}
 use borrow.Author.Tests.{lt-ltb, le-ltb, lt-leb, le-leb}
 use Rattle.word.proofs.Order.{lt-or-le}
 use Rattle.tap.specs.Rounding.{nearestWhole, signed}
-use Rattle.tap.proofs.Whole.{up-one, nearest-near}
+use Rattle.tap.proofs.Whole.{up-one, nearest-near, next, compared}
 use Rattle.tap.proofs.Rule.{nearest-even}
 use Rattle.tap.proofs.Exact.{apart, side, apart-le}
 
@@ -95,25 +95,11 @@ sided true (pos k) = inr (k, refl)
 sided true (negsuc k) = inl (suc k, refl)
 
 -- ---- multiples of d
-next : (k n d : ℕ) → k < n → k * d + d ≤ n * d
-next k n d h = le-trans (le-of-eq (sym (add-mul k 1 d ∙ ap (λ (x : ℕ). k * d + x) (one-mul d)))) (mul-le-mul-right d (go k n h))
-  where
-    go : (k n : ℕ) → k < n → k + 1 ≤ n
-    go k n h = omega arith
-
 -- x is the multiple n * d within half of d of a, and y another one, k * d
 nearer : (a d x y : ℕ) → x * 2 ≤ a * 2 + d → a * 2 ≤ x * 2 + d → (y ≡ x) ⊎ ((y + d ≤ x) ⊎ (x + d ≤ y)) → apart a x ≤ apart a y
 nearer a d x y h k (inl e) = le-of-eq (ap (apart a) (sym e))
 nearer a d x y h k (inr (inl l)) = omega arith
 nearer a d x y h k (inr (inr l)) = omega arith
-
-compared : (k n d : ℕ) → (k * d ≡ n * d) ⊎ ((k * d + d ≤ n * d) ⊎ (n * d + d ≤ k * d))
-compared k n d = go (lt-or-le k n) (lt-or-le n k)
-  where
-    go : (k < n) ⊎ (n ≤ k) → (n < k) ⊎ (k ≤ n) → (k * d ≡ n * d) ⊎ ((k * d + d ≤ n * d) ⊎ (n * d + d ≤ k * d))
-    go (inl h) q = inr (inl (next k n d h))
-    go (inr h) (inl g) = inr (inr (next n k d g))
-    go (inr h) (inr g) = inl (ap (λ (x : ℕ). x * d) (le-antisymm g h))
 
 -- ---- the number that `nearestWhole` gives
 module _ (s : Bool) (a d : ℕ) (D : 0 < d) where

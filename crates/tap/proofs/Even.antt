@@ -1,27 +1,30 @@
 -- Added to a large even number and taken off again, a number is rounded to a whole one, at a half to the even one. Assumes nothing.
-use mathlib.Core.Path.{_≡_, refl, sym, ap, _∙_, subst}
-use mathlib.Core.Bool.{Bool, true, false, _&&_, cond, true≢false}
-use Prim.Native.Nat.{ℕ, suc, _+_, _-_, _*_, _/_, _%_, _^_, _≤_, _<_, compare, Ordering, Ordering·lt, Ordering·eq, Ordering·gt}
-use native.Mathlib.Nat.{le-trans, le-of-eq, lt-of-lt-of-le, lt-of-le-of-lt, lt-of-not-le, not-le-of-lt, le-antisymm, add-mul, mul-one, mul-assoc, mul-comm, mul-right-comm, mul-pos, mul-le-mul-right, mul-lt-mul-of-pos-right, le-div-iff-mul-le, div-lt-iff-lt-mul, eq-of-mul-eq-mul-right, mod-lt, div-add-mod'}
+use mathlib.Core.Path.{_≡_, sym, ap, _∙_, subst}
+use mathlib.Core.Bool.{Bool, true, false, _&&_, cond, true≢false, false≢true}
+use Prim.Native.Nat.{ℕ, zero, suc, _+_, _-_, _*_, _/_, _%_, _^_, _≤_, _<_}
+use native.Mathlib.Nat.{le-trans, le-of-eq, le-of-lt, lt-of-lt-of-le, lt-of-le-of-lt, lt-of-not-le, not-le-of-lt, le-antisymm, zero-lt-suc, add-mul, mul-one, mul-assoc, mul-comm, mul-right-comm, mul-pos, mul-le-mul-right, mul-lt-mul-of-pos-right, le-div-iff-mul-le, div-lt-iff-lt-mul, eq-of-mul-eq-mul-right}
 use native.Mathlib.Omega.{arith}
-use lib.Arith.{digits-div}
-use lib.IntN.{ℤ, pos}
-use lib.Dec.{T, leb, ltb, lit≤, lit<, le→leb}
+use lib.IntN.{ℤ, pos, negsuc}
+use lib.Dec.{T, ltb, lit≤, lit<, le→leb, lt→ltb}
 use lib.Pow.{pow-add, pow-pos, pow-mono}
-use lib.Ieee.{Float, nan, inf, fin, binary64, up, down, round, nearest, size, sum, add, sub, lt, ofInt, inFloat, inSigned, toSigned}
-use lib.Ieee.Fits.{down-pos, nearest-le}
+use lib.Ieee.{Float, nan, inf, fin, binary64, up, down, round, size, sum, add, sub, ofInt, inFloat, inSigned, toSigned}
+use lib.Ieee.Fits.{down-pos}
 use lib.Ieee.Digits.{size-lt, size-le}
 use lib.Ieee.Exact.{HasValue}
 use lib.Ieee.Nearest.{closest, closest-same}
 use lib.Ieee.Order.{drop}
 use lib.Ieee.Scale.{grid, round-val, round-same}
-use lib.Ieee.Back.{positive-back}
+use lib.Ieee.Back.{positive-back, negative-back}
 use borrow.Author.Tests.{lt-ltb, le-ltb}
-use Rattle.tap.specs.Rounding.{nearestWhole}
-use Rattle.tap.specs.Inner.{nearestOf}
-use Rattle.tap.proofs.Rule.{nearest-closest}
-use Rattle.tap.proofs.Rest.{of-pos, crossA, crossB}
-use Rattle.tap.proofs.Value.{Plain, two-to, below, unsigned, nought}
+use mir.Syntax.{w32}
+use mir.Val.{SFits}
+use Rattle.word.proofs.Bounds.{bounds-within, coefficient-i32}
+use Rattle.tap.specs.Rounding.{nearestWhole, signed}
+use Rattle.tap.specs.Inner.{nearestOf, roundsWithin}
+use Rattle.tap.proofs.Whole.{nearest-near}
+use Rattle.tap.proofs.Rule.{nearest-even, nearest-unique, nearest-closest}
+use Rattle.tap.proofs.Rest.{of-pos, of-neg, crossA, crossB}
+use Rattle.tap.proofs.Range.{most-le, nearest-is, rounds-is, rounds-most, rounds-nan, rounds-inf}
 
 -- ---- a / d at 2 ^ 52 or more and below 2 ^ 53 is rounded to a whole number
 size-at : (n j : ℕ) → 2 ^ j ≤ n → n < 2 ^ suc j → size n ≡ suc j
@@ -43,44 +46,57 @@ reduced nan s n k K v = absurd v
 reduced (inf t) s n k K v = absurd v
 reduced (fin t p g) s n k K v = (v .0, mul-one (p * up g) ∙ eq-of-mul-eq-mul-right k K (p * up g) (n * down g) (v .1 ∙ mul-right-comm n k (down g)))
 
--- ---- a whole even number taken off: the nearest number moves with it
-shift-div : (a d k : ℕ) → 0 < d → (a + k * d) / d ≡ a / d + k
-shift-div a d k D = ap (λ (x : ℕ). x / d) (again a (k * d) (a / d * d) (a % d) (div-add-mod' a d) ∙ ap (λ (x : ℕ). x + a % d) (sym (add-mul (a / d) k d))) ∙ digits-div (a / d + k) (mod-lt a D)
+-- ---- with an even L, the nearest number of L ± a / d is L ± that of a / d
+abbrev beside : Bool → ℕ → ℕ → ℕ
+beside s x y = cond s (x - y) (y + x)
+
+moved : (s : Bool) (L a d : ℕ) → 0 < d → L % 2 ≡ 0 → a ≤ L * d → nearestWhole a d ≤ L → nearestWhole (beside s (L * d) a) d ≡ beside s L (nearestWhole a d)
+moved false L a d D e h k =
+    let n = nearestWhole a d in
+    let p : (n + L) * d ≡ n * d + L * d = add-mul n L d in
+    let w = nearest-near a d D in
+    nearest-unique (a + L * d) d (n + L) D (near (n * d) (L * d) ((n + L) * d) p (w .0) (w .1))
+    ((λ u. both n (nearest-even a d D .0 (before (n * d) (L * d) ((n + L) * d) p u))), (λ u. both n (nearest-even a d D .1 (after (n * d) (L * d) ((n + L) * d) p u))))
   where
-    again : (a y q r : ℕ) → q + r ≡ a → a + y ≡ q + y + r
-    again a y q r e = omega arith
+    near : (x y z : ℕ) → z ≡ x + y → x * 2 ≤ a * 2 + d → a * 2 ≤ x * 2 + d → (z * 2 ≤ (a + y) * 2 + d) × ((a + y) * 2 ≤ z * 2 + d)
+    near x y z p h k = omega arith
 
-shift-mod : (a d k : ℕ) → 0 < d → (a + k * d) % d ≡ a % d
-shift-mod a d k D =
-    rest (a + k * d) (a / d * d) (k * d) (a % d) ((a + k * d) % d) ((a + k * d) / d * d) (div-add-mod' (a + k * d) d)
-    (ap (λ (x : ℕ). x * d) (shift-div a d k D) ∙ add-mul (a / d) k d) (ap (λ (x : ℕ). x + k * d) (sym (div-add-mod' a d)))
+    before : (x y z : ℕ) → z ≡ x + y → z * 2 ≡ (a + y) * 2 + d → x * 2 ≡ a * 2 + d
+    before x y z p h = omega arith
+
+    after : (x y z : ℕ) → z ≡ x + y → (a + y) * 2 ≡ z * 2 + d → a * 2 ≡ x * 2 + d
+    after x y z p h = omega arith
+
+    both : (n : ℕ) → n % 2 ≡ 0 → (n + L) % 2 ≡ 0
+    both n h = omega arith
+moved true L a d D e h k =
+    let n = nearestWhole a d in
+    let p : (L - n) * d + n * d ≡ L * d = sym (add-mul (L - n) n d) ∙ ap (λ (x : ℕ). x * d) (back n k) in
+    let w = nearest-near a d D in
+    nearest-unique (L * d - a) d (L - n) D (near (n * d) (L * d) ((L - n) * d) p h (w .0) (w .1))
+    ((λ u. both n k (nearest-even a d D .1 (before (n * d) (L * d) ((L - n) * d) p h u))), (λ u. both n k (nearest-even a d D .0 (after (n * d) (L * d) ((L - n) * d) p h u))))
   where
-    rest : (n q y r r' q' : ℕ) → q' + r' ≡ n → q' ≡ q + y → n ≡ q + r + y → r' ≡ r
-    rest n q y r r' q' e f g = omega arith
+    back : (n : ℕ) → n ≤ L → L - n + n ≡ L
+    back n k = omega arith
 
-shifted : (a d k : ℕ) → 0 < d → closest (a + k * 2 * d) d ≡ closest a d + k * 2
-shifted a d k D =
-    ap (λ (q : ℕ). nearest q (compare ((a + k * 2 * d) % d * 2) d)) (shift-div a d (k * 2) D)
-    ∙ ap (λ (r : ℕ). nearest (a / d + k * 2) (compare (r * 2) d)) (shift-mod a d (k * 2) D)
-    ∙ moved (a / d) k (compare (a % d * 2) d)
-  where
-    even : (q k : ℕ) → q + k * 2 + (q + k * 2) % 2 ≡ q + q % 2 + k * 2
-    even q k = omega arith
+    near : (x y z : ℕ) → z + x ≡ y → a ≤ y → x * 2 ≤ a * 2 + d → a * 2 ≤ x * 2 + d → (z * 2 ≤ (y - a) * 2 + d) × ((y - a) * 2 ≤ z * 2 + d)
+    near x y z p l h k = omega arith
 
-    next : (q k : ℕ) → suc (q + k * 2) ≡ suc q + k * 2
-    next q k = omega arith
+    before : (x y z : ℕ) → z + x ≡ y → a ≤ y → z * 2 ≡ (y - a) * 2 + d → a * 2 ≡ x * 2 + d
+    before x y z p l h = omega arith
 
-    moved : (q k : ℕ) (o : Ordering) → nearest (q + k * 2) o ≡ nearest q o + k * 2
-    moved q k Ordering·lt = refl
-    moved q k Ordering·eq = even q k
-    moved q k Ordering·gt = next q k
+    after : (x y z : ℕ) → z + x ≡ y → a ≤ y → (y - a) * 2 ≡ z * 2 + d → x * 2 ≡ a * 2 + d
+    after x y z p l h = omega arith
 
--- ---- the number that is added: a whole one from 2 ^ 52 on, so that the sum has no digits for a fraction, and even, so that a half goes to the even number
+    both : (n : ℕ) → n ≤ L → n % 2 ≡ 0 → (L - n) % 2 ≡ 0
+    both n k h = omega arith
+
+-- ---- the number that is added: whole and even, and up to 2 ^ 32 from it binary64 has the whole numbers and no others
 pub record Lift (s : Bool) (p : ℕ) (g : ℤ) : Type 0 where
   pub positive : s ≡ false
   pub whole : down g ≡ 1
-  pub large : 2 ^ 52 ≤ p * up g
-  pub room : p * up g + 2 ^ 32 ≤ 2 ^ 53
+  pub large : 2 ^ 52 + 2 ^ 32 ≤ p * up g
+  pub room : p * up g + 2 ^ 32 < 2 ^ 53
   pub even : p * up g % 2 ≡ 0
 
 abbrev pub IsLift : Float → Type 0
@@ -88,122 +104,157 @@ IsLift nan = ⊥
 IsLift (inf s) = ⊥
 IsLift (fin s p g) = Lift s p g
 
-pub closest-small : (a d : ℕ) → 0 < d → a < 2 ^ 32 * d → closest a d ≤ 2 ^ 32
-closest-small a d D h = le-trans (nearest-le (a / d) (compare (a % d * 2) d)) (div-lt-iff-lt-mul D .1 h)
-
 module _ (p : ℕ) (g : ℤ) (w : Lift false p g) where
   abbrev L : ℕ
   L = p * up g
 
+  over : (n : ℕ) → n ≤ 2 ^ 32 → n ≤ L
+  over n h = le-trans h (le-trans (lit≤ tt) (w .large))
+
   -- ---- the sum
-  lifted-is : (s : Bool) (m : ℕ) (e : ℤ) → Plain s (m * up e) → add binary64 (fin s m e) (fin false p g) ≡ round binary64 false (m * up e + L * down e) (down e)
+  lifted-is : (s : Bool) (m : ℕ) (e : ℤ) → m * up e < L * down e → add binary64 (fin s m e) (fin false p g) ≡ round binary64 false (beside s (L * down e) (m * up e)) (down e)
   unfolding add sum
-  lifted-is false m e q =
+  lifted-is false m e h =
       ap (λ (k : ℕ). round binary64 false (m * up e * k + L * down e) (down e * k)) (w .whole)
       ∙ ap (λ (x : ℕ). round binary64 false (x + L * down e) (down e * 1)) (mul-one (m * up e))
       ∙ ap (λ (x : ℕ). round binary64 false (m * up e + L * down e) x) (mul-one (down e))
-  lifted-is true m e q =
-      let A = m * up e * down g in
-      let B = L * down e in
-      let z : A ≡ 0 = ap (λ (k : ℕ). m * up e * k) (w .whole) ∙ mul-one (m * up e) ∙ q refl in
-      let b : A < B = lt-of-le-of-lt (le-of-eq z) (mul-pos (lt-of-lt-of-le (lit< tt) (w .large)) (down-pos e)) in
-      ap (λ (t : Bool). cond t (round binary64 false (B - A) (down e * down g)) (round binary64 (true && ltb B A) (A - B) (down e * down g))) (lt-ltb A B b)
-      ∙ ap (λ (x : ℕ). round binary64 false x (down e * down g)) (taken (m * up e) A B (q refl) z)
-      ∙ ap (λ (k : ℕ). round binary64 false (m * up e + B) (down e * k)) (w .whole)
-      ∙ ap (λ (x : ℕ). round binary64 false (m * up e + B) x) (mul-one (down e))
-    where
-      taken : (n A B : ℕ) → n ≡ 0 → A ≡ 0 → B - A ≡ n + B
-      taken n A B p z = omega arith
+  lifted-is true m e h =
+      ap (λ (k : ℕ). cond (ltb (m * up e * k) (L * down e)) (round binary64 false (L * down e - m * up e * k) (down e * k)) (round binary64 (true && ltb (L * down e) (m * up e * k)) (m * up e * k - L * down e) (down e * k))) (w .whole)
+      ∙ ap (λ (x : ℕ). cond (ltb x (L * down e)) (round binary64 false (L * down e - x) (down e * 1)) (round binary64 (true && ltb (L * down e) x) (x - L * down e) (down e * 1))) (mul-one (m * up e))
+      ∙ ap (λ (t : Bool). cond t (round binary64 false (L * down e - m * up e) (down e * 1)) (round binary64 (true && ltb (L * down e) (m * up e)) (m * up e - L * down e) (down e * 1))) (lt-ltb (m * up e) (L * down e) h)
+      ∙ ap (λ (x : ℕ). round binary64 false (L * down e - m * up e) x) (mul-one (down e))
 
-  lifted : (s : Bool) (m : ℕ) (e : ℤ) → Plain s (m * up e) → m * up e < 2 ^ 32 * down e → HasValue (add binary64 (fin s m e) (fin false p g)) false (closest (m * up e) (down e) + L) 1
-  lifted s m e q h =
+  -- it is from 2 ^ 52 on and below 2 ^ 53
+  module _ (a d : ℕ) (D : 0 < d) (h : a ≤ 2 ^ 32 * d) where
+    lo : (s : Bool) → 2 ^ 52 * d ≤ beside s (L * d) a
+    lo false = le-trans (mul-le-mul-right d (le-trans (lit≤ tt) (w .large))) (go a (L * d))
+      where
+        go : (a x : ℕ) → x ≤ a + x
+        go a x = omega arith
+    lo true = go a (2 ^ 52 * d) (2 ^ 32 * d) (L * d) h (le-trans (le-of-eq (sym (add-mul (2 ^ 52) (2 ^ 32) d))) (mul-le-mul-right d (w .large)))
+      where
+        go : (a x y z : ℕ) → a ≤ y → x + y ≤ z → x ≤ z - a
+        go a x y z h k = omega arith
+
+    hi : (s : Bool) → beside s (L * d) a < 2 ^ 53 * d
+    hi s = go s a (2 ^ 32 * d) (L * d) (2 ^ 53 * d) h (lt-of-le-of-lt (le-of-eq (sym (add-mul L (2 ^ 32) d))) (mul-lt-mul-of-pos-right (w .room) D))
+      where
+        go : (s : Bool) (a y x z : ℕ) → a ≤ y → x + y < z → beside s x a < z
+        go true a y x z h k = omega arith
+        go false a y x z h k = omega arith
+
+    under : a < L * d
+    under = lt-of-le-of-lt h (mul-lt-mul-of-pos-right (lt-of-lt-of-le (lit< tt) (w .large)) D)
+
+  lifted : (s : Bool) (m : ℕ) (e : ℤ) → m * up e ≤ 2 ^ 32 * down e → nearestWhole (m * up e) (down e) ≤ 2 ^ 32
+      → HasValue (add binary64 (fin s m e) (fin false p g)) false (beside s L (nearestWhole (m * up e) (down e))) 1
+  lifted s m e h k =
       let A = m * up e in
       let D = down e in
-      let a = A + L * D in
-      let lo : 2 ^ 52 * D ≤ a = le-trans (mul-le-mul-right D (w .large)) (low A (L * D)) in
-      let hi : a < 2 ^ 53 * D = lt-of-lt-of-le (more A (2 ^ 32 * D) (L * D) h) (le-trans (le-of-eq (sym (add-mul L (2 ^ 32) D))) (mul-le-mul-right D (w .room))) in
-      let r : grid binary64 a D ≡ (closest A D + L) * 2 ^ 1074 = grid-is a D (down-pos e) lo hi ∙ ap (λ (n : ℕ). n * 2 ^ 1074) (moved A D (down-pos e)) in
-      let b : closest A D + L ≤ 2 ^ 53 = le-trans (add-le (closest A D) (2 ^ 32) L (closest-small A D (down-pos e) h)) (w .room) in
+      let a = beside s (L * D) A in
+      let n = beside s L (nearestWhole A D) in
+      let r : grid binary64 a D ≡ n * 2 ^ 1074 =
+      grid-is a D (down-pos e) (lo A D (down-pos e) h s) (hi A D (down-pos e) h s) ∙ ap (λ (x : ℕ). x * 2 ^ 1074) (sym (nearest-closest a D) ∙ moved s L A D (down-pos e) (w .even) (le-of-lt (under A D (down-pos e) h)) (over (nearestWhole A D) k)) in
+      let b : n ≤ 2 ^ 53 = few s (nearestWhole A D) k in
       let o : grid binary64 a D < 2 ^ 2098 = subst (λ (n : ℕ). n < 2 ^ 2098) (sym r) (lt-of-le-of-lt (mul-le-mul-right (2 ^ 1074) b) (lit< tt)) in
-      subst (λ (x : Float). HasValue x false (closest A D + L) 1) (sym (lifted-is s m e q))
-      (reduced (round binary64 false a D) false (closest A D + L) (2 ^ 1074) (pow-pos 1074) (subst (λ (n : ℕ). HasValue (round binary64 false a D) false n (2 ^ 1074)) r (round-val binary64 a D o)))
+      subst (λ (x : Float). HasValue x false n 1) (sym (lifted-is s m e (under A D (down-pos e) h)))
+      (reduced (round binary64 false a D) false n (2 ^ 1074) (pow-pos 1074) (subst (λ (n : ℕ). HasValue (round binary64 false a D) false n (2 ^ 1074)) r (round-val binary64 a D o)))
     where
-      low : (a b : ℕ) → b ≤ a + b
-      low a b = omega arith
-
-      more : (a b c : ℕ) → a < b → a + c < c + b
-      more a b c h = omega arith
-
-      add-le : (a b c : ℕ) → a ≤ b → a + c ≤ c + b
-      add-le a b c h = omega arith
-
-      moved : (a d : ℕ) → 0 < d → closest (a + L * d) d ≡ closest a d + L
-      moved a d D = subst (λ (n : ℕ). closest (a + n * d) d ≡ closest a d + n) (halved L (w .even)) (shifted a d (L / 2) D)
-        where
-          halved : (n : ℕ) → n % 2 ≡ 0 → n / 2 * 2 ≡ n
-          halved n h = omega arith
+      few : (s : Bool) (n : ℕ) → n ≤ 2 ^ 32 → beside s L n ≤ 2 ^ 53
+      few true n h = omega (arith, w .room)
+      few false n h = omega (arith, w .room)
 
   -- ---- and taken off again
-  taken-off : (t : Float) (n : ℕ) → HasValue t false (n + L) 1 → sub binary64 t (fin false p g) ≡ ofInt binary64 (pos n)
-  unfolding sub sum
-  taken-off nan n v = absurd v
-  taken-off (inf s) n v = absurd v
-  taken-off (fin true m e) n v = absurd (true≢false (v .0))
-  taken-off (fin false m e) n v =
-      let A = m * up e * down g in
-      let B = p * up g * down e in
-      let C = down e * down g in
-      let hA : A * 1 ≡ (n + L) * C = crossA (m * up e) 1 (n + L) (down e) (down g) (v .1) in
-      let hB : B * 1 ≡ L * 1 * C = crossB (p * up g) L (down g) (down e) 1 (ap (λ (k : ℕ). L * k) (sym (w .whole))) in
-      let d : A ≡ n * C + B = sym (mul-one A) ∙ hA ∙ add-mul n L C ∙ ap (λ (x : ℕ). n * C + x) (ap (λ (x : ℕ). x * C) (sym (mul-one L)) ∙ sym hB ∙ mul-one B) in
-      ap (λ (b : Bool). cond b (round binary64 true (B - A) C) (round binary64 (false && ltb B A) (A - B) C)) (le-ltb A B (high A B (n * C) d))
-      ∙ ap (λ (x : ℕ). round binary64 false x C) (left A B (n * C) d)
-      ∙ round-same binary64 false (n * C) C n 1 (mul-pos (down-pos e) (down-pos g)) (lit< tt) (mul-one (n * C))
-      ∙ sym (of-pos n)
+  module _ (m : ℕ) (e : ℤ) where
+    abbrev A : ℕ
+    A = m * up e * down g
+
+    abbrev B : ℕ
+    B = L * down e
+
+    abbrev C : ℕ
+    C = down e * down g
+
+    C-pos : 0 < C
+    C-pos = mul-pos (down-pos e) (down-pos g)
+
+    A-is : (k : ℕ) → m * up e * 1 ≡ k * down e → A ≡ k * C
+    A-is k v = sym (mul-one A) ∙ crossA (m * up e) 1 k (down e) (down g) v
+
+    B-is : B ≡ L * C
+    B-is = sym (mul-one B) ∙ crossB L L (down g) (down e) 1 (ap (λ (k : ℕ). L * k) (sym (w .whole))) ∙ ap (λ (x : ℕ). x * C) (mul-one L)
+
+    off-plus : (n : ℕ) → m * up e * 1 ≡ (n + L) * down e → sub binary64 (fin false m e) (fin false p g) ≡ ofInt binary64 (pos n)
+    unfolding sub sum
+    off-plus n v =
+        let d : A ≡ n * C + B = A-is (n + L) v ∙ add-mul n L C ∙ ap (λ (x : ℕ). n * C + x) (sym B-is) in
+        ap (λ (b : Bool). cond b (round binary64 true (B - A) C) (round binary64 (false && ltb B A) (A - B) C)) (le-ltb A B (high A B (n * C) d))
+        ∙ ap (λ (x : ℕ). round binary64 false x C) (left A B (n * C) d)
+        ∙ round-same binary64 false (n * C) C n 1 C-pos (lit< tt) (mul-one (n * C))
+        ∙ sym (of-pos n)
+      where
+        high : (x y k : ℕ) → x ≡ k + y → y ≤ x
+        high x y k h = omega arith
+
+        left : (x y k : ℕ) → x ≡ k + y → x - y ≡ k
+        left x y k h = omega arith
+
+    off-minus : (n : ℕ) → suc n ≤ L → m * up e * 1 ≡ (L - suc n) * down e → sub binary64 (fin false m e) (fin false p g) ≡ ofInt binary64 (negsuc n)
+    unfolding sub sum
+    off-minus n k v =
+        let d : B ≡ suc n * C + A =
+        B-is ∙ ap (λ (x : ℕ). x * C) (back n k) ∙ add-mul (suc n) (L - suc n) C ∙ ap (λ (x : ℕ). suc n * C + x) (sym (A-is (L - suc n) v)) in
+        ap (λ (b : Bool). cond b (round binary64 true (B - A) C) (round binary64 (false && ltb B A) (A - B) C)) (lt-ltb A B (less A B (suc n * C) d (mul-pos (zero-lt-suc n) C-pos)))
+        ∙ ap (λ (x : ℕ). round binary64 true x C) (left B A (suc n * C) d)
+        ∙ round-same binary64 true (suc n * C) C (suc n) 1 C-pos (lit< tt) (mul-one (suc n * C))
+        ∙ sym (of-neg n)
+      where
+        back : (n : ℕ) → suc n ≤ L → L ≡ suc n + (L - suc n)
+        back n k = omega arith
+
+        less : (x y k : ℕ) → y ≡ k + x → 0 < k → x < y
+        less x y k h z = omega arith
+
+        left : (x y k : ℕ) → x ≡ k + y → x - y ≡ k
+        left x y k h = omega arith
+
+  taken-off : (s : Bool) (t : Float) (n : ℕ) → n ≤ L → HasValue t false (beside s L n) 1 → sub binary64 t (fin false p g) ≡ ofInt binary64 (signed s n)
+  taken-off s nan n k v = absurd v
+  taken-off s (inf b) n k v = absurd v
+  taken-off s (fin true m e) n k v = absurd (true≢false (v .0))
+  taken-off false (fin false m e) n k v = off-plus m e n (v .1)
+  taken-off true (fin false m e) zero k v = off-plus m e 0 (v .1 ∙ ap (λ (x : ℕ). x * down e) (none L))
     where
-      high : (A B k : ℕ) → A ≡ k + B → B ≤ A
-      high A B k h = omega arith
+      none : (x : ℕ) → x - 0 ≡ 0 + x
+      none x = omega arith
+  taken-off true (fin false m e) (suc n) k v = off-minus m e n k (v .1)
 
-      left : (A B k : ℕ) → A ≡ k + B → A - B ≡ k
-      left A B k h = omega arith
+-- ---- `nearest_even`: x rounds to a coefficient
+pub rounded-by : (x y : Float) → roundsWithin x ≡ true → IsLift y → sub binary64 (add binary64 x y) y ≡ ofInt binary64 (nearestOf x)
+rounded-by nan y h w = absurd (false≢true (sym rounds-nan ∙ h))
+rounded-by (inf s) y h w = absurd (false≢true (sym (rounds-inf s) ∙ h))
+rounded-by (fin s m e) nan h w = absurd w
+rounded-by (fin s m e) (inf t) h w = absurd w
+rounded-by (fin s m e) (fin true p g) h w = absurd (true≢false (w .positive))
+rounded-by (fin s m e) (fin false p g) h w =
+    let n = nearestWhole (m * up e) (down e) in
+    let k : n ≤ 2 ^ 31 = le-trans (rounds-most s m e h) (most-le s) in
+    let l : n ≤ 2 ^ 32 = le-trans k (lit≤ tt) in
+    taken-off p g w s (add binary64 (fin s m e) (fin false p g)) n (over p g w n l) (lifted p g w s m e (small (m * up e) (down e) (n * down e) (nearest-near (m * up e) (down e) (down-pos e) .1) (mul-le-mul-right (down e) k)) l) ∙ ap (ofInt binary64) (sym (nearest-is s m e))
+  where
+    small : (a d x : ℕ) → a * 2 ≤ x * 2 + d → x ≤ 2 ^ 31 * d → a ≤ 2 ^ 32 * d
+    small a d x h k = omega arith
 
--- ---- `nearest`
-pub nearest-is : (s : Bool) (m : ℕ) (e : ℤ) → nearestOf (fin s m e) ≡ nearestWhole (m * up e) (down e)
-unfolding nearestOf
-nearest-is s m e = refl
-
-as-closest : (s : Bool) (m : ℕ) (e : ℤ) → nearestOf (fin s m e) ≡ closest (m * up e) (down e)
-as-closest s m e = nearest-is s m e ∙ nearest-closest (m * up e) (down e)
-
-not-under : lt nan (two-to 32) ≡ false
-unfolding lt
-not-under = refl
-
-inf-under : (s : Bool) → lt (inf s) nought ≡ false → lt (inf s) (two-to 32) ≡ false
-unfolding lt
-inf-under true h = absurd (true≢false h)
-inf-under false h = refl
-
--- x is below 2 ^ 32 and not below zero
-pub rounded-by : (x y : Float) → lt x (two-to 32) ≡ true → lt x nought ≡ false → IsLift y → sub binary64 (add binary64 x y) y ≡ ofInt binary64 (pos (nearestOf x))
-rounded-by nan y h l w = absurd (true≢false (sym h ∙ not-under))
-rounded-by (inf s) y h l w = absurd (true≢false (sym h ∙ inf-under s l))
-rounded-by (fin s m e) nan h l w = absurd w
-rounded-by (fin s m e) (inf t) h l w = absurd w
-rounded-by (fin s m e) (fin true p g) h l w = absurd (true≢false (w .positive))
-rounded-by (fin s m e) (fin false p g) h l w =
-    let q = unsigned s m e l in
-    taken-off p g w (add binary64 (fin s m e) (fin false p g)) (closest (m * up e) (down e)) (lifted p g w s m e q (below s m e h q)) ∙ ap (λ (n : ℕ). ofInt binary64 (pos n)) (sym (as-closest s m e))
-
-pub nearest-small : (x : Float) → lt x (two-to 32) ≡ true → lt x nought ≡ false → nearestOf x ≤ 2 ^ 32
-nearest-small nan h l = absurd (true≢false (sym h ∙ not-under))
-nearest-small (inf s) h l = absurd (true≢false (sym h ∙ inf-under s l))
-nearest-small (fin s m e) h l = le-trans (le-of-eq (as-closest s m e)) (closest-small (m * up e) (down e) (down-pos e) (below s m e h (unsigned s m e l)))
-
-in-is : (n : ℕ) → inFloat binary64 (pos n) ≡ leb n (2 ^ 53)
+-- ---- `nearest`: the cast to a whole number loses nothing
+cast : (z : ℤ) → SFits w32 z → T (inSigned binary64 31 (ofInt binary64 z)) × (toSigned 31 (ofInt binary64 z) ≡ z)
 unfolding inFloat
-in-is n = refl
+cast (pos n) h = positive-back binary64 31 n (le→leb n (2 ^ 53) (le-of-lt (lt-of-lt-of-le (h .sfits) (lit≤ tt)))) (h .sfits)
+cast (negsuc k) h = negative-back binary64 31 k (lt→ltb k (2 ^ 53) (lt-of-lt-of-le (h .sfits) (lit≤ tt))) (h .sfits)
 
--- the casts to a whole number lose nothing
-pub counted : (n : ℕ) → n ≤ 2 ^ 32 → T (inSigned binary64 63 (ofInt binary64 (pos n))) × (toSigned 63 (ofInt binary64 (pos n)) ≡ pos n)
-counted n h = positive-back binary64 63 n (subst T (sym (in-is n)) (le→leb n (2 ^ 53) (le-trans h (lit≤ tt)))) (lt-of-le-of-lt h (lit< tt))
+pub rounds-i32 : (x : Float) → roundsWithin x ≡ true → SFits w32 (nearestOf x)
+rounds-i32 nan h = absurd (false≢true (sym rounds-nan ∙ h))
+rounds-i32 (inf s) h = absurd (false≢true (sym (rounds-inf s) ∙ h))
+rounds-i32 (fin s m e) h = coefficient-i32 (nearestOf (fin s m e)) (bounds-within (nearestOf (fin s m e)) (sym (rounds-is s m e) ∙ h))
+
+pub counted : (x : Float) → roundsWithin x ≡ true → T (inSigned binary64 31 (ofInt binary64 (nearestOf x))) × (toSigned 31 (ofInt binary64 (nearestOf x)) ≡ nearestOf x)
+counted x h = cast (nearestOf x) (rounds-i32 x h)

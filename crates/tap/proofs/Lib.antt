@@ -2,6 +2,7 @@ pub mod Whole
 pub mod Rule
 pub mod Rest
 pub mod Value
+pub mod Range
 pub mod Even
 pub mod Steps
 pub mod Bits

@@ -163,7 +163,7 @@ pub of-pos : (n : ℕ) → ofInt binary64 (pos n) ≡ round binary64 false n 1
 unfolding ofInt
 of-pos n = refl
 
-of-neg : (n : ℕ) → ofInt binary64 (negsuc n) ≡ round binary64 true (suc n) 1
+pub of-neg : (n : ℕ) → ofInt binary64 (negsuc n) ≡ round binary64 true (suc n) 1
 unfolding ofInt
 of-neg n = refl
 

@@ -1,6 +1,5 @@
 -- A number's sign apart from its size: -0 is not below zero, and its size is 0. Assumes nothing.
 use mathlib.Core.Path.{_≡_, refl, sym, ap, _∙_}
-use mathlib.Core.Logic.{_⊎_, inl, inr}
 use mathlib.Core.Bool.{Bool, true, false, cond, false≢true}
 use Prim.Native.Nat.{ℕ, zero, suc, _+_, _-_, _*_, _/_, _%_, _^_, _≤_, compare}
 use native.Mathlib.Nat.{zero-mul, zero-add}
@@ -8,12 +7,10 @@ use native.Mathlib.Omega.{arith}
 use lib.IntN.{ℤ}
 use lib.Dec.{ltb}
 use lib.Ieee.{Float, nan, inf, fin, binary64, up, down, lt, neg, round, nearest, size, units, odd}
-use lib.Ieee.Fits.{down-pos}
 use borrow.Author.Tests.{le-ltb}
 use Rattle.tap.specs.Rounding.{nearestWhole, sizeOf, absOf}
 use Rattle.tap.specs.Inner.{magnitudeOf}
-use Rattle.tap.proofs.Whole.{nearest-whole}
-use Rattle.tap.proofs.Value.{nought, Plain, plain, unsigned}
+use Rattle.tap.proofs.Value.{nought, Plain, unsigned}
 
 -- ---- `magnitudeOf`
 magnitude-is : (x : Float) → magnitudeOf x ≡ cond (lt x nought) (neg x) x
@@ -54,13 +51,6 @@ magnitude-inf false = refl
 pub magnitude-nan : magnitudeOf nan ≡ nan
 unfolding magnitudeOf
 magnitude-nan = refl
-
--- a magnitude is not below zero
-pub magnitude-low : (x : Float) → lt (magnitudeOf x) nought ≡ false
-unfolding lt
-magnitude-low nan = ap (λ (y : Float). lt y nought) magnitude-nan
-magnitude-low (inf s) = ap (λ (y : Float). lt y nought) (magnitude-inf s)
-magnitude-low (fin s m e) = ap (λ (y : Float). lt y nought) (magnitude-fin s m e .1) ∙ magnitude-fin s m e .2
 
 -- ---- two values, each not negative or of size 0
 of-zero : (x c : ℕ) → x ≡ 0 → x * c ≡ 0
@@ -138,14 +128,7 @@ round-abs s a b =
     let u = b * 2 ^ k in
     units-abs s (nearest (n / u) (compare (n % u * 2) u)) k
 
--- ---- below zero or not: that is its sign, or its size is 0
+-- ---- the size of N
 pub size-is : (F : ℕ) (s : Bool) (m : ℕ) (e : ℤ) → sizeOf F (fin s m e) ≡ nearestWhole (m * up e * 2 ^ F) (down e)
 unfolding sizeOf
 size-is F s m e = refl
-
-pub sign-is : (F : ℕ) (s : Bool) (m : ℕ) (e : ℤ) (b : Bool) → lt (fin s m e) nought ≡ b → (b ≡ s) ⊎ (sizeOf F (fin s m e) ≡ 0)
-sign-is F false m e b h = inl (sym h ∙ positive-is m e)
-sign-is F true m e true h = inl refl
-sign-is F true m e false h =
-    inr
-    (size-is F true m e ∙ nearest-whole (m * up e * 2 ^ F) 0 (down e) (down-pos e) (plain true m e (2 ^ F) h refl ∙ sym (zero-mul (down e))))

@@ -1,16 +1,12 @@
--- A power of 2 by its bits, a whole number of a size and a sign, and a number as a whole one and the rest. Assumes nothing.
+-- A power of 2 by its bits, and a number as a whole one and the rest. Assumes nothing.
 use mathlib.Core.Path.{_≡_, refl, sym, ap, _∙_, subst}
 use mathlib.Core.Bool.{Bool, true, false, not, _&&_, cond}
-use Prim.Native.Nat.{ℕ, zero, suc, _+_, _-_, _*_, _/_, _%_, _≤_, _<_, _^_}
-use native.Mathlib.Nat.{lt-of-le-of-lt}
+use Prim.Native.Nat.{ℕ, suc, _+_, _-_, _*_, _/_, _%_, _≤_, _<_, _^_}
 use native.Mathlib.Omega.{arith}
-use lib.IntN.{ℤ, pos, negsuc, negℤ, _-ℤ_, +ℤ-idl}
-use lib.Dec.{T, leb, eqb, lit<}
+use lib.IntN.{ℤ, pos, negsuc}
+use lib.Dec.{T, leb, eqb}
 use lib.Ieee.{Float, inf, fin, binary64, ofInt, ofFields, ofBits, nanBits, odd, minus, eq, sub}
 use borrow.Author.Tests.{le-leb, lt-leb, ne-eqb}
-use mir.Syntax.{w64}
-use mir.Val.{SFits, toZ}
-use mir.ValLaws.{toZ-pos}
 use Rattle.tap.specs.Rounding.{exact, rounded}
 use Rattle.tap.specs.Inner.{parted}
 
@@ -68,20 +64,6 @@ power-number k h =
     no-digits : (b : Bool) → T (not (b && false))
     no-digits true = tt
     no-digits false = tt
-
--- ---- with_sign
-wide : (n : ℕ) → n ≤ 2 ^ 32 → n < 2 ^ 63
-wide n h = lt-of-le-of-lt h (lit< tt)
-
-pub neg-is : (n : ℕ) → n ≤ 2 ^ 32 → toZ w64 0 -ℤ toZ w64 n ≡ negℤ (pos n)
-neg-is n h = ap (λ (z : ℤ). pos 0 -ℤ z) (toZ-pos w64 n (wide n h)) ∙ +ℤ-idl (negℤ (pos n))
-
-pub neg-held : (n : ℕ) → n ≤ 2 ^ 32 → SFits w64 (negℤ (pos n))
-neg-held zero h = record { sfits = lit< tt }
-neg-held (suc n) h = record { sfits = lt-of-le-of-lt (down n h) (lit< tt) }
-  where
-    down : (n : ℕ) → suc n ≤ 2 ^ 32 → n ≤ 2 ^ 32
-    down n h = omega arith
 
 -- ---- part
 parted-is : (x : Float) (z : ℤ) → parted x z ≡ cond (eq x (ofInt binary64 z)) (exact z) (rounded z (sub binary64 x (ofInt binary64 z)))

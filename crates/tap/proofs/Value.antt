@@ -1,16 +1,16 @@
--- A tap times 2 ^ F, and the nearest whole numbers of what comes out. Assumes nothing.
+-- A tap times 2 ^ F, exactly, and where it is 2 ^ 32 or more; floats that are not below zero. Assumes nothing.
 use mathlib.Core.Path.{_≡_, refl, sym, ap, _∙_, subst}
 use mathlib.Core.Logic.{_⊎_, inl, inr}
 use mathlib.Core.Bool.{Bool, true, false, not, _&&_, _||_, false≢true}
 use Prim.Native.Nat.{ℕ, zero, suc, _+_, _-_, _*_, _%_, _^_, _≤_, _<_}
-use native.Mathlib.Nat.{le-trans, le-of-eq, le-of-lt, le-of-suc-le-suc, lt-of-lt-of-le, lt-of-le-of-lt, lt-of-not-le, lt-irrefl, zero-lt-suc, mul-one, one-mul, mul-assoc, mul-right-comm, mul-le-mul-right, mul-lt-mul-of-pos-right, lt-of-mul-lt-mul-right, mul-pos, zero-mul}
+use native.Mathlib.Nat.{le-trans, le-of-eq, le-of-lt, le-of-suc-le-suc, lt-of-lt-of-le, lt-of-le-of-lt, lt-of-not-le, lt-irrefl, zero-lt-suc, mul-one, one-mul, mul-assoc, mul-right-comm, mul-le-mul-right, mul-lt-mul-of-pos-right, lt-of-mul-lt-mul-right}
 use native.Mathlib.Omega.{arith}
 use lib.IntN.{ℤ, pos, negsuc}
-use lib.Dec.{T, leb, ltb, eqb, ltb→lt, lt→ltb, nltb→le, leb→le, eqb→eq, lit≤, lit<}
+use lib.Dec.{T, leb, ltb, eqb, ltb→lt, nltb→le, leb→le, eqb→eq, lit≤, lit<}
 use lib.Pow.{pow-add, pow-pos, pow-lt}
 use lib.Ieee.{Float, nan, inf, fin, binary64, up, down, round, mul, fits, lt, le, ofBits}
 use lib.Ieee.Fits.{and-l, and-r, down-pos, up-pos}
-use lib.Ieee.Bits.{is-true, is-false}
+use lib.Ieee.Bits.{is-false}
 use lib.Ieee.Digits.{back}
 use lib.Ieee.Exact.{HasValue, round-exact}
 use lib.Ieee.Order.{round-mono}
@@ -70,21 +70,6 @@ scaled-exact s m e k t h =
 abbrev pub two-to : ℕ → Float
 two-to w = fin false 1 (pos w)
 
-sized : (x y A D g p : ℕ) → x * D ≡ A * g → A < p * D → 0 < g → x * 1 < 1 * p * g
-sized x y A D g p v h G =
-    lt-of-mul-lt-mul-right D
-    (lt-of-le-of-lt (le-of-eq (ap (λ (z : ℕ). z * D) (mul-one x) ∙ v)) (lt-of-lt-of-le (mul-lt-mul-of-pos-right h G) (le-of-eq (mul-right-comm p D g ∙ ap (λ (z : ℕ). z * g * D) (sym (one-mul p))))))
-
-some : (a b : ℕ) → 0 < b → 0 < a + b
-some a b h = omega arith
-
-pub lt-pow : (y : Float) (s : Bool) (A D w : ℕ) → HasValue y s A D → A < 2 ^ w * D → lt y (two-to w) ≡ true
-unfolding lt
-lt-pow nan s A D w v h = absurd v
-lt-pow (inf t) s A D w v h = absurd v
-lt-pow (fin true n g) s A D w v h = is-true (ltb 0 (n * up g * 1 + 1 * 2 ^ w * down g)) (lt→ltb 0 _ (some (n * up g * 1) (1 * 2 ^ w * down g) (mul-pos (mul-pos (zero-lt-suc 0) (pow-pos w)) (down-pos g))))
-lt-pow (fin false n g) s A D w v h = is-true (ltb (n * up g * 1) (1 * 2 ^ w * down g)) (lt→ltb (n * up g * 1) (1 * 2 ^ w * down g) (sized (n * up g) 0 A D (down g) (2 ^ w) (v .1) h (down-pos g)))
-
 -- ---- at 2 ^ 32 and above
 two32 : round binary64 false (2 ^ 32) 1 ≡ two-to 32
 unfolding round
@@ -131,18 +116,7 @@ Plain s A = s ≡ true → A ≡ 0
 none : (a b : ℕ) → a + b ≤ 0 → a ≡ 0
 none a b h = omega arith
 
-pub plain : (s : Bool) (m : ℕ) (e : ℤ) (k : ℕ) → lt (fin s m e) nought ≡ false → Plain s (m * up e * k)
-unfolding lt
-plain false m e k h p = absurd (false≢true p)
-plain true m e k h p =
-    let z : m * up e ≡ 0 = sym (mul-one (m * up e)) ∙ none (m * up e * 1) (0 * 1 * down e) (nltb→le 0 (m * up e * 1 + 0 * 1 * down e) (subst (λ (b : Bool). T (not b)) (sym h) tt)) in
-    ap (λ (x : ℕ). x * k) z ∙ zero-mul k
-
 pub unsigned : (s : Bool) (m : ℕ) (e : ℤ) → lt (fin s m e) nought ≡ false → Plain s (m * up e)
-unsigned s m e h k = sym (mul-one (m * up e)) ∙ plain s m e 1 h k
-
--- ---- what is below 2 ^ 32 and not below zero is finite
-pub below : (s : Bool) (m : ℕ) (e : ℤ) → lt (fin s m e) (two-to 32) ≡ true → Plain s (m * up e) → m * up e < 2 ^ 32 * down e
 unfolding lt
-below false m e h p = lt-of-le-of-lt (le-of-eq (sym (mul-one (m * up e)))) (lt-of-lt-of-le (ltb→lt _ _ (subst T (sym h) tt)) (le-of-eq (ap (λ (x : ℕ). x * down e) (one-mul (2 ^ 32)))))
-below true m e h p = subst (λ (x : ℕ). x < 2 ^ 32 * down e) (sym (p refl)) (mul-pos (pow-pos 32) (down-pos e))
+unsigned false m e h p = absurd (false≢true p)
+unsigned true m e h p = sym (mul-one (m * up e)) ∙ none (m * up e * 1) (0 * 1 * down e) (nltb→le 0 (m * up e * 1 + 0 * 1 * down e) (subst (λ (b : Bool). T (not b)) (sym h) tt))

@@ -1,11 +1,13 @@
 -- The nearest whole number, whatever the half rule: of it only `half-low` and `half-high` are used. What else it gives is in Rule.antt. Nothing here is about floats. Assumes nothing.
 use mathlib.Core.Path.{_≡_, refl, sym, ap, _∙_, subst}
+use mathlib.Core.Logic.{_⊎_, inl, inr}
 use mathlib.Core.Bool.{not}
 use Prim.Native.Nat.{ℕ, _+_, _*_, _/_, _%_, _≤_, _<_, compare, Ordering, Ordering·lt, Ordering·eq, Ordering·gt}
 use native.Mathlib.Nat.{le-trans, le-of-eq, lt-of-lt-of-le, lt-of-le-of-lt, le-antisymm, mod-lt, div-add-mod', add-mul, one-mul, mul-right-comm, mul-le-mul-right, le-of-mul-le-mul-right, lt-of-mul-lt-mul-right}
 use native.Mathlib.Omega.{arith}
 use lib.Dec.{T, isLe, isEq, eqb, leb→le, nleb→lt, eqb→eq, eqb-refl}
 use lib.Arith.{lt-of-le-ne}
+use Rattle.word.proofs.Order.{lt-or-le}
 use Rattle.tap.specs.Rounding.{halfOf, toNearest, nearestWhole}
 
 -- ---- the half rule
@@ -78,18 +80,28 @@ nearest-near a d D =
 scale : (n d : ℕ) → n * d * 2 ≡ n * 2 * d
 scale n d = mul-right-comm n d 2
 
--- a fraction below c (its double below c * 2) has a nearest number up to c
-pub nearest-le : (a d c : ℕ) → 0 < d → a * 2 < c * 2 * d → nearestWhole a d ≤ c
+-- below c + 1/2 the nearest number is at most c, and above it is more
+pub nearest-le : (a d c : ℕ) → 0 < d → a * 2 < (c * 2 + 1) * d → nearestWhole a d ≤ c
 nearest-le a d c D h =
     let n = nearestWhole a d in
     let w = nearest-near a d D in
-    let x : n * 2 * d < (c * 2 + 1) * d = lt-of-le-of-lt (le-of-eq (sym (scale n d))) (lt-of-le-of-lt (w .0) (lt-of-lt-of-le (step (a * 2) (c * 2 * d) d h) (le-of-eq (sym (up-one (c * 2) d))))) in
+    let x : n * 2 * d < (c * 2 + 1 + 1) * d = lt-of-le-of-lt (le-of-eq (sym (scale n d))) (lt-of-le-of-lt (w .0) (lt-of-lt-of-le (step (a * 2) ((c * 2 + 1) * d) d h) (le-of-eq (sym (up-one (c * 2 + 1) d))))) in
     halve n c (lt-of-mul-lt-mul-right d x)
   where
     step : (x y d : ℕ) → x < y → x + d < y + d
     step x y d h = omega arith
 
-    halve : (n c : ℕ) → n * 2 < c * 2 + 1 → n ≤ c
+    halve : (n c : ℕ) → n * 2 < c * 2 + 1 + 1 → n ≤ c
+    halve n c h = omega arith
+
+pub nearest-gt : (a d c : ℕ) → 0 < d → (c * 2 + 1) * d < a * 2 → c < nearestWhole a d
+nearest-gt a d c D h =
+    let n = nearestWhole a d in
+    let w = nearest-near a d D in
+    let x : (c * 2 + 1) * d < (n * 2 + 1) * d = lt-of-lt-of-le h (le-trans (w .1) (le-of-eq (ap (λ (x : ℕ). x + d) (scale n d) ∙ sym (up-one (n * 2) d)))) in
+    halve n c (lt-of-mul-lt-mul-right d x)
+  where
+    halve : (n c : ℕ) → c * 2 + 1 < n * 2 + 1 → c < n
     halve n c h = omega arith
 
 pub nearest-ge : (a d c : ℕ) → 0 < d → c * 2 * d ≤ a * 2 → c ≤ nearestWhole a d
@@ -111,3 +123,18 @@ nearest-whole a c d D h =
   where
     below-of : (n c : ℕ) → n * 2 ≤ c * 2 + 1 → n ≤ c
     below-of n c h = omega arith
+
+-- ---- multiples of d
+pub next : (k n d : ℕ) → k < n → k * d + d ≤ n * d
+next k n d h = le-trans (le-of-eq (sym (up-one k d))) (mul-le-mul-right d (go k n h))
+  where
+    go : (k n : ℕ) → k < n → k + 1 ≤ n
+    go k n h = omega arith
+
+pub compared : (k n d : ℕ) → (k * d ≡ n * d) ⊎ ((k * d + d ≤ n * d) ⊎ (n * d + d ≤ k * d))
+compared k n d = go (lt-or-le k n) (lt-or-le n k)
+  where
+    go : (k < n) ⊎ (n ≤ k) → (n < k) ⊎ (k ≤ n) → (k * d ≡ n * d) ⊎ ((k * d + d ≤ n * d) ⊎ (n * d + d ≤ k * d))
+    go (inl h) q = inr (inl (next k n d h))
+    go (inr h) (inl g) = inr (inr (next n k d g))
+    go (inr h) (inr g) = inl (ap (λ (x : ℕ). x * d) (le-antisymm g h))

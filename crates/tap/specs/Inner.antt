@@ -1,17 +1,25 @@
 -- What the steps of rounding a tap give, and what a rounded tap holds. Definitions only.
-use Prim.Native.Nat.{ℕ, _*_}
+use Prim.Native.Nat.{_*_}
 use mathlib.Core.Bool.{Bool, true, false, cond}
 use lib.IntN.{ℤ, pos}
 use lib.Ieee.{Float, nan, inf, fin, binary64, up, down, eq, lt, neg, sub, ofInt}
+use Rattle.word.specs.Bounds.{withinBounds}
 use Rattle.refusal.specs.Answer.{Answer, given, refused}
-use Rattle.tap.specs.Rounding.{TapResult, exact, rounded, nearestWhole, wholeOf, leftOf}
+use Rattle.tap.specs.Rounding.{TapResult, exact, rounded, nearestWhole, signed, wholeOf, leftOf}
 
--- the whole number nearest to a finite x that is not below zero
-unfoldable pub nearestOf : Float → ℕ
+-- the whole number nearest to a finite x
+unfoldable pub nearestOf : Float → ℤ
 unfolding nearestWhole
-nearestOf nan = 0
-nearestOf (inf s) = 0
-nearestOf (fin s m e) = nearestWhole (m * up e) (down e)
+nearestOf nan = pos 0
+nearestOf (inf s) = pos 0
+nearestOf (fin s m e) = signed s (nearestWhole (m * up e) (down e))
+
+-- whether x is finite and that number is within the bounds
+unfoldable pub roundsWithin : Float → Bool
+unfolding nearestOf
+roundsWithin nan = false
+roundsWithin (inf s) = false
+roundsWithin (fin s m e) = withinBounds (nearestOf (fin s m e))
 
 -- x as the whole number z and the rest
 unfoldable pub parted : Float → ℤ → TapResult

@@ -8,13 +8,13 @@ pub use result::is_refused;
 pub use result::leftover;
 ghost use mathlib.Core.Path.{_≡_};
 ghost use mathlib.Core.Bool.{true, false};
-ghost use Prim.Native.Nat.{_≤_, _^_};
+ghost use Prim.Native.Nat.{_≤_};
 ghost use lib.IntN.{pos};
 ghost use lib.Ieee as Ieee;
 ghost use lib.Ieee.{fin, binary64};
 ghost use Rattle.refusal.specs.Answer.{given};
-ghost use Rattle.tap.specs.Rounding.{signed, answerOf, TapRounded};
-ghost use Rattle.tap.specs.Inner.{nearestOf, parted, magnitudeOf};
+ghost use Rattle.tap.specs.Rounding.{answerOf, TapRounded};
+ghost use Rattle.tap.specs.Inner.{nearestOf, roundsWithin, parted, magnitudeOf};
 use refusal::Refusal;
 
 // What a tap comes back as: N with nothing left over, N with the leftover tap * 2^F - N, or a
@@ -40,33 +40,33 @@ fn scaled(x: f64, f: u32) -> f64
     x * f64::from_bits((1023 + (f as u64)) * 0x10_0000_0000_0000)
 }
 
-// The whole number nearest to x, and of two that are as near the even one. A sum of 2^52 or more
-// has no digits for a fraction.
-fn nearest_even(x: f64) -> f64
-    requires { ⌜ (Ieee.lt x (fin false 1 (pos 32)) ≡ true) × (Ieee.lt x (fin false 0 (pos 0)) ≡ false) ⌝ }
-    ensures { λ r. ⌜ r ≡ Ieee.ofInt binary64 (pos (nearestOf x)) ⌝ }
+// Whether the whole number nearest to x is a coefficient. The halves at the ends go to the even number:
+// 2^31 - 1/2 to 2^31, and -2^31 - 1/2 to -2^31.
+fn rounds_within(x: f64) -> bool
+    ensures { λ r. ⌜ r ≡ roundsWithin x ⌝ }
 {
-    (x + 4503599627370496.0) - 4503599627370496.0
+    if x < 2147483647.5 {
+        x >= -2147483648.5
+    } else {
+        false
+    }
+}
+
+// The whole number nearest to x, and of two that are as near the even one. From 2^52 to 2^53 a float
+// has no digits for a fraction; the number added, 2^52 + 2^51, is the one in the middle.
+fn nearest_even(x: f64) -> f64
+    requires { ⌜ roundsWithin x ≡ true ⌝ }
+    ensures { λ r. ⌜ r ≡ Ieee.ofInt binary64 (nearestOf x) ⌝ }
+{
+    (x + 6755399441055744.0) - 6755399441055744.0
 }
 
 // The same, no longer a float.
-fn nearest(x: f64) -> u64
-    requires { ⌜ (Ieee.lt x (fin false 1 (pos 32)) ≡ true) × (Ieee.lt x (fin false 0 (pos 0)) ≡ false) ⌝ }
+fn nearest(x: f64) -> i32
+    requires { ⌜ roundsWithin x ≡ true ⌝ }
     ensures { λ r. ⌜ r ≡ nearestOf x ⌝ }
 {
-    (nearest_even(x) as i64) as u64
-}
-
-// The whole number of a size and a sign.
-fn with_sign(negative: bool, size: u64) -> i64
-    requires { ⌜ size ≤ 2 ^ 32 ⌝ }
-    ensures { λ r. ⌜ r ≡ signed negative size ⌝ }
-{
-    if negative {
-        0 - (size as i64)
-    } else {
-        size as i64
-    }
+    nearest_even(x) as i32
 }
 
 // x as the whole number n and the rest.
@@ -89,16 +89,8 @@ pub fn round_tap(tap: f64, fraction_bits: u32) -> RoundedTap
         return RoundedTap::Refused(Refusal::FractionBits);
     }
     let x = scaled(tap, fraction_bits);
-    let size = magnitude(x);
-    if size < 4294967296.0 {
-        let n = with_sign(tap < 0.0, nearest(size));
-        if n > 2147483647 {
-            return RoundedTap::Refused(Refusal::OutOfBounds(0));
-        }
-        if n < -2147483648 {
-            return RoundedTap::Refused(Refusal::OutOfBounds(0));
-        }
-        return part(x, n as i32);
+    if rounds_within(x) {
+        return part(x, nearest(x));
     }
     if finite::is_finite(tap) {
         RoundedTap::Refused(Refusal::OutOfBounds(0))

@@ -1,6 +1,6 @@
 -- `tap::nearest_even` meets its contract: the number that it adds and takes off again is one that rounds (`IsLift`). Assumes nothing.
 use mathlib.Core.Path.{refl}
-use lib.Dec.{lit≤}
+use lib.Dec.{lit≤, lit<}
 use lib.Ieee.{ofBits}
 use Rattle.tap.proofs.Even.{rounded-by}
 use Rattle.tap.proofs.nearest_even.Statement.{statement}
@@ -8,11 +8,11 @@ use Rattle.tap.proofs.nearest_even.Tie as tie
 
 returns : tie.Need-returns
 unfolding ofBits
-returns c = rounded-by (c .args .x) _ (c .pre .0) (c .pre .1) (record {
+returns c = rounded-by (c .args .x) _ (c .pre) (record {
   positive = refl;
   whole = refl;
   large = lit≤ tt;
-  room = lit≤ tt;
+  room = lit< tt;
   even = refl;
 })
 
