@@ -44,11 +44,23 @@ pub fn when(applies: bool) -> Option<usize> {
 }
 
 impl TapAnswer {
+    pub fn accepted(coefficient: i32) -> Self {
+        TapAnswer {
+            refusal: 0,
+            coefficient,
+        }
+    }
+
     pub fn refused(refusal: u32) -> Self {
         TapAnswer {
             refusal,
             coefficient: 0,
         }
+    }
+
+    /// For a tap that is rounded to this number.
+    pub fn of_whole(number: i64) -> Self {
+        i32::try_from(number).map_or(Self::refused(6), Self::accepted)
     }
 }
 

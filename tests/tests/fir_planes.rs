@@ -123,7 +123,7 @@ fn bounds() {
         0.0,
         -0.0,
         5e-324,
-        3.0 * 2f64.powi(-32),
+        5.0 * 2f64.powi(-32),
     ];
     let text = printed(&["planes", "31", "3", "-b"], &packed(&taps));
     check(&taps, 31, 3, &text);

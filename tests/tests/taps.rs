@@ -33,10 +33,7 @@ fn figures_of_one_tap() {
     let accepted = |tap: f64, fraction_bits, coefficient| {
         check_tap(tap.to_bits(), fraction_bits, &mut Tally::default());
         let answer = literal::round_tap(tap.to_bits(), fraction_bits);
-        let wanted = TapAnswer {
-            refusal: 0,
-            coefficient,
-        };
+        let wanted = TapAnswer::accepted(coefficient);
         assert_eq!(answer, wanted, "{tap} at {fraction_bits}");
     };
     accepted(0.625, 2, 2);
@@ -107,42 +104,32 @@ fn figures_of_halves() {
     figure(Set::new(&[3.0, 1.0], 1, 1), &[2, 0], 4.0, -0.5);
 }
 
-/// A half and both its neighbours at every F, of both signs and beside every power of two: it goes to
-/// the even number beside it, and they to the nearer one.
+/// A half of this sign and both its neighbours: it goes to the even number beside it, and they to the
+/// nearer one.
+fn check_half(whole: i64, sign: i64, fraction_bits: u32, tally: &mut Tally) {
+    let half = sign as f64 * (whole as f64 + 0.5) / (1u64 << fraction_bits) as f64;
+    let sizes = [whole, whole + whole % 2, whole + 1];
+    for (bits, size) in hard::with_neighbours(half.to_bits()).into_iter().zip(sizes) {
+        check_tap(bits, fraction_bits, tally);
+        let found = literal::round_tap(bits, fraction_bits);
+        let wanted = TapAnswer::of_whole(sign * size);
+        assert_eq!(found, wanted, "{bits:#018x} at {fraction_bits}");
+    }
+}
+
+/// At every F, of both signs, small ones and those beside every power of two.
 #[test]
 fn halves_go_to_even() {
     let mut tally = Tally::default();
     for fraction_bits in 0..=31 {
-        for (whole, negative) in hard::whole_parts().into_iter().flat_map(both_signs) {
-            let half = (whole as f64 + 0.5) / (1u64 << fraction_bits) as f64;
-            let sizes = [whole, whole + whole % 2, whole + 1];
-            for (bits, size) in hard::with_neighbours(half.to_bits()).into_iter().zip(sizes) {
-                let bits = bits | (negative as u64) << 63;
-                check_tap(bits, fraction_bits, &mut tally);
-                let number = if negative {
-                    -(size as i64)
-                } else {
-                    size as i64
-                };
-                let wanted = match i32::try_from(number) {
-                    Err(_) => TapAnswer::refused(6),
-                    Ok(coefficient) => TapAnswer {
-                        refusal: 0,
-                        coefficient,
-                    },
-                };
-                let found = literal::round_tap(bits, fraction_bits);
-                assert_eq!(found, wanted, "{bits:#018x} at {fraction_bits}");
-            }
+        for whole in hard::whole_parts() {
+            check_half(whole, 1, fraction_bits, &mut tally);
+            check_half(whole, -1, fraction_bits, &mut tally);
         }
     }
     println!("halves {:?}, refused {:?}", tally.halves, tally.refused);
     assert!(tally.halves.iter().all(|count| *count > 32 * 200));
     assert!(tally.refused[6] > 32 * 20);
-}
-
-fn both_signs(whole: u64) -> [(u64, bool); 2] {
-    [(whole, false), (whole, true)]
 }
 
 #[test]

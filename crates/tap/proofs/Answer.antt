@@ -19,11 +19,10 @@ use Rattle.tap.specs.Rounding.{exact, rounded, nearestWhole, signed, lef
 use Rattle.tap.specs.Inner.{nearestOf, roundsWithin, parted}
 use Rattle.tap.proofs.Whole.{nearest-ge}
 use Rattle.tap.proofs.Rule.{nearest-same}
-use Rattle.tap.proofs.Value.{scaled-is, scaled-exact, over, two-to}
+use Rattle.tap.proofs.Value.{scaled-is, scaled-exact, over, two-to, round-abs}
 use Rattle.tap.proofs.Range.{most, most-le, below-far, within-most, nearest-is, rounds-is, rounds-no, rounds-nan, rounds-inf}
 use Rattle.tap.proofs.Steps.{parted-yes, parted-no}
 use Rattle.tap.proofs.Rest.{rest-is, equal-is, whole-value}
-use Rattle.tap.proofs.Sign.{round-abs, size-is}
 
 -- ---- `roundedTap`
 pub rounded-is : (F : ℕ) (x : Float) → roundedTap F x ≡ refuseIf (ltb 31 F) 4 (refuseIf (not (finite x)) 5 (refuseIf (outside F x) 6 (given (resultOf F x))))
@@ -41,6 +40,11 @@ refused-tap F x h n = sym (few-bits F x h ∙ check-applies (not (finite x)) 5 _
 
 pub of-finite : (F : ℕ) (x : Float) → F ≤ 31 → finite x ≡ true → roundedTap F x ≡ refuseIf (outside F x) 6 (given (resultOf F x))
 of-finite F x h n = few-bits F x h ∙ check-passes (not (finite x)) 5 _ (ap not n)
+
+-- the size of N
+pub size-is : (F : ℕ) (s : Bool) (m : ℕ) (e : ℤ) → sizeOf F (fin s m e) ≡ nearestWhole (m * up e * 2 ^ F) (down e)
+unfolding sizeOf
+size-is F s m e = refl
 
 pub outside-bounds : (F : ℕ) (s : Bool) (m : ℕ) (e : ℤ) → outside F (fin s m e) ≡ not (withinBounds (signed s (sizeOf F (fin s m e))))
 unfolding outside
@@ -106,11 +110,14 @@ module _ (F : ℕ) (s : Bool) (m : ℕ) (e : ℤ) (t : T (fits binary64 (fin s m
   far-x : 2 ^ 32 * down e ≤ a → roundsWithin x ≡ false
   far-x l = ap roundsWithin (scaled-is s m e F) ∙ far s a (down e) (down-pos e) l
 
+  near-x : a < 2 ^ 32 * down e → HasValue x s a (down e)
+  near-x l = scaled-exact s m e F t (lt-of-lt-of-le l (mul-le-mul-right (down e) (lit≤ tt)))
+
   exactly : roundsWithin x ≡ true → HasValue x s a (down e)
   exactly h = go (lt-or-le a (2 ^ 32 * down e))
     where
       go : (a < 2 ^ 32 * down e) ⊎ (2 ^ 32 * down e ≤ a) → HasValue x s a (down e)
-      go (inl l) = scaled-exact s m e F t (lt-of-lt-of-le l (mul-le-mul-right (down e) (lit≤ tt)))
+      go (inl l) = near-x l
       go (inr l) = absurd (true≢false (sym h ∙ far-x l))
 
   -- the nearest whole number is N
@@ -132,7 +139,7 @@ module _ (F : ℕ) (s : Bool) (m : ℕ) (e : ℤ) (t : T (fits binary64 (fin s m
       near (fin b p g) v = outside-bounds F s m e ∙ ap (λ (z : ℤ). not (withinBounds z)) (sym (whole (fin b p g) v)) ∙ ap not (sym (rounds-is b p g))
 
       go : (a < 2 ^ 32 * down e) ⊎ (2 ^ 32 * down e ≤ a) → outside F (fin s m e) ≡ not (roundsWithin x)
-      go (inl l) = near x (scaled-exact s m e F t (lt-of-lt-of-le l (mul-le-mul-right (down e) (lit≤ tt))))
+      go (inl l) = near x (near-x l)
       go (inr l) =
           outside-is F s m e
           ∙ lt-ltb (most s) (sizeOf F (fin s m e))

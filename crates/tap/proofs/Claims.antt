@@ -16,8 +16,7 @@ use Rattle.refusal.proofs.Checks.{given-refused}
 use Rattle.tap.specs.Rounding.{TapResult, signed, finite, sizeOf, outside, resultOf, roundedTap, wholeOf, TapRounded}
 use Rattle.tap.specs.Claims.{NearestEven, TapRefusals, TapClaims}
 use Rattle.tap.proofs.Distance.{none-nearer, even-as-near, no-other}
-use Rattle.tap.proofs.Sign.{size-is}
-use Rattle.tap.proofs.Answer.{refused-bits, refused-tap, of-finite, outside-bounds, rounded-is}
+use Rattle.tap.proofs.Answer.{refused-bits, refused-tap, of-finite, outside-bounds, rounded-is, size-is}
 use Rattle.tap.proofs.Theorems as Theorems
 
 -- N of a finite tap

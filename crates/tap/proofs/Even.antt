@@ -93,10 +93,10 @@ moved true L a d D e h k =
 
 -- ---- the number that is added: whole and even, and up to 2 ^ 32 from it binary64 has the whole numbers and no others
 pub record Lift (s : Bool) (p : ℕ) (g : ℤ) : Type 0 where
-  pub positive : s ≡ false
-  pub whole : down g ≡ 1
   pub large : 2 ^ 52 + 2 ^ 32 ≤ p * up g
   pub room : p * up g + 2 ^ 32 < 2 ^ 53
+  pub positive : s ≡ false
+  pub whole : down g ≡ 1
   pub even : p * up g % 2 ≡ 0
 
 abbrev pub IsLift : Float → Type 0
@@ -178,6 +178,9 @@ module _ (p : ℕ) (g : ℤ) (w : Lift false p g) where
     C-pos : 0 < C
     C-pos = mul-pos (down-pos e) (down-pos g)
 
+    left : (x y k : ℕ) → x ≡ k + y → x - y ≡ k
+    left x y k h = omega arith
+
     A-is : (k : ℕ) → m * up e * 1 ≡ k * down e → A ≡ k * C
     A-is k v = sym (mul-one A) ∙ crossA (m * up e) 1 k (down e) (down g) v
 
@@ -196,9 +199,6 @@ module _ (p : ℕ) (g : ℤ) (w : Lift false p g) where
         high : (x y k : ℕ) → x ≡ k + y → y ≤ x
         high x y k h = omega arith
 
-        left : (x y k : ℕ) → x ≡ k + y → x - y ≡ k
-        left x y k h = omega arith
-
     off-minus : (n : ℕ) → suc n ≤ L → m * up e * 1 ≡ (L - suc n) * down e → sub binary64 (fin false m e) (fin false p g) ≡ ofInt binary64 (negsuc n)
     unfolding sub sum
     off-minus n k v =
@@ -215,9 +215,6 @@ module _ (p : ℕ) (g : ℤ) (w : Lift false p g) where
         less : (x y k : ℕ) → y ≡ k + x → 0 < k → x < y
         less x y k h z = omega arith
 
-        left : (x y k : ℕ) → x ≡ k + y → x - y ≡ k
-        left x y k h = omega arith
-
   taken-off : (s : Bool) (t : Float) (n : ℕ) → n ≤ L → HasValue t false (beside s L n) 1 → sub binary64 t (fin false p g) ≡ ofInt binary64 (signed s n)
   taken-off s nan n k v = absurd v
   taken-off s (inf b) n k v = absurd v
@@ -229,18 +226,21 @@ module _ (p : ℕ) (g : ℤ) (w : Lift false p g) where
       none x = omega arith
   taken-off true (fin false m e) (suc n) k v = off-minus m e n k (v .1)
 
--- ---- `nearest_even`: x rounds to a coefficient
-pub rounded-by : (x y : Float) → roundsWithin x ≡ true → IsLift y → sub binary64 (add binary64 x y) y ≡ ofInt binary64 (nearestOf x)
-rounded-by nan y h w = absurd (false≢true (sym rounds-nan ∙ h))
-rounded-by (inf s) y h w = absurd (false≢true (sym (rounds-inf s) ∙ h))
-rounded-by (fin s m e) nan h w = absurd w
-rounded-by (fin s m e) (inf t) h w = absurd w
-rounded-by (fin s m e) (fin true p g) h w = absurd (true≢false (w .positive))
-rounded-by (fin s m e) (fin false p g) h w =
+-- ---- `nearest_even`: x rounds to a coefficient, y is added, and z, the same, taken off
+pub rounded-by : (x y z : Float) → roundsWithin x ≡ true → IsLift y → z ≡ y → sub binary64 (add binary64 x y) z ≡ ofInt binary64 (nearestOf x)
+rounded-by nan y z h w q = absurd (false≢true (sym rounds-nan ∙ h))
+rounded-by (inf s) y z h w q = absurd (false≢true (sym (rounds-inf s) ∙ h))
+rounded-by (fin s m e) nan z h w q = absurd w
+rounded-by (fin s m e) (inf t) z h w q = absurd w
+rounded-by (fin s m e) (fin true p g) z h w q = absurd (true≢false (w .positive))
+rounded-by (fin s m e) (fin false p g) z h w q =
     let n = nearestWhole (m * up e) (down e) in
     let k : n ≤ 2 ^ 31 = le-trans (rounds-most s m e h) (most-le s) in
     let l : n ≤ 2 ^ 32 = le-trans k (lit≤ tt) in
-    taken-off p g w s (add binary64 (fin s m e) (fin false p g)) n (over p g w n l) (lifted p g w s m e (small (m * up e) (down e) (n * down e) (nearest-near (m * up e) (down e) (down-pos e) .1) (mul-le-mul-right (down e) k)) l) ∙ ap (ofInt binary64) (sym (nearest-is s m e))
+    let a : m * up e ≤ 2 ^ 32 * down e = small (m * up e) (down e) (n * down e) (nearest-near (m * up e) (down e) (down-pos e) .1) (mul-le-mul-right (down e) k) in
+    ap (sub binary64 (add binary64 (fin s m e) (fin false p g))) q
+    ∙ taken-off p g w s (add binary64 (fin s m e) (fin false p g)) n (over p g w n l) (lifted p g w s m e a l)
+    ∙ ap (ofInt binary64) (sym (nearest-is s m e))
   where
     small : (a d x : ℕ) → a * 2 ≤ x * 2 + d → x ≤ 2 ^ 31 * d → a ≤ 2 ^ 32 * d
     small a d x h k = omega arith

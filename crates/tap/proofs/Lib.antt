@@ -6,7 +6,6 @@ pub mod Range
 pub mod Even
 pub mod Steps
 pub mod Bits
-pub mod Sign
 pub mod Answer
 pub mod Exact
 pub mod Distance

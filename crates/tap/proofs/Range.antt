@@ -64,7 +64,7 @@ pub rounds-is : (s : Bool) (m : ℕ) (e : ℤ) → roundsWithin (fin s m e) ≡ 
 unfolding roundsWithin
 rounds-is s m e = refl
 
-pub rounds-at : (s : Bool) (m : ℕ) (e : ℤ) → roundsWithin (fin s m e) ≡ withinBounds (signed s (nearestWhole (m * up e) (down e)))
+rounds-at : (s : Bool) (m : ℕ) (e : ℤ) → roundsWithin (fin s m e) ≡ withinBounds (signed s (nearestWhole (m * up e) (down e)))
 rounds-at s m e = rounds-is s m e ∙ ap withinBounds (nearest-is s m e)
 
 pub rounds-most : (s : Bool) (m : ℕ) (e : ℤ) → roundsWithin (fin s m e) ≡ true → nearestWhole (m * up e) (down e) ≤ most s
@@ -86,24 +86,16 @@ unfolding roundsWithin
 rounds-inf s = refl
 
 -- ---- the tests: below 2^31 - 1/2, and from -2^31 - 1/2 on
-abbrev pub high : Float
-high = fin false (2 ^ 32 - 1) (negsuc 0)
-
-abbrev pub low : Float
-low = fin true (2 ^ 32 + 1) (negsuc 0)
+-- a half beyond the largest or the least coefficient
+abbrev beyond : Bool → Float
+beyond s = fin s (most s * 2 + 1) (negsuc 0)
 
 -- a sum is above zero where one of the two is
 first : (x y : ℕ) → 0 < x → ltb 0 (x + y) ≡ true
-first x y h = lt-ltb 0 (x + y) (go x y h)
-  where
-    go : (x y : ℕ) → 0 < x → 0 < x + y
-    go x y h = omega arith
+first x y h = lt-ltb 0 (x + y) (omega arith)
 
 second : (x y : ℕ) → 0 < y → ltb 0 (x + y) ≡ true
-second x y h = lt-ltb 0 (x + y) (go x y h)
-  where
-    go : (x y : ℕ) → 0 < y → 0 < x + y
-    go x y h = omega arith
+second x y h = lt-ltb 0 (x + y) (omega arith)
 
 -- below or equal, as lib.Ieee has it of two negative numbers
 no-more : (x y : ℕ) → x ≤ y → (ltb x y || (eqb y x && true)) ≡ true
@@ -114,12 +106,9 @@ no-more x y h = go (lt-or-le x y)
     go (inr l) = ap (λ (b : Bool). b || (eqb y x && true)) (le-ltb x y l) ∙ ap (λ (b : Bool). b && true) (eq-eqb y x (le-antisymm l h))
 
 more : (x y : ℕ) → y < x → (ltb x y || (eqb y x && true)) ≡ false
-more x y h = ap (λ (b : Bool). b || (eqb y x && true)) (le-ltb x y (le-of-lt h)) ∙ ap (λ (b : Bool). b && true) (ne-eqb y x (λ e. other y x h e))
-  where
-    other : (y x : ℕ) → y < x → y ≡ x → ⊥
-    other y x h e = omega arith
+more x y h = ap (λ (b : Bool). b || (eqb y x && true)) (le-ltb x y (le-of-lt h)) ∙ ap (λ (b : Bool). b && true) (ne-eqb y x (λ (e : y ≡ x). omega arith))
 
-pub below-high : (x : Float) → lt x high ≡ true → le low x ≡ roundsWithin x
+pub below-high : (x : Float) → lt x (beyond false) ≡ true → le (beyond true) x ≡ roundsWithin x
 unfolding lt le eq
 below-high nan h = absurd (false≢true h)
 below-high (inf true) h = sym (rounds-inf true)
@@ -129,11 +118,11 @@ below-high (fin false m e) h =
     ∙ sym (rounds-yes false m e (nearest-le (m * up e) (down e) (2 ^ 31 - 1) (down-pos e) (ltb-true (m * up e * 2) ((2 ^ 32 - 1) * down e) h)))
 below-high (fin true m e) h = go (lt-or-le ((2 ^ 32 + 1) * down e) (m * up e * 2))
   where
-    go : ((2 ^ 32 + 1) * down e < m * up e * 2) ⊎ (m * up e * 2 ≤ (2 ^ 32 + 1) * down e) → le low (fin true m e) ≡ roundsWithin (fin true m e)
+    go : ((2 ^ 32 + 1) * down e < m * up e * 2) ⊎ (m * up e * 2 ≤ (2 ^ 32 + 1) * down e) → le (beyond true) (fin true m e) ≡ roundsWithin (fin true m e)
     go (inl l) = more (m * up e * 2) ((2 ^ 32 + 1) * down e) l ∙ sym (rounds-no true m e (nearest-gt (m * up e) (down e) (2 ^ 31) (down-pos e) l))
     go (inr l) = no-more (m * up e * 2) ((2 ^ 32 + 1) * down e) l ∙ sym (rounds-yes true m e (even-le (m * up e) (down e) (2 ^ 31) (down-pos e) refl l))
 
-pub from-high : (x : Float) → lt x high ≡ false → false ≡ roundsWithin x
+pub from-high : (x : Float) → lt x (beyond false) ≡ false → false ≡ roundsWithin x
 unfolding lt
 from-high nan h = sym rounds-nan
 from-high (inf true) h = absurd (true≢false h)

@@ -18,9 +18,9 @@ use Rattle.tap.specs.Claims.{numerator, denominator, NearestEven, Exactl
 use Rattle.tap.proofs.Whole.{nearest-near, nearest-whole}
 use Rattle.tap.proofs.Exact.{apart, side, one-round, leftover-exact, leftover-fits}
 use Rattle.tap.proofs.Distance.{signed-mul, difference-is, none-nearer, even-as-near, no-other}
-use Rattle.tap.proofs.Sign.{round-abs, size-is}
+use Rattle.tap.proofs.Value.{round-abs}
 use Rattle.tap.proofs.Range.{most}
-use Rattle.tap.proofs.Answer.{rounded-is, of-finite, outside-is, result-is, split-is}
+use Rattle.tap.proofs.Answer.{rounded-is, of-finite, outside-is, result-is, split-is, size-is}
 
 passed : (F : ℕ) (x : Float) (c : TapResult) → roundedTap F x ≡ given c → (F ≤ 31) × (finite x ≡ true) × (outside F x ≡ false) × (resultOf F x ≡ c)
 passed F x c h =

@@ -1,14 +1,13 @@
--- A tap times 2 ^ F, exactly, and where it is 2 ^ 32 or more; floats that are not below zero. Assumes nothing.
+-- A tap times 2 ^ F, exactly; rounding from 2 ^ 32 on, and of either sign. Assumes nothing.
 use mathlib.Core.Path.{_≡_, refl, sym, ap, _∙_, subst}
 use mathlib.Core.Logic.{_⊎_, inl, inr}
-use mathlib.Core.Bool.{Bool, true, false, not, _&&_, _||_, false≢true}
-use Prim.Native.Nat.{ℕ, zero, suc, _+_, _-_, _*_, _%_, _^_, _≤_, _<_}
+use mathlib.Core.Bool.{Bool, true, false, _&&_, _||_, cond}
+use Prim.Native.Nat.{ℕ, zero, suc, _+_, _-_, _*_, _/_, _%_, _^_, _≤_, _<_, compare}
 use native.Mathlib.Nat.{le-trans, le-of-eq, le-of-lt, le-of-suc-le-suc, lt-of-lt-of-le, lt-of-le-of-lt, lt-of-not-le, lt-irrefl, zero-lt-suc, mul-one, one-mul, mul-assoc, mul-right-comm, mul-le-mul-right, mul-lt-mul-of-pos-right, lt-of-mul-lt-mul-right}
-use native.Mathlib.Omega.{arith}
 use lib.IntN.{ℤ, pos, negsuc}
-use lib.Dec.{T, leb, ltb, eqb, ltb→lt, nltb→le, leb→le, eqb→eq, lit≤, lit<}
+use lib.Dec.{T, leb, ltb, eqb, ltb→lt, leb→le, eqb→eq, lit≤, lit<}
 use lib.Pow.{pow-add, pow-pos, pow-lt}
-use lib.Ieee.{Float, nan, inf, fin, binary64, up, down, round, mul, fits, lt, le, ofBits}
+use lib.Ieee.{Float, nan, inf, fin, binary64, up, down, round, nearest, size, units, odd, mul, fits, lt, le, ofBits}
 use lib.Ieee.Fits.{and-l, and-r, down-pos, up-pos}
 use lib.Ieee.Bits.{is-false}
 use lib.Ieee.Digits.{back}
@@ -16,6 +15,7 @@ use lib.Ieee.Exact.{HasValue, round-exact}
 use lib.Ieee.Order.{round-mono}
 use lib.Ieee.Positive.{above-of-le}
 use lib.Arith.{le→nltb}
+use Rattle.tap.specs.Rounding.{absOf}
 
 -- ---- what fitting binary64 says of m and e
 pow-le-back : (a l : ℕ) → 2 ^ a ≤ 2 ^ l → a ≤ l
@@ -66,11 +66,10 @@ scaled-exact s m e k t h =
     subst (λ (x : Float). HasValue x s a (down e)) (sym (scaled-is s m e k))
     (round-exact binary64 s a (down e) m (j + k) (down-pos e) (held s m e t .0) (lt-of-lt-of-le w (lit≤ tt)) v)
 
--- ---- compared with 2 ^ w
+-- ---- at 2 ^ 32 and above
 abbrev pub two-to : ℕ → Float
 two-to w = fin false 1 (pos w)
 
--- ---- at 2 ^ 32 and above
 two32 : round binary64 false (2 ^ 32) 1 ≡ two-to 32
 unfolding round
 two32 = refl
@@ -100,7 +99,29 @@ over a d D h =
     not-under (round binary64 false a d)
     (subst (λ (z : Float). T (le z (round binary64 false a d))) two32 (round-mono binary64 (2 ^ 32) 1 a d (zero-lt-suc 0) D (le-trans h (le-of-eq (sym (mul-one a))))))
 
--- ---- a value that is not negative
+-- ---- rounding keeps the sign, and its size does not turn on it
+odd-abs : (d : ℕ) (s : Bool) (q k l : ℕ) → absOf (odd d s q k l) ≡ odd d false q k l
+unfolding odd
+odd-abs d s zero k l = refl
+odd-abs d s (suc q) k l = refl
+
+units-abs : (s : Bool) (q k : ℕ) → absOf (units binary64 s q k) ≡ units binary64 false q k
+unfolding units
+units-abs s q k = go (ltb (q * 2 ^ k) (2 ^ 2098)) (odd-abs 54 s q k 1074)
+  where
+    go : (b : Bool) → absOf (odd 54 s q k 1074) ≡ odd 54 false q k 1074 → absOf (cond b (odd 54 s q k 1074) (inf s)) ≡ cond b (odd 54 false q k 1074) (inf false)
+    go true h = h
+    go false h = refl
+
+pub round-abs : (s : Bool) (a b : ℕ) → absOf (round binary64 s a b) ≡ round binary64 false a b
+unfolding round
+round-abs s a b =
+    let n = a * 2 ^ 1074 in
+    let k = size (n / b) - 53 in
+    let u = b * 2 ^ k in
+    units-abs s (nearest (n / u) (compare (n % u * 2) u)) k
+
+-- ---- +0
 abbrev pub nought : Float
 nought = fin false 0 (pos 0)
 
@@ -108,15 +129,3 @@ nought = fin false 0 (pos 0)
 pub zero-is : ofBits binary64 0 ≡ nought
 unfolding ofBits
 zero-is = refl
-
--- where the sign is set, the size is 0
-abbrev pub Plain : Bool → ℕ → Type 0
-Plain s A = s ≡ true → A ≡ 0
-
-none : (a b : ℕ) → a + b ≤ 0 → a ≡ 0
-none a b h = omega arith
-
-pub unsigned : (s : Bool) (m : ℕ) (e : ℤ) → lt (fin s m e) nought ≡ false → Plain s (m * up e)
-unfolding lt
-unsigned false m e h p = absurd (false≢true p)
-unsigned true m e h p = sym (mul-one (m * up e)) ∙ none (m * up e * 1) (0 * 1 * down e) (nltb→le 0 (m * up e * 1 + 0 * 1 * down e) (subst (λ (b : Bool). T (not b)) (sym h) tt))

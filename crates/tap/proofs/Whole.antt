@@ -76,7 +76,7 @@ pub nearest-near : (a d : ℕ) → 0 < d → Near a d (nearestWhole a d)
 nearest-near a d D =
     subst (λ (n : ℕ). Near a d n) (sym (by-cases a d)) (near-at a d (a / d) (a % d) (compare (a % d * 2) d) (div-add-mod' a d) (mod-lt a D) (cmp (a % d * 2) d))
 
--- ---- bounds: from a number to the fraction, and back
+-- ---- bounds: from the fraction to its nearest number
 scale : (n d : ℕ) → n * d * 2 ≡ n * 2 * d
 scale n d = mul-right-comm n d 2
 

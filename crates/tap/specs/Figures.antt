@@ -1,5 +1,5 @@
--- The bench figures on taps that document 01 marks [P], with their neighbours in the same line, as request 4 of document 02 amends them, and its known trap; a tap stands by its
--- bit pattern. Definitions only; the proof is in proofs/Figures.antt.
+-- The bench figures on taps that document 01 marks [P], with their neighbours in the same line, as request 4 of document 02 amends them; other halves, document 01's known trap,
+-- and both ends of the range. A tap stands by its bit pattern. Definitions only; the proof is in proofs/Figures.antt.
 use mathlib.Core.Path.{_≡_}
 use Prim.Native.Nat.{_^_}
 use lib.IntN.{pos, negℤ}

@@ -2,7 +2,7 @@
 use Prim.Native.Nat.{_*_}
 use mathlib.Core.Bool.{Bool, true, false, cond}
 use lib.IntN.{ℤ, pos}
-use lib.Ieee.{Float, nan, inf, fin, binary64, up, down, eq, lt, neg, sub, ofInt}
+use lib.Ieee.{Float, nan, inf, fin, binary64, up, down, eq, sub, ofInt}
 use Rattle.word.specs.Bounds.{withinBounds}
 use Rattle.refusal.specs.Answer.{Answer, given, refused}
 use Rattle.tap.specs.Rounding.{TapResult, exact, rounded, nearestWhole, signed, wholeOf, leftOf}
@@ -25,11 +25,6 @@ roundsWithin (fin s m e) = withinBounds (nearestOf (fin s m e))
 unfoldable pub parted : Float → ℤ → TapResult
 unfolding eq sub ofInt
 parted x z = cond (eq x (ofInt binary64 z)) (exact z) (rounded z (sub binary64 x (ofInt binary64 z)))
-
--- x or -x, by whether x is below zero
-unfoldable pub magnitudeOf : Float → Float
-unfolding lt neg
-magnitudeOf x = cond (lt x (fin false 0 (pos 0))) (neg x) x
 
 -- whether an answer is a refusal
 abbrev pub isRefused : {A : Type 0} → Answer A → Bool

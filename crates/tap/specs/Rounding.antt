@@ -11,7 +11,8 @@ use Rattle.refusal.specs.Answer.{Answer, given, turnedDown, refuseIf}
 use Rattle.tap.specs.declared.RoundedTap.{RoundedTap}
 use Rattle.tap.specs.declared.RoundedTap.the-variants.{Exact, Rounded, Refused}
 
--- "IEEE 754's ties-to-even": the size that q + 1/2 goes to is the even one of q and q + 1, which are as near. The one place where the half rule stands
+-- "IEEE 754's ties-to-even" (there roundTiesToEven: of two that are equally near "the one with an even least significant digit"): the size that q + 1/2 goes to is the even
+-- one of q and q + 1. The one place where the half rule stands
 unfoldable pub halfOf : ℕ → ℕ
 halfOf q = q + q % 2
 

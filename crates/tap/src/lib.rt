@@ -14,7 +14,7 @@ ghost use lib.Ieee as Ieee;
 ghost use lib.Ieee.{fin, binary64};
 ghost use Rattle.refusal.specs.Answer.{given};
 ghost use Rattle.tap.specs.Rounding.{answerOf, TapRounded};
-ghost use Rattle.tap.specs.Inner.{nearestOf, roundsWithin, parted, magnitudeOf};
+ghost use Rattle.tap.specs.Inner.{nearestOf, roundsWithin, parted};
 use refusal::Refusal;
 
 // What a tap comes back as: N with nothing left over, N with the leftover tap * 2^F - N, or a
@@ -23,13 +23,6 @@ pub enum RoundedTap {
     Exact(i32),
     Rounded(i32, f64),
     Refused(Refusal),
-}
-
-// x without its sign, but that -0 keeps it.
-pub fn magnitude(x: f64) -> f64
-    ensures { λ r. ⌜ r ≡ magnitudeOf x ⌝ }
-{
-    if x < 0.0 { -x } else { x }
 }
 
 // x * 2^f. A power of 2 has no digits beside its exponent, which stands above 52 bits with 1023 added.
@@ -53,7 +46,7 @@ fn rounds_within(x: f64) -> bool
 }
 
 // The whole number nearest to x, and of two that are as near the even one. From 2^52 to 2^53 a float
-// has no digits for a fraction; the number added, 2^52 + 2^51, is the one in the middle.
+// has no digits for a fraction; the number added, 2^52 + 2^51, is in the middle, and even.
 fn nearest_even(x: f64) -> f64
     requires { ⌜ roundsWithin x ≡ true ⌝ }
     ensures { λ r. ⌜ r ≡ Ieee.ofInt binary64 (nearestOf x) ⌝ }

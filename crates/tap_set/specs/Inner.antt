@@ -1,16 +1,22 @@
 -- What the steps of rounding a set of taps give. Definitions only.
 use Prim.Native.Nat.{ℕ}
-use mathlib.Core.Bool.{Bool, not, _&&_, cond}
+use mathlib.Core.Bool.{Bool, false, not, _&&_, cond}
 use mathlib.Core.List.{List, _++_}
 use lib.ListN.{length, drop}
 use mathlib.Core.Path.{_≡_}
 use Rattle.refusal.specs.Answer.{Answer, given, refused, refuseIf, refuseAt, lowest}
-use lib.Ieee.{Float}
+use lib.IntN.{pos}
+use lib.Ieee.{Float, fin, lt, neg}
 use Rattle.tap.specs.Rounding.{finite, roundedTap}
 use Rattle.tap.specs.Inner.{isRefused}
 use Rattle.tap_set.specs.declared.Report.{Report}
 use Rattle.tap_normalise.specs.Normalised.{sumOf, unusable, infinite, used, divisorOf}
 use Rattle.tap_set.specs.Set.{largerOf, reportOf, bounded}
+
+-- x or -x, by whether x is below zero
+unfoldable pub magnitudeOf : Float → Float
+unfolding lt neg
+magnitudeOf x = cond (lt x (fin false 0 (pos 0))) (neg x) x
 
 -- the report with one leftover more
 unfoldable pub withLeftover : Report → Float → Report

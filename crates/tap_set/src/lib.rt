@@ -9,7 +9,7 @@ ghost use Rattle.tap.specs.Rounding as Tap;
 ghost use Rattle.tap.specs.Inner.{leftIn};
 ghost use Rattle.tap_normalise.specs.Normalised.{used};
 ghost use Rattle.tap_set.specs.Set.{largerOf, coefficientsOf, answerOf, TapsRounded};
-ghost use Rattle.tap_set.specs.Inner.{withLeftover, Front, acceptedOf, tried, finiteRule, checked, settled};
+ghost use Rattle.tap_set.specs.Inner.{magnitudeOf, withLeftover, Front, acceptedOf, tried, finiteRule, checked, settled};
 use refusal::Refusal;
 use tap::RoundedTap;
 
@@ -24,15 +24,18 @@ pub enum RoundedTaps {
     Refused(Refusal),
 }
 
+// x without its sign, but that -0 keeps it.
+fn magnitude(x: f64) -> f64
+    ensures { λ r. ⌜ r ≡ magnitudeOf x ⌝ }
+{
+    if x < 0.0 { -x } else { x }
+}
+
 // Of two leftovers the larger in magnitude, and the first where they are as large.
 fn larger(x: f64, y: f64) -> f64
     ensures { λ r. ⌜ r ≡ largerOf x y ⌝ }
 {
-    if tap::magnitude(x) < tap::magnitude(y) {
-        y
-    } else {
-        x
-    }
+    if magnitude(x) < magnitude(y) { y } else { x }
 }
 
 // The report with one tap more.

@@ -1,5 +1,5 @@
-//! Nanoseconds a tap, rounded one by one and as sets: taps of every kind, so that one on which a
-//! branch goes wrong is seen, and sets of every size.
+//! Nanoseconds a tap, rounded one by one and as sets: taps of several kinds, so that one on which a
+//! branch goes wrong is seen, and sets of several sizes.
 
 use super::{best, print, print_head};
 use fir_tests::answer::{TapAnswer, ACCEPTED};
@@ -20,18 +20,14 @@ type Kind = fn(&mut Random) -> f64;
 
 const KINDS: [(&str, Kind); 5] = [
     ("random", Random::unit),
-    ("a quarter halves", |random| {
-        let kind = if random.one_in(4) {
-            a_half
-        } else {
-            Random::unit
-        };
-        kind(random)
+    ("a quarter halves", |random| match random.one_in(4) {
+        true => a_half(random),
+        false => random.unit(),
     }),
     ("halves", a_half),
-    ("whole or not", |random| {
-        let kind = random.pick::<Kind>(&[whole, Random::unit]);
-        kind(random)
+    ("whole or not", |random| match random.one_in(2) {
+        true => whole(random),
+        false => random.unit(),
     }),
     ("whole", whole),
 ];
@@ -116,10 +112,10 @@ pub fn run() {
         let taps = taps_of(kind, MOST_TAPS);
         measure_one(&taps);
         measure_sets("sets of 256", &taps, MOST_TAPS, 0);
-        measure_sets("sets of 256, normalised", &taps, MOST_TAPS, 1);
     }
+    // Quotients are of no other kind.
     print_head("Sizes: random", &["fast"]);
-    for size in [64, 16, 4, 1] {
+    for size in [MOST_TAPS, 64, 16, 4, 1] {
         let taps = taps_of(Random::unit, size);
         for (what, normalised) in [("", 0), (", normalised", 1)] {
             measure_sets(&format!("sets of {size}{what}"), &taps, size, normalised);

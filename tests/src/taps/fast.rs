@@ -34,10 +34,7 @@ pub fn round_tap(bits: u64, fraction_bits: u32) -> TapAnswer {
     }
     let tap = f64::from_bits(bits);
     match lifted(tap * power_of_two(fraction_bits)) {
-        Some(lifted) => TapAnswer {
-            refusal: 0,
-            coefficient: low_bits(lifted),
-        },
+        Some(lifted) => TapAnswer::accepted(low_bits(lifted)),
         None => TapAnswer::refused(if tap.is_finite() { 6 } else { 5 }),
     }
 }

@@ -52,10 +52,10 @@ pub fn with_neighbours(bits: u64) -> [u64; 3] {
 }
 
 /// Whole parts of halves: small ones, and those beside every power of two up to 2^32.
-pub fn whole_parts() -> Vec<u64> {
-    let mut list: Vec<u64> = (0..40).collect();
+pub fn whole_parts() -> Vec<i64> {
+    let mut list: Vec<i64> = (0..40).collect();
     for power in 5..=32 {
-        list.extend((1u64 << power) - 4..(1 << power) + 4);
+        list.extend((1i64 << power) - 4..(1 << power) + 4);
     }
     list
 }

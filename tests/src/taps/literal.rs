@@ -1,5 +1,6 @@
-//! The rules for taps as the paper states them, in whole numbers throughout; only the sum and the
-//! quotients are left to the machine's binary64 addition and division. Slow on purpose.
+//! The rules for taps as the paper states them, a half going to the even number, in whole numbers
+//! throughout; only the sum and the quotients are left to the machine's binary64 addition and
+//! division. Slow on purpose.
 
 use super::binary64::{is_finite, put_together, take_apart, Parts, SIGN};
 use crate::answer::{Answer, TapAnswer, ACCEPTED};
@@ -75,10 +76,7 @@ pub fn tap(bits: u64, fraction_bits: u32) -> Tap {
 pub fn round_tap(bits: u64, fraction_bits: u32) -> TapAnswer {
     match tap(bits, fraction_bits) {
         Tap::Refused(refusal) => TapAnswer::refused(refusal),
-        Tap::Exact(coefficient) | Tap::Rounded(coefficient, _) => TapAnswer {
-            refusal: 0,
-            coefficient,
-        },
+        Tap::Exact(number) | Tap::Rounded(number, _) => TapAnswer::accepted(number),
     }
 }
 

@@ -21,7 +21,7 @@ pub struct Tally {
     pub places: [HashSet<u32>; 8],
     /// Accepted sets whose largest leftover has an equal of the other sign.
     pub ties: usize,
-    /// Of these, halves that went down first, and up.
+    /// Of these, those where a half that went down is the first, and up.
     pub half_ties: [usize; 2],
     pub normalised: usize,
 }
@@ -33,15 +33,14 @@ fn by_ties_even(bits: u64, fraction_bits: u32) -> Option<TapAnswer> {
     }
     let scaled = f64::from_bits(bits) * (1u64 << fraction_bits) as f64;
     let near = scaled.abs() < (1u64 << 52) as f64;
-    let whole = scaled.round_ties_even();
-    let held = whole == whole as i32 as f64;
-    near.then(|| match held {
-        true => TapAnswer {
-            refusal: 0,
-            coefficient: whole as i32,
-        },
-        false => TapAnswer::refused(6),
-    })
+    near.then(|| TapAnswer::of_whole(scaled.round_ties_even() as i64))
+}
+
+/// Counts a leftover of a half: one that went down, or up.
+fn count_half(counts: &mut [usize; 2], leftover: u64) {
+    let leftover = f64::from_bits(leftover);
+    counts[0] += (leftover == 0.5) as usize;
+    counts[1] += (leftover == -0.5) as usize;
 }
 
 pub fn check_tap(bits: u64, fraction_bits: u32, tally: &mut Tally) {
@@ -56,10 +55,7 @@ pub fn check_tap(bits: u64, fraction_bits: u32, tally: &mut Tally) {
         Tap::Exact(_) => tally.exact += 1,
         Tap::Rounded(_, leftover) => {
             tally.rounded += 1;
-            let leftover = f64::from_bits(leftover);
-            let sides = [leftover == 0.5, leftover == -0.5];
-            tally.halves[0] += sides[0] as usize;
-            tally.halves[1] += sides[1] as usize;
+            count_half(&mut tally.halves, leftover);
         }
         Tap::Refused(refusal) => tally.refused[refusal as usize] += 1,
     }
@@ -116,11 +112,10 @@ fn count(set: &Set, outcome: &Outcome, tally: &mut Tally) {
         tally.normalised += (set.normalised != 0) as usize;
         tally.exact += (outcome.leftover == 0) as usize;
         tally.rounded += (outcome.leftover != 0) as usize;
-        let tie = has_tie(set, outcome);
-        tally.ties += tie as usize;
-        let leftover = f64::from_bits(outcome.leftover);
-        tally.half_ties[0] += (tie && leftover == 0.5) as usize;
-        tally.half_ties[1] += (tie && leftover == -0.5) as usize;
+        if has_tie(set, outcome) {
+            tally.ties += 1;
+            count_half(&mut tally.half_ties, outcome.leftover);
+        }
         return;
     };
     let number = returned.refusal as usize;

@@ -8,13 +8,13 @@ use Rattle.tap.proofs.nearest_even.Tie as tie
 
 returns : tie.Need-returns
 unfolding ofBits
-returns c = rounded-by (c .args .x) _ (c .pre) (record {
-  positive = refl;
-  whole = refl;
+returns c = rounded-by (c .args .x) _ _ (c .pre) (record {
   large = lit≤ tt;
   room = lit< tt;
+  positive = refl;
+  whole = refl;
   even = refl;
-})
+}) refl
 
 pub nearest-even-spec : {M : Type 1} → statement M
 nearest-even-spec = tie.close (tie.spec returns)

@@ -3,7 +3,7 @@ use borrow.Author.Needs.{needs}
 use mathlib.Core.Path.{_≡_, sym, ap, _∙_}
 use mathlib.Core.Bool.{Bool, true, false}
 use lib.Ieee.{Float, lt}
-use Rattle.tap.specs.Inner.{magnitudeOf}
+use Rattle.tap_set.specs.Inner.{magnitudeOf}
 use Rattle.tap_set.proofs.Sizes.{larger-at}
 use Rattle.tap_set.proofs.larger.Statement.{statement}
 use Rattle.tap_set.proofs.larger.Tie as tie

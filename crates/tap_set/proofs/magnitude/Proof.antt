@@ -1,11 +1,11 @@
--- `tap::magnitude` meets its contract. Assumes nothing.
+-- `tap_set::magnitude` meets its contract. Assumes nothing.
 use mathlib.Core.Path.{sym, ap, _∙_}
 use mathlib.Core.Bool.{true, false}
 use lib.Ieee.{Float, lt}
 use Rattle.tap.proofs.Value.{zero-is}
-use Rattle.tap.proofs.Sign.{magnitude-at}
-use Rattle.tap.proofs.magnitude.Statement.{statement}
-use Rattle.tap.proofs.magnitude.Tie as tie
+use Rattle.tap_set.proofs.Sizes.{magnitude-at}
+use Rattle.tap_set.proofs.magnitude.Statement.{statement}
+use Rattle.tap_set.proofs.magnitude.Tie as tie
 
 returns : tie.Need-returns
 returns c = let x = c .before .args .x in sym (magnitude-at x true (ap (λ (k : Float). lt x k) (sym zero-is) ∙ c .if1 .taken))
