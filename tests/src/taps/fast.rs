@@ -27,16 +27,21 @@ fn low_bits(lifted: f64) -> i32 {
     lifted.to_bits() as i32
 }
 
+/// The word that the entry for C answers.
 #[inline(never)]
-pub fn round_tap(bits: u64, fraction_bits: u32) -> TapAnswer {
+extern "C" fn tap_word(bits: u64, fraction_bits: u32) -> u64 {
     if fraction_bits > 31 {
-        return TapAnswer::refused(4);
+        return 4 << 32;
     }
     let tap = f64::from_bits(bits);
     match lifted(tap * power_of_two(fraction_bits)) {
-        Some(lifted) => TapAnswer::accepted(low_bits(lifted)),
-        None => TapAnswer::refused(if tap.is_finite() { 6 } else { 5 }),
+        Some(lifted) => low_bits(lifted) as u32 as u64,
+        None => (if tap.is_finite() { 6 } else { 5 }) << 32,
     }
+}
+
+pub fn round_tap(bits: u64, fraction_bits: u32) -> TapAnswer {
+    tap_word(bits, fraction_bits).into()
 }
 
 type Buffer = [MaybeUninit<i32>; 256];
