@@ -1,4 +1,5 @@
--- All figures that document 01, "Bench figures", marks [P], those on taps as request 4 of document 02 amends them, in one list. Definitions only; the theorem is in proofs/Figures.antt.
+-- All figures that document 01, "Bench figures", marks [P], in one list; those on taps are as request 4 of document 02 amends them. Definitions only; the theorem is in
+-- proofs/Figures.antt.
 use mathlib.Core.Path.{_≡_}
 use mathlib.Core.List.{List, [], _∷_, _++_, map}
 use Prim.Native.Nat.{ℕ, _*_, _-_, _≤_}

@@ -1,5 +1,5 @@
--- What document 01, "Taps to coefficients", with the half rule of request 4 of document 02, says of a set of taps and of its report, as claims about every answer of `round_taps` and the table that it leaves. Definitions only;
--- the proof is in proofs/Claims.antt.
+-- What document 01, "Taps to coefficients", with the half rule of request 4 of document 02, says of a set of taps and of its report, as claims about every answer of `round_taps`
+-- and the table that it leaves. Definitions only; the proof is in proofs/Claims.antt.
 use mathlib.Core.Path.{_≡_}
 use mathlib.Core.Logic.{_↔_}
 use mathlib.Core.Bool.{Bool, true, false}

@@ -113,7 +113,7 @@ pub fn run() {
         measure_one(&taps);
         measure_sets("sets of 256", &taps, MOST_TAPS, 0);
     }
-    // Quotients are of no other kind.
+    // Normalised sets stand here alone: of whatever kind the taps are, the quotients are random.
     print_head("Sizes: random", &["fast"]);
     for size in [MOST_TAPS, 64, 16, 4, 1] {
         let taps = taps_of(Random::unit, size);
