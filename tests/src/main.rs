@@ -16,6 +16,12 @@ fn main() {
     bench::taps::run();
     println!("\nMinimal forms");
     bench::forms::run();
+    println!(
+        "\nWeights of {} forms, a call, best of {}",
+        bench::weights::FORMS,
+        bench::weights::REPETITIONS
+    );
+    bench::weights::run();
     println!("\nPlanes, a call, best of {}", bench::planes::REPETITIONS);
     bench::planes::run();
     println!("\nNetworks");

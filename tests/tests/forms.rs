@@ -156,27 +156,45 @@ fn short_tables() {
     assert!(seen.len() > 5000, "{}", seen.len());
 }
 
+/// Every mask of 16 places, in the low and in the high half, as either mask and as both.
+#[test]
+fn masks_of_half_the_places() {
+    let mut forms = 0;
+    for half in 0..=0xffff_u32 {
+        let ones = (0..16).filter(|place| half >> place & 1 == 1).count() as u32;
+        for mask in [half, half << 16] {
+            let other = mask.rotate_left(16);
+            for (plus, minus, weight) in [(mask, 0, ones), (0, mask, ones), (mask, other, 2 * ones)]
+            {
+                assert_eq!(check_form(Form { plus, minus }), Ok(weight));
+                forms += 1;
+            }
+        }
+    }
+    assert_eq!(forms, 6 << 16);
+}
+
 #[test]
 fn random_masks() {
     let mut random = Random::new(6);
-    let mut accepted = 0;
-    let mut refused = [0; 32];
+    let (mut accepted, mut refused) = ([0; 33], [0; 32]);
     for _ in 0..RANDOM_MASKS {
         match check_form(mixture::masks(&mut random)) {
-            None => accepted += 1,
-            Some(place) => refused[place as usize] += 1,
+            Ok(weight) => accepted[weight as usize] += 1,
+            Err(place) => refused[place as usize] += 1,
         }
     }
-    println!("accepted {accepted}, refused {refused:?}");
-    assert!(accepted > RANDOM_MASKS / 4);
+    println!("accepted {accepted:?}, refused {refused:?}");
+    assert!(accepted.iter().sum::<usize>() > RANDOM_MASKS / 4);
+    assert!(accepted.iter().all(|often| *often > 0));
     assert!(refused.iter().all(|often| *often > RANDOM_MASKS / 100));
     for mask in [u32::MAX, 1 << 31, 1] {
-        let none = |plus, minus| check_form(Form { plus, minus }).is_none();
+        let none = |plus, minus| check_form(Form { plus, minus }).is_ok();
         assert!(none(mask, 0) && none(0, mask) && none(mask, !mask) && none(!mask, mask));
         let place = check_form(Form {
             plus: mask,
             minus: mask,
         });
-        assert_eq!(place, Some(mask.trailing_zeros()));
+        assert_eq!(place, Err(mask.trailing_zeros()));
     }
 }

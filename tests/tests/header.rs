@@ -1,7 +1,7 @@
 //! include/fir.h beside what it speaks of: the Rattle functions, the table of refusals, the archive.
 
 use fir_tests::sheet::program::{root, run, Delivery};
-use std::collections::BTreeMap;
+use std::collections::{BTreeMap, BTreeSet};
 use std::fs::{read_dir, read_to_string};
 use std::process::Command;
 
@@ -188,28 +188,43 @@ fn languages() {
     }
 }
 
-/// No state: the archive has no memory that could be written, and calls nothing but two functions.
-#[test]
-fn no_state() {
+/// What nm prints of the archive's symbols.
+fn symbols(arguments: &[&str]) -> String {
     let mut command = Command::new("nm");
+    command.args(arguments);
     command.arg(root().join("target/staticlib/libfir.a"));
     let ended = run(&mut command, b"", Delivery::AtOnce);
-    let symbols = String::from_utf8(ended.out).unwrap();
+    assert_eq!(ended.status, Some(0), "{}", ended.errors);
+    String::from_utf8(ended.out).unwrap()
+}
+
+/// The names of symbols by their kind.
+fn kinds(symbols: &str) -> BTreeMap<&str, BTreeSet<&str>> {
     let mut kinds = BTreeMap::new();
-    for line in symbols
-        .lines()
-        .filter(|line| !line.is_empty() && !line.ends_with(':'))
-    {
+    for line in symbols.lines() {
         let words: Vec<&str> = line.split_whitespace().collect();
-        let (kind, name) = (words[words.len() - 2], words[words.len() - 1]);
-        kinds.entry(kind).or_insert_with(Vec::new).push(name);
+        if let [.., kind, name] = words[..] {
+            kinds.entry(kind).or_insert_with(BTreeSet::new).insert(name);
+        }
     }
-    assert!(kinds["T"].len() == 16, "{kinds:?}");
+    kinds
+}
+
+/// No state: the archive has no memory that could be written.
+#[test]
+fn no_state() {
+    let symbols = symbols(&[]);
+    let kinds = kinds(&symbols);
+    assert_eq!(kinds["T"].len(), 16, "{kinds:?}");
     for (kind, names) in kinds {
         assert!("TtRrUN".contains(kind), "{kind}: {names:?}");
-        assert!(
-            kind != "U" || names.iter().all(|name| ["memcpy", "memset"].contains(name)),
-            "{names:?}"
-        );
     }
+}
+
+/// The archive calls nothing but two functions, and no routine that brings a table along.
+#[test]
+fn calls_two_functions() {
+    let symbols = symbols(&["-u"]);
+    let wanted = BTreeMap::from([("U", BTreeSet::from(["memcpy", "memset"]))]);
+    assert_eq!(kinds(&symbols), wanted);
 }

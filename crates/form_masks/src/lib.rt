@@ -1,17 +1,13 @@
 // A form as two masks: its value, its weight, and the canonical form of a coefficient.
-mod bytes;
-
 ghost use mathlib.Core.Path.{_≡_};
 ghost use Prim.Native.Nat.{_≤_, _<_, _^_};
 ghost use lib.Count as Count;
 ghost use Rattle.refusal.specs.Answer.{at-place};
 ghost use Rattle.signed_digit.specs.CanonicalForm.{canonicalNat};
 ghost use Rattle.form_masks.specs.Form.{formOf, InCanonicalForm};
-ghost use Rattle.form_masks.specs.Inner.{lowestIn, ByteCounts};
+ghost use Rattle.form_masks.specs.Inner.{lowestIn};
 ghost use Rattle.form_masks.specs.Value as Value;
 ghost use Rattle.form_masks.specs.Weight as Weight;
-pub use bytes::byte_counts;
-use bytes::byte_ones;
 use refusal::Refusal;
 
 // The places holding 1 and the places holding -1.
@@ -32,24 +28,11 @@ pub enum FormWeight {
     Refused(Refusal),
 }
 
-// The number of ones in x, byte by byte, with the table at hand. Every weight is counted here.
-pub fn ones_by(counts: &[u8; 256], x: u32) -> u32
-    requires { ⌜ ByteCounts (now counts) ⌝ }
-    ensures { λ r. ⌜ r ≡ Count.ones x ⌝ }
-{
-    let a = word::byte_32(byte_ones(counts, (x % 0x100) as u8));
-    let b = word::byte_32(byte_ones(counts, (x / 0x100 % 0x100) as u8));
-    let c = word::byte_32(byte_ones(counts, (x / 0x1_0000 % 0x100) as u8));
-    let d = word::byte_32(byte_ones(counts, (x / 0x100_0000) as u8));
-    a + b + c + d
-}
-
-// The number of ones in x.
+// The number of ones in x. Every weight is counted here.
 pub fn ones(x: u32) -> u32
     ensures { λ r. ⌜ r ≡ Count.ones x ⌝ }
 {
-    let counts = byte_counts();
-    ones_by(&counts, x)
+    u32::count_ones(x)
 }
 
 // The lowest place where x has a one.

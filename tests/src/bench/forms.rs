@@ -1,9 +1,9 @@
-//! Nanoseconds a form and a call for listing, and a call for counting and for weighing a form.
+//! Nanoseconds a form and a call for listing, and a call for counting.
 
 use super::{best, print, print_head};
 use fir_tests::answer::{Answer, ACCEPTED};
 use fir_tests::forms::call::Lister;
-use fir_tests::forms::{core, fast, mixture, Form, MOST_FORMS};
+use fir_tests::forms::{core, fast, mixture, MOST_FORMS};
 use fir_tests::random::Random;
 use std::hint::black_box;
 
@@ -50,24 +50,6 @@ fn count(coefficients: &[i32], counter: fn(i32, &mut u32) -> Answer) -> usize {
     forms
 }
 
-/// Weighs each form and gives the sum of the weights.
-#[inline(always)]
-fn weigh(forms: &[Form], weigher: fn(Form, &mut u32) -> Answer) -> usize {
-    let mut sum = 0;
-    for form in forms {
-        let mut weight = 0;
-        assert_eq!(weigher(black_box(*form), &mut weight), ACCEPTED);
-        sum += weight as usize;
-    }
-    sum
-}
-
-fn canonical(n: &i32) -> Form {
-    let mut form = Form { plus: 0, minus: 0 };
-    assert_eq!(core::canonical(*n, &mut form), ACCEPTED);
-    form
-}
-
 fn measure(coefficients: &[i32]) {
     let [mut by_core, mut by_fast] = [Listed::NONE; 2];
     let listing = best([
@@ -81,17 +63,9 @@ fn measure(coefficients: &[i32]) {
         &mut || counted_by_fast = count(coefficients, fast::form_count),
     ]);
     assert_eq!([counted_by_core, counted_by_fast], [by_core.forms; 2]);
-    let forms: Vec<Form> = coefficients.iter().map(canonical).collect();
-    let (mut weighed_by_core, mut weighed_by_fast) = (0, 0);
-    let weighing = best([
-        &mut || weighed_by_core = weigh(&forms, core::form_weight),
-        &mut || weighed_by_fast = weigh(&forms, fast::form_weight),
-    ]);
-    assert_eq!(weighed_by_core, weighed_by_fast);
     print("listing, a form", listing, by_core.forms);
     print("listing, a call", listing, coefficients.len());
     print("counting, a call", counting, coefficients.len());
-    print("weighing, a call", weighing, coefficients.len());
 }
 
 pub fn run() {

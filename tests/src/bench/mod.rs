@@ -8,6 +8,7 @@ pub mod running;
 pub mod sweep;
 pub mod taps;
 pub mod verilog;
+pub mod weights;
 
 use std::time::Instant;
 

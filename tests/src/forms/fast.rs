@@ -1,35 +1,10 @@
-//! Listing, counting and weighing written by hand for speed: the core's time is compared with this.
-//! One pass over the links, without dead ends and without sorting; weights by a table of bytes.
+//! Listing and counting written by hand for speed: the core's time is compared with this. One pass
+//! over the links, without dead ends and without sorting.
 
 use super::links::{canonical, lowest, Links, Ways};
-use super::{Form, MOST_FORMS};
+use super::MOST_FORMS;
 use crate::answer::{Answer, ACCEPTED};
 use std::mem::MaybeUninit;
-
-/// Entry b is the number of ones in b.
-static BYTE_ONES: [u8; 256] = {
-    let mut table = [0; 256];
-    let mut b = 0;
-    while b < 256 {
-        table[b] = b.count_ones() as u8;
-        b += 1;
-    }
-    table
-};
-
-#[inline(never)]
-pub fn form_weight(form: Form, weight: &mut u32) -> Answer {
-    let both = form.plus & form.minus;
-    if both != 0 {
-        return Answer {
-            refusal: 8,
-            place: both.trailing_zeros(),
-        };
-    }
-    let bytes = (form.plus | form.minus).to_le_bytes();
-    *weight = bytes.map(|b| BYTE_ONES[b as usize] as u32).iter().sum();
-    ACCEPTED
-}
 
 #[inline(never)]
 pub fn form_count(n: i32, count: &mut u32) -> Answer {

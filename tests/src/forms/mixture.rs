@@ -54,6 +54,16 @@ pub fn uneven(random: &mut Random) -> i32 {
     }
 }
 
+/// Each digit is 0 in one of two cases, else 1 or -1.
+pub fn form(random: &mut Random) -> Form {
+    let any = random.bits();
+    let (plus, minus) = (any as u32, (any >> 32) as u32);
+    Form {
+        plus: plus & !minus,
+        minus: minus & !plus,
+    }
+}
+
 /// Two masks: in one of three cases no place is in both, else one or more from some place on.
 pub fn masks(random: &mut Random) -> Form {
     let thin = random.pick(&[u64::MAX, 0x1111_1111_1111_1111, 0xff]);

@@ -7,6 +7,7 @@ pub mod links;
 pub mod literal;
 pub mod mixture;
 pub mod pattern;
+pub mod weights;
 
 /// No 32-bit coefficient has more minimal forms, and each table has room for as many.
 pub const MOST_FORMS: usize = 1597;

@@ -3,9 +3,11 @@
 use fir_tests::answer::{Answer, ACCEPTED};
 use fir_tests::forms::call::{Call, Lister, COUNT_BEFORE};
 use fir_tests::forms::literal::{self, Digits};
-use fir_tests::forms::{core, fast, links, Form};
+use fir_tests::forms::{core, fast, links, weights, Form};
 
 const LISTERS: [Lister; 2] = [core::minimal_forms, fast::minimal_forms];
+const WEIGHERS: [fn(Form, &mut u32) -> Answer; 3] =
+    [core::form_weight, weights::by_table, weights::by_count_ones];
 const FORM_BEFORE: Form = Form {
     plus: 0x5a5a_1234,
     minus: 0xa5a5_4321,
@@ -48,7 +50,7 @@ pub fn check(call: Call, tally: &mut Tally) {
     for (form, string) in forms.iter().zip(&strings) {
         assert_eq!(literal::value(string), call.n as i64);
         assert_eq!(literal::weight(string), weight, "{}", call.n);
-        check_form(*form);
+        assert_eq!(check_form(*form), Ok(weight));
     }
     check_order(&strings);
     tally.count(forms.len(), weight);
@@ -96,8 +98,9 @@ fn check_order(strings: &[Digits]) {
     assert!(strings.windows(2).all(ordered));
 }
 
-/// Value and weight of any two masks; gives the place of the refusal where they overlap.
-pub fn check_form(form: Form) -> Option<u32> {
+/// Value and weight of any two masks; gives the weight, or the place of the refusal where they
+/// overlap.
+pub fn check_form(form: Form) -> Result<u32, u32> {
     let digits = literal::digits(form);
     let (answer, wanted_value, wanted_weight) = match digits {
         Ok(digits) => (ACCEPTED, literal::value(&digits), literal::weight(&digits)),
@@ -106,8 +109,11 @@ pub fn check_form(form: Form) -> Option<u32> {
     let mut value = VALUE_BEFORE;
     assert_eq!(core::form_value(form, &mut value), answer, "{form:x?}");
     assert_eq!(value, wanted_value, "{form:x?}");
-    let mut weight = WEIGHT_BEFORE;
-    assert_eq!(core::form_weight(form, &mut weight), answer, "{form:x?}");
-    assert_eq!(weight, wanted_weight, "{form:x?}");
-    digits.err()
+    for (which, weigher) in WEIGHERS.into_iter().enumerate() {
+        let mut weight = WEIGHT_BEFORE;
+        let got = weigher(form, &mut weight);
+        assert_eq!(got, answer, "weigher {which}, {form:x?}");
+        assert_eq!(weight, wanted_weight, "weigher {which}, {form:x?}");
+    }
+    digits.map(|_| wanted_weight)
 }
