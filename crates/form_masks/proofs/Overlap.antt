@@ -1,12 +1,12 @@
--- The lowest place in both of two masks is the lowest place that their bitwise and holds, and a mask that is not 0 holds one. Assumes nothing.
-use mathlib.Core.Path.{_≡_, refl, sym, ap, _∙_, subst}
+-- The lowest place in both of two masks is the lowest place that their bitwise and holds: none where it is 0, else the number of zeros below it. Assumes nothing.
+use mathlib.Core.Path.{_≡_, refl, sym, ap, _∙_}
 use mathlib.Core.Bool.{Bool, true, false, cond, _&&_}
-use mathlib.Core.Logic.{_≢_, _⊎_, inl, inr}
+use mathlib.Core.Logic.{_⊎_, inl, inr}
 use Prim.Native.Nat.{ℕ, zero, suc, _+_, _≤_, _<_, _^_, _/_, _%_, min}
 use native.Mathlib.Nat.{eq-or-lt-of-le, pow-suc, zero-div, div-div-eq-div-mul}
 use native.Mathlib.Omega.{arith}
-use native.Mathlib.Numerals.{add-one}
 use lib.Bits.{bitAnd, and-step, and-shr}
+use lib.Count.{trailingZeros, under}
 use lib.Dec.{eqb}
 use borrow.Author.Tests.{eq-eqb, ne-eqb}
 use Rattle.refusal.specs.Answer.{nowhere, at-place, lowestFrom}
@@ -81,53 +81,26 @@ lowest-nowhere p x z = from 0 p
     from k zero = refl
     from k (suc p) = passed x k p (none k) ∙ from (suc k) p
 
--- ---- a scan from place 0 up: x, of p places, has rest from this place on, and no one below it
-pub record Scan (p x rest place : ℕ) : Type 0 where
-  pub left : ℕ
-  pub all : left + place ≡ p
-  pub fits : rest < 2 ^ left
-  pub some : 0 < rest
-  pub bits : rest ≡ x / 2 ^ place
-  pub same : lowestFrom place (holds x) (placesFrom place left) ≡ lowestIn p x
-
-pub scan-start : (p x : ℕ) → 0 < x → x < 2 ^ p → Scan p x x 0
-unfolding lowestIn
-scan-start p x h l = record { left = p; all = omega arith; fits = l; some = h; bits = omega arith; same = refl }
-
-module _ (p x rest place : ℕ) (s : Scan p x rest place) where
-  -- there is a place left
-  next-left : (l : ℕ) → rest < 2 ^ l → (j : ℕ) × (l ≡ suc j)
-  next-left zero h = absurd (omega (arith, s .some))
-  next-left (suc j) h = (j, refl)
-
-  pub scan-room : place < p
-  scan-room = let w = next-left (s .left) (s .fits) in omega (arith, w .1, s .all)
-
-  module _ (l : ℕ) (is : s .left ≡ suc l) where
-    same : lowestFrom place (holds x) (placesFrom place (suc l)) ≡ lowestIn p x
-    same = ap (λ (n : ℕ). lowestFrom place (holds x) (placesFrom place n)) (sym is) ∙ s .same
-
-    up : rest % 2 ≡ 0 → Scan p x (rest / 2) (suc place)
-    up e = record {
-      left = l;
-      all = omega (arith, s .all);
-      fits = omega (arith, s .fits, ap (λ (n : ℕ). 2 ^ n) is, pow-suc 2 l);
-      some = omega (arith, s .some);
-      bits = ap (λ (n : ℕ). n / 2) (s .bits) ∙ div-div-eq-div-mul x (2 ^ place) 2 ∙ ap (λ (n : ℕ). x / n) (sym (pow-suc 2 place));
-      same = sym (passed x place l (ne-eqb _ _ (λ q. odd-even rest e (ap (λ (n : ℕ). n % 2) (s .bits) ∙ q)))) ∙ same;
-    }
+-- the lowest place that a mask holds is the number of zeros below it
+pub lowest-zeros : (p x : ℕ) → 0 < x → x < 2 ^ p → lowestIn p x ≡ at-place (trailingZeros p x)
+unfolding lowestIn trailingZeros
+lowest-zeros p x h l =
+    let z : 0 + trailingZeros p x ≡ trailingZeros p x = omega arith in
+    from 0 p x (omega arith) h l ∙ ap at-place z
+  where
+    -- y is the mask from place k on
+    from : (k p y : ℕ) → y ≡ x / 2 ^ k → 0 < y → y < 2 ^ p → lowestFrom k (holds x) (placesFrom k p) ≡ at-place (k + trailingZeros p y)
+    from k zero y e h l = absurd (omega arith)
+    from k (suc p) y e h l = go (y % 2) refl (from (suc k) p (y / 2) half)
       where
-        odd-even : (n : ℕ) → n % 2 ≡ 0 → n % 2 ≡ 1 → ⊥
-        odd-even n a b = omega arith
+        half : y / 2 ≡ x / 2 ^ suc k
+        half = ap (λ (n : ℕ). n / 2) e ∙ div-div-eq-div-mul x (2 ^ k) 2 ∙ ap (λ (n : ℕ). x / n) (sym (pow-suc 2 k))
 
-    here : rest % 2 ≢ 0 → at-place place ≡ lowestIn p x
-    here o = sym (held x place l (eq-eqb _ _ (ap (λ (n : ℕ). n % 2) (sym (s .bits)) ∙ odd rest o))) ∙ same
-      where
-        odd : (n : ℕ) → n % 2 ≢ 0 → n % 2 ≡ 1
-        odd n h = omega arith
+        bit : (r : ℕ) → y % 2 ≡ r → x / 2 ^ k % 2 ≡ r
+        bit r q = ap (λ (n : ℕ). n % 2) (sym e) ∙ q
 
-  pub scan-next : rest % 2 ≡ 0 → Scan p x (rest / 2) (place + 1)
-  scan-next e = let w = next-left (s .left) (s .fits) in subst (Scan p x (rest / 2)) (sym (add-one place)) (up (w .0) (w .1) e)
-
-  pub scan-end : rest % 2 ≢ 0 → at-place place ≡ lowestIn p x
-  scan-end o = let w = next-left (s .left) (s .fits) in here (w .0) (w .1) o
+        go : (r : ℕ) → y % 2 ≡ r → (0 < y / 2 → y / 2 < 2 ^ p → lowestFrom (suc k) (holds x) (placesFrom (suc k) p) ≡ at-place (suc k + trailingZeros p (y / 2)))
+            → lowestFrom k (holds x) (placesFrom k (suc p)) ≡ at-place (k + under r (trailingZeros p (y / 2)))
+        go zero q ih = passed x k p (ne-eqb _ _ (λ (o : x / 2 ^ k % 2 ≡ 1). omega (arith, bit 0 q))) ∙ ih (omega arith) (omega (arith, pow-suc 2 p)) ∙ ap at-place (omega arith)
+        go (suc zero) q ih = held x k p (eq-eqb _ _ (bit 1 q)) ∙ ap at-place (omega arith)
+        go (suc (suc r)) q ih = absurd (omega arith)

@@ -40,13 +40,7 @@ fn lowest_one(x: u32) -> u32
     requires { ⌜ 0 < x ⌝ }
     ensures { λ r. ⌜ at-place r ≡ lowestIn 32 x ⌝ }
 {
-    let mut rest = x;
-    let mut place = 0;
-    while rest % 2 == 0 {
-        rest = rest / 2;
-        place += 1;
-    }
-    place
+    u32::trailing_zeros(x)
 }
 
 // The first mask minus the second.
