@@ -179,7 +179,8 @@ fn random_masks() {
     let mut random = Random::new(6);
     let (mut accepted, mut refused) = ([0; 33], [0; 32]);
     for _ in 0..RANDOM_MASKS {
-        match check_form(mixture::masks(&mut random)) {
+        let masks = random.pick(&[mixture::form, mixture::masks, mixture::masks]);
+        match check_form(masks(&mut random)) {
             Ok(weight) => accepted[weight as usize] += 1,
             Err(place) => refused[place as usize] += 1,
         }
