@@ -1,4 +1,4 @@
-//! No table of digit counts is in the library or in the sheet program, not even a part of one.
+//! No table of digit counts is in the library or in the sheet program, nor 16 entries of one.
 
 use fir_tests::random::Random;
 use fir_tests::sheet::program::{root, sheet};

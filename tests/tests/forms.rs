@@ -156,7 +156,8 @@ fn short_tables() {
     assert!(seen.len() > 5000, "{}", seen.len());
 }
 
-/// Every mask of 16 places, in the low and in the high half, as either mask and as both.
+/// Every mask of 16 places, in the low and in the high half: as either mask, and with the same places of
+/// the other half in the other mask.
 #[test]
 fn masks_of_half_the_places() {
     let mut forms = 0;
@@ -186,12 +187,12 @@ fn random_masks() {
         }
     }
     println!("accepted {accepted:?}, refused {refused:?}");
-    assert!(accepted.iter().sum::<usize>() > RANDOM_MASKS / 4);
+    assert!(accepted.iter().sum::<usize>() > RANDOM_MASKS / 2);
     assert!(accepted.iter().all(|often| *often > 0));
     assert!(refused.iter().all(|often| *often > RANDOM_MASKS / 100));
     for mask in [u32::MAX, 1 << 31, 1] {
-        let none = |plus, minus| check_form(Form { plus, minus }).is_ok();
-        assert!(none(mask, 0) && none(0, mask) && none(mask, !mask) && none(!mask, mask));
+        let fits = |plus, minus| check_form(Form { plus, minus }).is_ok();
+        assert!(fits(mask, 0) && fits(0, mask) && fits(mask, !mask) && fits(!mask, mask));
         let place = check_form(Form {
             plus: mask,
             minus: mask,
