@@ -1,25 +1,23 @@
 //! Nanoseconds a call for the weight of a form, kind by kind.
 
 use super::{best_of, print, print_head};
-use fir_tests::answer::{Answer, ACCEPTED};
-use fir_tests::forms::{core, literal, mixture, weights, Form};
+use fir_tests::forms::weights::{self, weigh, Weigher};
+use fir_tests::forms::{core, literal, mixture, Form};
 use fir_tests::random::Random;
+use std::hint::black_box;
 
 pub const FORMS: usize = 1_000_000;
 pub const REPETITIONS: usize = 100;
 
-/// Weighs each form and adds up the weights, and the places where it is turned down.
-#[inline(always)]
-fn weigh(forms: &[Form], weigher: fn(Form, &mut u32) -> Answer) -> u32 {
+/// Weighs each form and adds up the weights, and the places where it is turned down. All versions
+/// are called from this one loop: where a loop lies in memory can cost a call a tenth of its time.
+#[inline(never)]
+fn weigh_all(forms: &[Form], weigher: Weigher) -> u32 {
     let mut sum = 0;
     for form in forms {
         let mut weight = 0;
-        let answer = weigher(*form, &mut weight);
-        if answer == ACCEPTED {
-            sum += weight;
-        } else {
-            sum += answer.place;
-        }
+        let answer = weigh(weigher, *form, &mut weight);
+        sum += weight + answer.place;
     }
     sum
 }
@@ -31,9 +29,9 @@ fn measure(what: &str, mut form: impl FnMut(&mut Random) -> Form) {
     let times = best_of(
         REPETITIONS,
         [
-            &mut || by_core = weigh(&forms, core::form_weight),
-            &mut || by_table = weigh(&forms, weights::by_table),
-            &mut || by_count_ones = weigh(&forms, weights::by_count_ones),
+            &mut || by_core = weigh_all(&forms, black_box(core::FORM_WEIGHT)),
+            &mut || by_table = weigh_all(&forms, black_box(weights::by_table)),
+            &mut || by_count_ones = weigh_all(&forms, black_box(weights::by_count_ones)),
         ],
     );
     assert_eq!([by_table, by_count_ones], [by_core; 2]);

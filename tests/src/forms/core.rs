@@ -1,11 +1,12 @@
 //! The core's C entries for forms, as `fir.h` declares them.
 
+use super::weights::Weigher;
 use super::Form;
 use crate::answer::Answer;
 
 extern "C" {
     fn fir_form_value(plus: u32, minus: u32, value: *mut i64) -> u64;
-    fn fir_form_weight(plus: u32, minus: u32, weight: *mut u32) -> u64;
+    fn fir_form_weight(plus: u32, minus: u32, weight: &mut u32) -> u64;
     fn fir_canonical(n: i32, plus: *mut u32, minus: *mut u32) -> u64;
     fn fir_minimal_forms(
         n: i32,
@@ -23,11 +24,7 @@ pub fn form_value(form: Form, value: &mut i64) -> Answer {
     unsafe { fir_form_value(form.plus, form.minus, value) }.into()
 }
 
-#[inline]
-pub fn form_weight(form: Form, weight: &mut u32) -> Answer {
-    // SAFETY: a reference is never null.
-    unsafe { fir_form_weight(form.plus, form.minus, weight) }.into()
-}
+pub const FORM_WEIGHT: Weigher = fir_form_weight;
 
 pub fn canonical(n: i32, form: &mut Form) -> Answer {
     // SAFETY: references are never null, and the two fields do not overlap.

@@ -3,11 +3,11 @@
 use fir_tests::answer::{Answer, ACCEPTED};
 use fir_tests::forms::call::{Call, Lister, COUNT_BEFORE};
 use fir_tests::forms::literal::{self, Digits};
-use fir_tests::forms::{core, fast, links, weights, Form};
+use fir_tests::forms::weights::{self, weigh, Weigher};
+use fir_tests::forms::{core, fast, links, Form};
 
 const LISTERS: [Lister; 2] = [core::minimal_forms, fast::minimal_forms];
-const WEIGHERS: [fn(Form, &mut u32) -> Answer; 3] =
-    [core::form_weight, weights::by_table, weights::by_count_ones];
+const WEIGHERS: [Weigher; 3] = [core::FORM_WEIGHT, weights::by_table, weights::by_count_ones];
 const FORM_BEFORE: Form = Form {
     plus: 0x5a5a_1234,
     minus: 0xa5a5_4321,
@@ -111,7 +111,7 @@ pub fn check_form(form: Form) -> Result<u32, u32> {
     assert_eq!(value, wanted_value, "{form:x?}");
     for (which, weigher) in WEIGHERS.into_iter().enumerate() {
         let mut weight = WEIGHT_BEFORE;
-        let got = weigher(form, &mut weight);
+        let got = weigh(weigher, form, &mut weight);
         assert_eq!(got, answer, "weigher {which}, {form:x?}");
         assert_eq!(weight, wanted_weight, "weigher {which}, {form:x?}");
     }
