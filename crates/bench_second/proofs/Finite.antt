@@ -11,24 +11,24 @@ none : (u : ℕ) → nearest 0 (compare 0 u) ≡ 0
 none zero = refl
 none (suc u) = ap (nearest 0) (compare.zero-suc u)
 
-round-none : (s : Bool) (c : ℕ) → round binary64 s 0 c ≡ fin s 0 (pos 0)
+round_none : (s : Bool) (c : ℕ) → round binary64 s 0 c ≡ fin s 0 (pos 0)
 unfolding round units odd
-round-none s c = simp (zero-div, zero-mod, none)
+round_none s c = simp (zero-div, zero-mod, none)
 
-nought-less : (s : Bool) (a c : ℕ) → ne (sum binary64 s a (not s) a c) (of_bits binary64 0) ≡ false
+nought_less : (s : Bool) (a c : ℕ) → ne (sum binary64 s a (not s) a c) (of_bits binary64 0) ≡ false
 unfolding sum ne eq of_bits
-nought-less true a c = rw (le-ltb a a (le_refl a), sub_self a, round-none false c)
-nought-less false a c = rw (le-ltb a a (le_refl a), sub_self a, round-none false c)
+nought_less true a c = rw (le-ltb a a (le_refl a), sub_self a, round_none false c)
+nought_less false a c = rw (le-ltb a a (le_refl a), sub_self a, round_none false c)
 
-test-is : (x : Float) → ne (sub binary64 x x) (of_bits binary64 0) ≡ not (is_finite x)
+test_is : (x : Float) → ne (sub binary64 x x) (of_bits binary64 0) ≡ not (is_finite x)
 unfolding sub add neg ne eq
-test-is nan = refl
-test-is (inf true) = refl
-test-is (inf false) = refl
-test-is (fin s m e) = nought-less s (m * up e * down e) (down e * down e)
+test_is nan = refl
+test_is (inf true) = refl
+test_is (inf false) = refl
+test_is (fin s m e) = nought_less s (m * up e * down e) (down e * down e)
 
 pub not_finite : (x : Float) → ne (sub binary64 x x) (of_bits binary64 0) ≡ true → is_finite x ≡ false
-not_finite x e = not-true (is_finite x) (sym (test-is x) ∙ e)
+not_finite x e = not-true (is_finite x) (sym (test_is x) ∙ e)
 
-pub is-finite : (x : Float) → ne (sub binary64 x x) (of_bits binary64 0) ≡ false → is_finite x ≡ true
-is-finite x e = not-false (is_finite x) (sym (test-is x) ∙ e)
+pub is_finite_lem : (x : Float) → ne (sub binary64 x x) (of_bits binary64 0) ≡ false → is_finite x ≡ true
+is_finite_lem x e = not-false (is_finite x) (sym (test_is x) ∙ e)

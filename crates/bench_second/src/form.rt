@@ -1,7 +1,7 @@
 // The least weight of a number and how many strings have it, from the high end: of the number x made
 // of the bits passed, and of x + 1.
 ghost use Rattle.std.specs.Prelude.{◌≡◌, ◌+◌, ◌^◌, ◌<◌, ◌≤◌};
-ghost use Rattle.bench_second.specs.Inner.{ofOdd, LeastFound};
+ghost use Rattle.bench_second.specs.Inner.{of_odd_of, LeastFound};
 
 #[derive(Drop)]
 pub struct LeastWeight {
@@ -12,7 +12,7 @@ pub struct LeastWeight {
 // Of an odd number, by the halves of its two neighbours.
 fn of_odd(below: LeastWeight, above: LeastWeight) -> LeastWeight
     requires { ((below.weight ≤ 33) × (above.weight ≤ 33)) × (below.count + above.count < 2 ^ 32) }
-    ensures { result ≡ ofOdd below above }
+    ensures { result ≡ of_odd_of below above }
 {
     if below.weight < above.weight {
         return LeastWeight {

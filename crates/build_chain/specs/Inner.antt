@@ -5,11 +5,11 @@ use Rattle.signed_digit.specs.Digit.{nonzero}
 use Rattle.signed_digit.specs.String.{DigitString}
 use Rattle.signed_digit.specs.Masks.{mask}
 use Rattle.form_masks.specs.declared.Form.{Form}
-use Rattle.form_masks.specs.Form.{stringOf}
+use Rattle.form_masks.specs.Form.{string_of}
 use Rattle.network.specs.declared.Row.{Row}
 use Rattle.network.specs.Rows.{rows_of}
-use Rattle.build_steps.specs.Search.{rowWith}
-use Rattle.build_steps.specs.Chain.{addUnless, chainStep, chainFrom, chainValue, chainEnd}
+use Rattle.build_steps.specs.Search.{row_with}
+use Rattle.build_steps.specs.Chain.{add_unless, chain_step, chain_from, chain_value, chain_end}
 use Rattle.build_index.specs.Inner.{Grown}
 use Rattle.build_chain.specs.declared.Chain.{Chain}
 use Rattle.build_chain.specs.declared.Step.{Step}
@@ -17,49 +17,49 @@ use Rattle.build_chain.specs.declared.Place.{Place}
 
 -- the value 1 has row 0, and the form's chain ends at a value that a row can have
 pub record Readable (form : Form) (rows : List Row) : Type 0 where
-  pub one : rowWith rows 1 ≡ at_place 0
-  pub above : 0 < chainEnd (reverse (stringOf form))
-  pub below : chainEnd (reverse (stringOf form)) < 2 ^ 31
+  pub one : row_with rows 1 ≡ at_place 0
+  pub above : 0 < chain_end (reverse (string_of form))
+  pub below : chain_end (reverse (string_of form)) < 2 ^ 31
 
 -- the digits below a place, from high to low
 abbrev pub below : Form → ℕ → DigitString
-below form place = reverse (take place (stringOf form))
+below form place = reverse (take place (string_of form))
 
 -- the rows that the digits still to come give
-abbrev pub toCome : Form → Chain → List Row → List Row
-toCome form c rows = chainFrom rows c.value 1 (below form c.place)
+abbrev pub to_come : Form → Chain → List Row → List Row
+to_come form c rows = chain_from rows c.value 1 (below form c.place)
 
 -- the digits of a form that is being read
 pub record Digits (form : Form) (c : Chain) : Type 0 where
-  pub place-to : c.place < 32
-  pub rest : c.rest ≡ mask nonzero (take c.place (stringOf form))
+  pub place_to : c.place < 32
+  pub rest : c.rest ≡ mask nonzero (take c.place (string_of form))
   pub above : 1 ≤ c.value
-  pub ends : chainValue c.value 1 (below form c.place) < 2 ^ 31
+  pub ends : chain_value c.value 1 (below form c.place) < 2 ^ 31
 
 -- and its rows: the value of the digits that are read has its row
 pub record Reading (form : Form) (c : Chain) (rows : List Row) : Type 0 where
   pub digits : Digits form c
-  pub row : rowWith rows c.value ≡ at_place c.row
+  pub row : row_with rows c.value ≡ at_place c.row
 
 -- a step to the next nonzero digit
 pub record IsNext (form : Form) (c : Chain) (r : Step) : Type 0 where
-  pub place-to : r.place < c.place
-  pub rest : r.rest ≡ mask nonzero (take r.place (stringOf form))
+  pub place_to : r.place < c.place
+  pub rest : r.rest ≡ mask nonzero (take r.place (string_of form))
   pub less : r.rest < c.rest
   pub above : 1 ≤ r.value
-  pub ends : chainValue r.value 1 (below form r.place) ≡ chainValue c.value 1 (below form c.place)
-  pub rows : (rows : List Row) → chainFrom (chainStep rows c.value r.gap r.sign r.value) r.value 1 (below form r.place) ≡ toCome form c rows
+  pub ends : chain_value r.value 1 (below form r.place) ≡ chain_value c.value 1 (below form c.place)
+  pub rows : (rows : List Row) → chain_from (chain_step rows c.value r.gap r.sign r.value) r.value 1 (below form r.place) ≡ to_come form c rows
 
 -- the row of a value, added where there was none
 pub record Reached (table : List ℕ) (n : ℕ) (row : Row) (table' heads' links' : List ℕ) (r : Place) : Type 0 where
-  pub grown : Grown table table' heads' links' r.rows (addUnless (rowWith (rows_of table n) row.value) (rows_of table n) row)
+  pub grown : Grown table table' heads' links' r.rows (add_unless (row_with (rows_of table n) row.value) (rows_of table n) row)
   pub more : n ≤ r.rows
-  pub there : rowWith (rows_of table' r.rows) row.value ≡ at_place r.row
+  pub there : row_with (rows_of table' r.rows) row.value ≡ at_place r.row
 
 -- one digit further
 pub record Turned (form : Form) (table : List ℕ) (c : Chain) (table' heads' links' : List ℕ) (r : Chain) : Type 0 where
   pub grown : Grown table table' heads' links' r.rows (rows_of table' r.rows)
   pub more : c.rows ≤ r.rows
   pub reading : Reading form r (rows_of table' r.rows)
-  pub same : toCome form r (rows_of table' r.rows) ≡ toCome form c (rows_of table c.rows)
+  pub same : to_come form r (rows_of table' r.rows) ≡ to_come form c (rows_of table c.rows)
   pub less : r.rest < c.rest

@@ -3,12 +3,12 @@
 mod chosen;
 
 ghost use Rattle.std.specs.Prelude.{◌≡◌, suc, ◌+◌, ◌*◌, ◌-◌, ◌^◌, ◌≤◌, ◌<◌, length};
-ghost use Rattle.form_masks.specs.Form.{stringOf};
+ghost use Rattle.form_masks.specs.Form.{string_of};
 ghost use Rattle.network.specs.Rows.{rows_of};
-ghost use Rattle.build_steps.specs.Search.{rowWith};
-ghost use Rattle.build_steps.specs.Chain.{addUnless, chained};
+ghost use Rattle.build_steps.specs.Search.{row_with};
+ghost use Rattle.build_steps.specs.Chain.{add_unless, chained};
 ghost use Rattle.build_index.specs.Inner.{Indexed, HasRoom, Grown};
-ghost use Rattle.build_chain.specs.Inner.{Readable, Digits, Reading, toCome, IsNext, Reached, Turned};
+ghost use Rattle.build_chain.specs.Inner.{Readable, Digits, Reading, to_come, IsNext, Reached, Turned};
 
 use build_index::Found;
 pub use chosen::chosen_form;
@@ -63,7 +63,7 @@ fn lifted(v: u32, places: u32) -> u32
 // The row of a value; the row is written where the value has none.
 fn reach(table: &mut [u32], heads: &mut [u16], links: &mut [u16], n: usize, row: Row) -> Place
     requires indexed { Indexed table.old heads.old links.old n }
-    requires has_room { HasRoom table.old links.old (length (addUnless (rowWith (rows_of table.old n) row.value) (rows_of table.old n) row)) }
+    requires has_room { HasRoom table.old links.old (length (add_unless (row_with (rows_of table.old n) row.value) (rows_of table.old n) row)) }
     ensures { Reached table.old n row table.new heads.new links.new result }
 {
     match build_index::find(table, heads, links, n, row.value) {
@@ -103,7 +103,7 @@ fn next_digit(form: Form, chain: Chain) -> Step
 fn turn(table: &mut [u32], heads: &mut [u16], links: &mut [u16], form: Form, chain: Chain) -> Chain
     requires indexed { Indexed table.old heads.old links.old chain.rows }
     requires reading { Reading form chain (rows_of table.old chain.rows) × (0 < chain.rest) }
-    requires has_room { HasRoom table.old links.old (length (toCome form chain (rows_of table.old chain.rows))) }
+    requires has_room { HasRoom table.old links.old (length (to_come form chain (rows_of table.old chain.rows))) }
     ensures { Turned form table.old chain table.new heads.new links.new result }
 {
     let step = next_digit(form, chain);
@@ -134,9 +134,9 @@ pub fn add_chain(
     form: Form,
 ) -> usize
     requires indexed { Indexed table.old heads.old links.old n × Readable form (rows_of table.old n) }
-    requires has_room { HasRoom table.old links.old (length (chained (rows_of table.old n) (stringOf form))) }
+    requires has_room { HasRoom table.old links.old (length (chained (rows_of table.old n) (string_of form))) }
     ensures { Grown table.old table.new heads.new links.new result
-        (chained (rows_of table.old n) (stringOf form)) }
+        (chained (rows_of table.old n) (string_of form)) }
 {
     let mask = form.plus | form.minus;
     let place = highest(mask);

@@ -4,7 +4,7 @@ use Rattle.std.specs.Prelude.{◌≡◌, List, ℕ, ◌-◌, ◌*◌, ◌/◌, �
 use Rattle.std.specs.Int.Bits.{bit_and, bit_xor}
 use Rattle.refusal.specs.Answer.{Place, nowhere, at_place}
 use Rattle.network.specs.declared.Row.{Row}
-use Rattle.network.specs.Rows.{rowWords, row_at, rows_of}
+use Rattle.network.specs.Rows.{row_words, row_at, rows_of}
 use Rattle.build_index.specs.declared.Found.{Found}
 use Rattle.build_index.specs.declared.Found.TheVariants.{At, Missing}
 
@@ -18,33 +18,33 @@ abbrev pub value_at : List ℕ → ℕ → ℕ
 value_at table i = (row_at table i).value
 
 -- the bucket of a value, of m buckets
-unfoldable pub bucketOf : ℕ → ℕ → ℕ
-bucketOf m v = bit_and (bit_xor (v * 0x9e3779b9) (v * 0x9e3779b9 / 2 ^ 32)) (m - 1)
+unfoldable pub bucket_of : ℕ → ℕ → ℕ
+bucket_of m v = bit_and (bit_xor (v * 0x9e3779b9) (v * 0x9e3779b9 / 2 ^ 32)) (m - 1)
 
 -- p stands for the last row below k whose value is in bucket h of m
 pub record Last (table : List ℕ) (m h p k : ℕ) : Type 0 where
   pub low : p ≤ k
-  pub none : (i : ℕ) → p ≤ i → i < k → bucketOf m (value_at table i) ≡ h → ⊥
-  pub last : 0 < p → bucketOf m (value_at table (p - 1)) ≡ h
+  pub none : (i : ℕ) → p ≤ i → i < k → bucket_of m (value_at table i) ≡ h → ⊥
+  pub last : 0 < p → bucket_of m (value_at table (p - 1)) ≡ h
 
 -- n rows with their index, no two of one value
 pub record Indexed (table heads links : List ℕ) (n : ℕ) : Type 0 where
   pub few : n ≤ 4096
-  pub room : rowWords * n ≤ length table
+  pub room : row_words * n ≤ length table
   pub buckets : 0 < length heads
   pub linked : n ≤ length links
-  pub heads-in : (h : ℕ) → h < length heads → Last table (length heads) h (get_or heads h 0) n
-  pub links-in : (i : ℕ) → i < n → Last table (length heads) (bucketOf (length heads) (value_at table i)) (get_or links i 0) i
+  pub heads_in : (h : ℕ) → h < length heads → Last table (length heads) h (get_or heads h 0) n
+  pub links_in : (i : ℕ) → i < n → Last table (length heads) (bucket_of (length heads) (value_at table i)) (get_or links i 0) i
   pub distinct : (i j : ℕ) → i < j → j < n → value_at table i ≡ value_at table j → ⊥
 
 -- table and index have room for k rows
 pub record HasRoom (table links : List ℕ) (k : ℕ) : Type 0 where
   pub few : k ≤ 4096
-  pub words : rowWords * k ≤ length table
+  pub words : row_words * k ≤ length table
   pub linked : k ≤ length links
 
 -- a table has become table': it holds n' rows, which are these, with their index, and is untouched past them
 pub record Grown (table table' heads' links' : List ℕ) (n' : ℕ) (rows' : List Row) : Type 0 where
   pub rows_are : rows_of table' n' ≡ rows'
-  pub rest : drop (rowWords * n') table' ≡ drop (rowWords * n') table
+  pub rest : drop (row_words * n') table' ≡ drop (row_words * n') table
   pub index : Indexed table' heads' links' n'

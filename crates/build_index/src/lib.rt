@@ -2,9 +2,9 @@
 // row of each bucket of values, and for each row the one before it in its bucket.
 ghost use Rattle.std.specs.Prelude.{◌≡◌, [], ◌∷◌, ◌++◌, ◌+◌, ◌*◌, ◌≤◌, ◌<◌, length, get_or, set};
 ghost use Rattle.refusal.specs.Answer.{nowhere};
-ghost use Rattle.network.specs.Rows.{rowWords, rows_of};
-ghost use Rattle.build_steps.specs.Search.{rowWith};
-ghost use Rattle.build_index.specs.Inner.{bucketOf, Indexed, Grown, found_at};
+ghost use Rattle.network.specs.Rows.{row_words, rows_of};
+ghost use Rattle.build_steps.specs.Search.{row_with};
+ghost use Rattle.build_index.specs.Inner.{bucket_of, Indexed, Grown, found_at};
 
 use network::Row;
 
@@ -20,7 +20,7 @@ pub enum Found {
 // power of 2.
 fn bucket(x: u32, m: usize) -> usize
     requires { 0 < m }
-    ensures { (result ≡ bucketOf m x) × (result < m) }
+    ensures { (result ≡ bucket_of m x) × (result < m) }
 {
     let product = (x as u64) * 0x9e37_79b9;
     ((product ^ (product / 0x1_0000_0000)) as usize) & (m - 1)
@@ -29,7 +29,7 @@ fn bucket(x: u32, m: usize) -> usize
 // The row that has the value x.
 pub fn find(table: &[u32], heads: &[u16], links: &[u16], n: usize, x: u32) -> Found
     requires { Indexed table.now heads.now links.now n }
-    ensures { found_at result ≡ rowWith (rows_of table.now n) x }
+    ensures { found_at result ≡ row_with (rows_of table.now n) x }
 {
     let h = bucket(x, heads.len());
     let mut p = word::index_16(heads[h]);
@@ -46,8 +46,8 @@ pub fn find(table: &[u32], heads: &[u16], links: &[u16], n: usize, x: u32) -> Fo
 // Row n, of value x, becomes the last row of its bucket.
 fn enter(heads: &mut [u16], links: &mut [u16], n: usize, x: u32)
     requires { (n < 4096) × (0 < length heads.old) × (n < length links.old) }
-    ensures links_after { links.new ≡ set links.old n (get_or heads.old (bucketOf (length heads.old) x) 0) }
-    ensures heads_after { heads.new ≡ set heads.old (bucketOf (length heads.old) x) (n + 1) }
+    ensures links_after { links.new ≡ set links.old n (get_or heads.old (bucket_of (length heads.old) x) 0) }
+    ensures heads_after { heads.new ≡ set heads.old (bucket_of (length heads.old) x) (n + 1) }
 {
     let own = bucket(x, heads.len());
     links[n] = heads[own];
@@ -57,8 +57,8 @@ fn enter(heads: &mut [u16], links: &mut [u16], n: usize, x: u32)
 // Row n is written and joins the index. No row has its value yet.
 pub fn put(table: &mut [u32], heads: &mut [u16], links: &mut [u16], n: usize, row: Row)
     requires indexed { Indexed table.old heads.old links.old n }
-    requires n_bound { (n < 4096) × (rowWords * n + rowWords ≤ length table.old) × (n < length links.old) }
-    requires value_value { rowWith (rows_of table.old n) row.value ≡ nowhere }
+    requires n_bound { (n < 4096) × (row_words * n + row_words ≤ length table.old) × (n < length links.old) }
+    requires value_value { row_with (rows_of table.old n) row.value ≡ nowhere }
     ensures { Grown table.old table.new heads.new links.new (n + 1)
         (rows_of table.old n ++ (row ∷ [])) }
 {

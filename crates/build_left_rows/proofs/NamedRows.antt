@@ -6,21 +6,21 @@ use native.Mathlib.Nat.{mul_assoc, pow-suc, eq-or-lt_of_le, div-eq_of_lt}
 use native.Mathlib.Omega.{arith}
 use lib.Count.{count_trailing_zeros}
 use lib.Pow.{pow-add, pow_mono, shl-shr, shr-shr, shr_le}
-use Rattle.word.proofs.Order.{lt-or-le}
-use Rattle.word.proofs.LowZeros.{odd_part, zeros-are}
+use Rattle.word.proofs.Order.{lt_or_le}
+use Rattle.word.proofs.LowZeros.{odd_part, zeros_are}
 
 module _ (x : ℕ) (small : x < 2 ^ 32) (some : 1 ≤ x) where
   -- the digit at the number of low zeros is 1
-  digit-one : x / 2 ^ count_trailing_zeros 32 x % 2 ≡ 1
-  digit-one =
+  digit_one : x / 2 ^ count_trailing_zeros 32 x % 2 ≡ 1
+  digit_one =
       let o = odd_part x some in
-      rw (zeros-are 32 x small o.part o.shift o.odd o.product) (ap (λ (y : ℕ). y / 2 ^ o.shift % 2) o.product ∙ ap (λ (y : ℕ). y % 2) (shl-shr o.part o.shift) ∙ o.odd)
+      rw (zeros_are 32 x small o.part o.shift o.odd o.product) (ap (λ (y : ℕ). y / 2 ^ o.shift % 2) o.product ∙ ap (λ (y : ℕ). y % 2) (shl-shr o.part o.shift) ∙ o.odd)
 
   -- and the digits below it are 0
-  digits-zero : (i : ℕ) → i < count_trailing_zeros 32 x → x / 2 ^ i % 2 ≡ 0
-  digits-zero i h =
+  digits_zero : (i : ℕ) → i < count_trailing_zeros 32 x → x / 2 ^ i % 2 ≡ 0
+  digits_zero i h =
       let o = odd_part x some in
-      let z = zeros-are 32 x small o.part o.shift o.odd o.product in
+      let z = zeros_are 32 x small o.part o.shift o.odd o.product in
       let e = o.shift - suc i in
       let q : o.shift ≡ suc e + i = omega (arith, z) in
       let p : x ≡ o.part * 2 ^ suc e * 2 ^ i = o.product ∙ ap (λ (k : ℕ). o.part * 2 ^ k) q ∙ ap (λ (y : ℕ). o.part * y) (pow-add 2 (suc e) i) ∙ sym (mul_assoc o.part (2 ^ suc e) (2 ^ i)) in
@@ -40,25 +40,25 @@ module _ (P : ℕ → Type 0) (mask : ℕ) where
     abbrev zeros : ℕ
     zeros = count_trailing_zeros 32 rest
 
-    rest-small : rest < 2 ^ 32
-    rest-small = omega (arith, r.left, shr_le mask k)
+    rest_small : rest < 2 ^ 32
+    rest_small = omega (arith, r.left, shr_le mask k)
 
-    next-is : rest / 2 ^ zeros ≡ mask / 2 ^ (k + zeros)
-    next-is = ap (λ (x : ℕ). x / 2 ^ zeros) r.left ∙ shr-shr mask k zeros
+    next_is : rest / 2 ^ zeros ≡ mask / 2 ^ (k + zeros)
+    next_is = ap (λ (x : ℕ). x / 2 ^ zeros) r.left ∙ shr-shr mask k zeros
 
     -- the next digit that is 1 is one of eight
-    pub read-place : k + count_trailing_zeros 32 rest < 8
-    read-place =
+    pub read_place : k + count_trailing_zeros 32 rest < 8
+    read_place =
         ⊎_elim (λ (h : k + zeros < 8). h)
-        (λ (h : 8 ≤ k + zeros). absurd (omega (arith, digit-one rest rest-small some, next-is, high h)))
-        (lt-or-le (k + zeros) 8)
+        (λ (h : 8 ≤ k + zeros). absurd (omega (arith, digit_one rest rest_small some, next_is, high h)))
+        (lt_or_le (k + zeros) 8)
       where
         high : 8 ≤ k + count_trailing_zeros 32 rest → mask / 2 ^ (k + count_trailing_zeros 32 rest) ≡ 0
         high h = div-eq_of_lt (omega (arith, pow_mono {i = 8} {j = k + count_trailing_zeros 32 rest} h))
 
     pub read_next : P (k + count_trailing_zeros 32 rest) → Read (rest / 2 ^ count_trailing_zeros 32 rest / 2) (k + count_trailing_zeros 32 rest + 1)
     read_next p = record {
-      left = ap (λ (x : ℕ). x / 2) next-is ∙ shr-shr mask (k + zeros) 1;
+      left = ap (λ (x : ℕ). x / 2) next_is ∙ shr-shr mask (k + zeros) 1;
       below = λ i l e.
           ⊎_elim (λ (b : i < k). r.below i b e)
           (λ (b : k ≤ i).
@@ -66,9 +66,9 @@ module _ (P : ℕ → Type 0) (mask : ℕ) where
           (λ (lt : i < k + zeros).
           let q : k + (i - k) ≡ i = omega arith in
           let d : rest / 2 ^ (i - k) ≡ mask / 2 ^ i = ap (λ (x : ℕ). x / 2 ^ (i - k)) r.left ∙ shr-shr mask k (i - k) ∙ ap (λ (x : ℕ). mask / 2 ^ x) q in
-          absurd (omega (arith, digits-zero rest rest-small some (i - k) (omega arith), d, e)))
+          absurd (omega (arith, digits_zero rest rest_small some (i - k) (omega arith), d, e)))
           (eq-or-lt_of_le (let w : i ≤ k + zeros = omega arith in w)))
-          (lt-or-le i k);
+          (lt_or_le i k);
     }
 
   -- nothing is left
@@ -79,7 +79,7 @@ module _ (P : ℕ → Type 0) (mask : ℕ) where
       let q : k + (i - k) ≡ i = omega arith in
       let d : rest / 2 ^ (i - k) ≡ mask / 2 ^ i = ap (λ (x : ℕ). x / 2 ^ (i - k)) r.left ∙ shr-shr mask k (i - k) ∙ ap (λ (x : ℕ). mask / 2 ^ x) q in
       absurd (omega (arith, d, e, shr_le rest (i - k), z)))
-      (lt-or-le i k)
+      (lt_or_le i k)
 
-pub read-map : (P Q : ℕ → Type 0) (mask rest k : ℕ) → ((i : ℕ) → P i → Q i) → Read P mask rest k → Read Q mask rest k
-read-map P Q mask rest k f r = record { left = r.left; below = λ i l e. f i (r.below i l e) }
+pub read_map : (P Q : ℕ → Type 0) (mask rest k : ℕ) → ((i : ℕ) → P i → Q i) → Read P mask rest k → Read Q mask rest k
+read_map P Q mask rest k f r = record { left = r.left; below = λ i l e. f i (r.below i l e) }

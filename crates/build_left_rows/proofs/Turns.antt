@@ -9,42 +9,42 @@ use native.Mathlib.Omega.{arith}
 use lib.Count.{count_trailing_zeros}
 use lib.Pow.{shl-shr}
 use Rattle.word.proofs.LowZeros.{low_zeros}
-use Rattle.word.proofs.Order.{lt-or-le}
+use Rattle.word.proofs.Order.{lt_or_le}
 use Rattle.network.specs.RowRule.{lifted}
 use Rattle.build_index.specs.Inner.{value_at}
-use Rattle.build_left_rows.specs.Inner.{NoTurn, numberFor, NoLeft}
+use Rattle.build_left_rows.specs.Inner.{NoTurn, number_for, NoLeft}
 
 -- ---- a number without its factors 2
 
 shift_is : (x s l : ℕ) → s < 32 → l % 2 ≡ 1 → x ≡ lifted s l → count_trailing_zeros 32 x ≡ s
 shift_is x s l b h e = ap (count_trailing_zeros 32) (e ∙ mul_comm (2 ^ s) l) ∙ low_zeros 32 l s h b
 
-odd-part-is : (x s l : ℕ) → s < 32 → l % 2 ≡ 1 → x ≡ lifted s l → x / 2 ^ count_trailing_zeros 32 x ≡ l
-odd-part-is x s l b h e =
+odd_part_is : (x s l : ℕ) → s < 32 → l % 2 ≡ 1 → x ≡ lifted s l → x / 2 ^ count_trailing_zeros 32 x ≡ l
+odd_part_is x s l b h e =
     let q : x ≡ l * 2 ^ s = e ∙ mul_comm (2 ^ s) l in
     rw (shift_is x s l b h e, q) (shl-shr l s)
 
 -- ---- one number
 
 -- no row below k has its odd part: then its turn is not before row k at its factors 2
-pub no-turn : (t : List ℕ) (n m k x : ℕ) → m ≤ 32 * n → ((i : ℕ) → i < n → value_at t i % 2 ≡ 1) → ((i : ℕ) → i < k → value_at t i ≡ x / 2 ^ count_trailing_zeros 32 x → ⊥)
+pub no_turn : (t : List ℕ) (n m k x : ℕ) → m ≤ 32 * n → ((i : ℕ) → i < n → value_at t i % 2 ≡ 1) → ((i : ℕ) → i < k → value_at t i ≡ x / 2 ^ count_trailing_zeros 32 x → ⊥)
     → m ≤ 32 * k + count_trailing_zeros 32 x → NoTurn t m x
-no-turn t n m k x h odd none b s i l w e =
+no_turn t n m k x h odd none b s i l w e =
     let o = odd i (omega arith) in
     let z = shift_is x s (value_at t i) l o (sym e) in
-    ⊎_elim (λ (f : i < k). none i f (sym (odd-part-is x s (value_at t i) l o (sym e)))) (λ (f : k ≤ i). omega (arith, z)) (lt-or-le i k)
+    ⊎_elim (λ (f : i < k). none i f (sym (odd_part_is x s (value_at t i) l o (sym e)))) (λ (f : k ≤ i). omega (arith, z)) (lt_or_le i k)
 
-pub fewer-turns : (t : List ℕ) (m m' x : ℕ) → m' ≤ m → NoTurn t m x → NoTurn t m' x
-fewer-turns t m m' x h none s i l w = none s i l (omega arith)
+pub fewer_turns : (t : List ℕ) (m m' x : ℕ) → m' ≤ m → NoTurn t m x → NoTurn t m' x
+fewer_turns t m m' x h none s i l w = none s i l (omega arith)
 
-pub number-positive : (sum : Bool) (v r : ℕ) → 0 < v → (r ≡ v → ⊥) → 0 < numberFor sum v r
-number-positive true v r h other = omega arith
-number-positive false v r h other = ⊎_elim (λ (f : 0 < numberFor false v r). f) (λ (f : numberFor false v r ≤ 0). absurd (other (omega arith))) (lt-or-le 0 (numberFor false v r))
+pub number_positive : (sum : Bool) (v r : ℕ) → 0 < v → (r ≡ v → ⊥) → 0 < number_for sum v r
+number_positive true v r h other = omega arith
+number_positive false v r h other = ⊎_elim (λ (f : 0 < number_for false v r). f) (λ (f : number_for false v r ≤ 0). absurd (other (omega arith))) (lt_or_le 0 (number_for false v r))
 
 -- ---- one right row
 
-pub fewer-lefts : {t : List ℕ} {m v r : ℕ} (m' : ℕ) → m' ≤ m → NoLeft t m v r → NoLeft t m' v r
-fewer-lefts {t} {m} {v} {r} m' h l = record { no-sum = λ s i a b. l.no-sum s i a (omega arith); no_difference = λ s i a b. l.no_difference s i a (omega arith) }
+pub fewer_lefts : {t : List ℕ} {m v r : ℕ} (m' : ℕ) → m' ≤ m → NoLeft t m v r → NoLeft t m' v r
+fewer_lefts {t} {m} {v} {r} m' h l = record { no_sum = λ s i a b. l.no_sum s i a (omega arith); no_difference = λ s i a b. l.no_difference s i a (omega arith) }
 
-pub no-left-below-0 : (t : List ℕ) (v r : ℕ) → NoLeft t 0 v r
-no-left-below-0 t v r = record { no-sum = λ s i a b. absurd (omega arith); no_difference = λ s i a b. absurd (omega arith) }
+pub no_left_below_0 : (t : List ℕ) (v r : ℕ) → NoLeft t 0 v r
+no_left_below_0 t v r = record { no_sum = λ s i a b. absurd (omega arith); no_difference = λ s i a b. absurd (omega arith) }

@@ -2,8 +2,8 @@
 // rows. Left row i at shift s is turn 32·i + s.
 ghost use Rattle.std.specs.Prelude.{◌≡◌, true, false, ◌⊎◌, ℕ, ◌+◌, ◌*◌, ◌-◌, ◌/◌, ◌%◌, ◌^◌, ◌≤◌, ◌<◌, length, get_or};
 ghost use Rattle.build_index.specs.Inner.{value_at, Indexed};
-ghost use Rattle.build_sieve.specs.Inner.{markAt};
-ghost use Rattle.build_left_rows.specs.Inner.{NoTurn, numberFor, NoLeft, Sifting, InBlock, Telling};
+ghost use Rattle.build_sieve.specs.Inner.{mark_at};
+ghost use Rattle.build_left_rows.specs.Inner.{NoTurn, number_for, NoLeft, Sifting, InBlock, Telling};
 
 use build_index::Found;
 
@@ -48,7 +48,7 @@ fn lower_named(
     requires indexed { Indexed table.now heads.now links.now n × (m ≤ 32 * n) × ((i : ℕ) → i < n → value_at table.now i % 2 ≡ 1) }
     requires v_bound { (v < 2 ^ 31) × (0 < v) × ((i : ℕ) → get_or values.now i 0 < 2 ^ 31) × ((i : ℕ) → get_or values.now i 0 ≡ v → ⊥) }
     requires mask_bound { (mask < 2 ^ 8) × (at + 8 ≤ length values.now) }
-    ensures { (result ≤ m) × ((i : ℕ) → mask / 2 ^ i % 2 ≡ 1 → NoTurn table.now result (numberFor sum v (get_or values.now (at + i) 0))) }
+    ensures { (result ≤ m) × ((i : ℕ) → mask / 2 ^ i % 2 ≡ 1 → NoTurn table.now result (number_for sum v (get_or values.now (at + i) 0))) }
 {
     let mut low = m;
     let mut rest = mask;
@@ -83,8 +83,8 @@ fn lower_marked(
     sum: bool,
 ) -> usize
     requires sifting { Sifting table.now heads.now links.now values.now marks.now n v × (m ≤ 32 * n) × (at + (k + 8) ≤ length values.now) }
-    requires telling { Telling table.now marks.now cells.now at (k + 8) n v sum × ((i : ℕ) → i < 8 → markAt marks.now cells.now (k + i) ≤ all) }
-    ensures { (result ≤ m) × ((i : ℕ) → i < 8 → at + (k + i) < n → NoTurn table.now result (numberFor sum v (value_at table.now (at + (k + i))))) }
+    requires telling { Telling table.now marks.now cells.now at (k + 8) n v sum × ((i : ℕ) → i < 8 → mark_at marks.now cells.now (k + i) ≤ all) }
+    ensures { (result ≤ m) × ((i : ℕ) → i < 8 → at + (k + i) < n → NoTurn table.now result (number_for sum v (value_at table.now (at + (k + i))))) }
 {
     let rows = (m + 31) / 32;
     if !build_sieve::may_be_below(rows, all) {

@@ -7,19 +7,19 @@ use lib.Dec.{T}
 use Rattle.refusal.specs.Answer.{nowhere, at_place}
 use Rattle.network.specs.declared.Row.{Row}
 use Rattle.network.specs.Rows.{plus, minus, reversed, rows_of}
-use Rattle.network.specs.RowRule.{isRowSign}
-use Rattle.build_steps.specs.Search.{Fit, fit, none-fits, or_else, firstOver, rowWith, rowOver, tried, fitAtShift}
+use Rattle.network.specs.RowRule.{is_row_sign}
+use Rattle.build_steps.specs.Search.{Fit, fit, none_fits, or_else, first_over, row_with, row_over, tried, fit_at_shift}
 use Rattle.build_index.specs.Inner.{value_at}
-use Rattle.build_pair.specs.Inner.{rightValue, Searchable, AtShift}
-use Rattle.build_pair.proofs.FirstOver.{else-none}
-use Rattle.build_pair.proofs.Tries.{tried-right, tried-missing}
+use Rattle.build_pair.specs.Inner.{right_value_of, Searchable, AtShift}
+use Rattle.build_pair.proofs.FirstOver.{else_none}
+use Rattle.build_pair.proofs.Tries.{tried_right, tried_missing}
 
 -- ---- the signs in their order
 
-pub three-signs : (rows : List Row) (v left shift : ℕ) (f g h : Fit) → tried rows v left shift plus ≡ f → tried rows v left shift minus ≡ g
-    → tried rows v left shift reversed ≡ h → fitAtShift rows v left shift ≡ or_else f (or_else g h)
-unfolding fitAtShift firstOver
-three-signs rows v left shift f g h e p q = rw (e, p, q) (ap (λ (x : Fit). or_else f (or_else g x)) (else-none h))
+pub three_signs : (rows : List Row) (v left shift : ℕ) (f g h : Fit) → tried rows v left shift plus ≡ f → tried rows v left shift minus ≡ g
+    → tried rows v left shift reversed ≡ h → fit_at_shift rows v left shift ≡ or_else f (or_else g h)
+unfolding fit_at_shift first_over
+three_signs rows v left shift f g h e p q = rw (e, p, q) (ap (λ (x : Fit). or_else f (or_else g x)) (else_none h))
 
 module _ (t heads links : List ℕ) (n most v : ℕ) (s : Searchable t heads links n most v) where
   pub positive : (k : ℕ) → k < n → 0 < value_at t k
@@ -27,27 +27,27 @@ module _ (t heads links : List ℕ) (n most v : ℕ) (s : Searchable t heads lin
 
   -- ---- one sign: x is the value that makes v on the right
 
-  module _ (left shift a : ℕ) (at : AtShift t n left shift a) (sign : ℕ) (known : T (isRowSign sign)) (x : ℕ) (is : x ≡ rightValue sign a v) where
-    missing : ((k : ℕ) → k < n → value_at t k ≡ rightValue sign a v → ⊥) → none-fits ≡ tried (rows_of t n) v left shift sign
-    missing h = sym (tried-missing t n v left shift a at.within at.is-lifted at.low positive sign known h)
+  module _ (left shift a : ℕ) (at : AtShift t n left shift a) (sign : ℕ) (known : T (is_row_sign sign)) (x : ℕ) (is : x ≡ right_value_of sign a v) where
+    missing : ((k : ℕ) → k < n → value_at t k ≡ right_value_of sign a v → ⊥) → none_fits ≡ tried (rows_of t n) v left shift sign
+    missing h = sym (tried_missing t n v left shift a at.within at.is_lifted at.low positive sign known h)
 
-    pub sign_zero : x ≡ 0 → none-fits ≡ tried (rows_of t n) v left shift sign
+    pub sign_zero : x ≡ 0 → none_fits ≡ tried (rows_of t n) v left shift sign
     sign_zero z = missing (λ k l e. omega (arith, positive k l))
 
-    pub sign-past : most < x → none-fits ≡ tried (rows_of t n) v left shift sign
-    sign-past h = missing (λ k l e. omega (arith, s.bounded k l))
+    pub sign_past : most < x → none_fits ≡ tried (rows_of t n) v left shift sign
+    sign_past h = missing (λ k l e. omega (arith, s.bounded k l))
 
-    right : tried (rows_of t n) v left shift sign ≡ rowOver v left shift sign (rowWith (rows_of t n) x)
+    right : tried (rows_of t n) v left shift sign ≡ row_over v left shift sign (row_with (rows_of t n) x)
     right =
-        tried-right t n v left shift a at.within at.is-lifted at.low positive sign known
-        ∙ ap (λ (y : ℕ). rowOver v left shift sign (rowWith (rows_of t n) y)) (sym is)
+        tried_right t n v left shift a at.within at.is_lifted at.low positive sign known
+        ∙ ap (λ (y : ℕ). row_over v left shift sign (row_with (rows_of t n) y)) (sym is)
 
-    pub sign-missing : rowWith (rows_of t n) x ≡ nowhere → none-fits ≡ tried (rows_of t n) v left shift sign
-    unfolding rowOver
-    sign-missing e = sym (right ∙ ap (rowOver v left shift sign) e)
+    pub sign_missing : row_with (rows_of t n) x ≡ nowhere → none_fits ≡ tried (rows_of t n) v left shift sign
+    unfolding row_over
+    sign_missing e = sym (right ∙ ap (row_over v left shift sign) e)
 
-    pub sign-found : (k j : ℕ) → rowWith (rows_of t n) x ≡ at_place k → j ≡ k
+    pub sign_found : (k j : ℕ) → row_with (rows_of t n) x ≡ at_place k → j ≡ k
         → fit (record { left = left; right = j; shift = shift; sign = sign; value = v }) ≡ tried (rows_of t n) v left shift sign
-    unfolding rowOver
-    sign-found k j e q =
-        ap (λ (i : ℕ). fit (record { left = left; right = i; shift = shift; sign = sign; value = v })) q ∙ sym (right ∙ ap (rowOver v left shift sign) e)
+    unfolding row_over
+    sign_found k j e q =
+        ap (λ (i : ℕ). fit (record { left = left; right = i; shift = shift; sign = sign; value = v })) q ∙ sym (right ∙ ap (row_over v left shift sign) e)

@@ -3,9 +3,9 @@ mod row_signs;
 
 ghost use Rattle.std.specs.Prelude.{◌≡◌, ◌⊎◌, ◌≤◌};
 ghost use Rattle.network.specs.Rows.{rows_of};
-ghost use Rattle.build_steps.specs.Search.{firstFit};
+ghost use Rattle.build_steps.specs.Search.{first_fit_of};
 ghost use Rattle.build_sieve.specs.Inner.{Sieve};
-ghost use Rattle.build_pair.specs.Inner.{Searchable, fitOf};
+ghost use Rattle.build_pair.specs.Inner.{Searchable, fit_of};
 
 pub use row_signs::NewRow;
 
@@ -28,7 +28,7 @@ pub fn first_fit(
     v: u32,
 ) -> NewRow
     requires { Searchable table.now heads.now links.now n most v × Sieve table.now values.now marks.now n }
-    ensures { fitOf result ≡ firstFit (rows_of table.now n) v }
+    ensures { fit_of result ≡ first_fit_of (rows_of table.now n) v }
 {
     let limit = v as u64 + most as u64;
     let turn = build_left_rows::first_turn(table, heads, links, values, marks, n, v);

@@ -1,9 +1,9 @@
 // One left row and one shift of the search for a new row: the right row that each sign asks for.
 ghost use Rattle.std.specs.Prelude.{◌≡◌, ◌-◌, ◌^◌, ◌≤◌, T};
 ghost use Rattle.network.specs.Rows.{rows_of};
-ghost use Rattle.network.specs.RowRule.{isRowSign};
-ghost use Rattle.build_steps.specs.Search.{tried, fitAtShift};
-ghost use Rattle.build_pair.specs.Inner.{rightValue, Searchable, AtShift, fitOf};
+ghost use Rattle.network.specs.RowRule.{is_row_sign};
+ghost use Rattle.build_steps.specs.Search.{tried, fit_at_shift};
+ghost use Rattle.build_pair.specs.Inner.{right_value_of, Searchable, AtShift, fit_of};
 
 use build_index::Found;
 use network::{MINUS, PLUS, REVERSED, Row};
@@ -25,7 +25,7 @@ fn less(a: u64, b: u64) -> u64
 // The value that makes v on the right, a being 2^shift times the left row; 0 where none does.
 fn right_value(sign: u32, a: u64, v: u32) -> u64
     requires { a ≤ 2 ^ 32 }
-    ensures { result ≡ rightValue sign a v }
+    ensures { result ≡ right_value_of sign a v }
 {
     if sign == PLUS {
         return less(v as u64, a);
@@ -49,8 +49,8 @@ fn with_sign(
     a: u64,
     sign: u32,
 ) -> NewRow
-    requires { Searchable table.now heads.now links.now n most v × AtShift table.now n left shift a × T (isRowSign sign) }
-    ensures { fitOf result ≡ tried (rows_of table.now n) v left shift sign }
+    requires { Searchable table.now heads.now links.now n most v × AtShift table.now n left shift a × T (is_row_sign sign) }
+    ensures { fit_of result ≡ tried (rows_of table.now n) v left shift sign }
 {
     let x = right_value(sign, a, v);
     if x == 0 {
@@ -84,7 +84,7 @@ pub fn at_shift(
     a: u64,
 ) -> NewRow
     requires { Searchable table.now heads.now links.now n most v × AtShift table.now n left shift a }
-    ensures { fitOf result ≡ fitAtShift (rows_of table.now n) v left shift }
+    ensures { fit_of result ≡ fit_at_shift (rows_of table.now n) v left shift }
 {
     match with_sign(table, heads, links, n, most, v, left, shift, a, PLUS) {
         NewRow::Fits(row) => NewRow::Fits(row),

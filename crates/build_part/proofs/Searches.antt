@@ -6,21 +6,21 @@ use native.Mathlib.Omega.{arith}
 use lib.ListN.{length, length-append}
 use Rattle.refusal.specs.Answer.{Place, nowhere, at_place}
 use Rattle.signed_digit.specs.String.{DigitString}
-use Rattle.signed_digit.specs.Masks.{plusMask, minusMask, fromMasks}
-use Rattle.signed_digit.proofs.Masks.{masks-string}
-use Rattle.form_masks.specs.Form.{form_of, stringOf}
+use Rattle.signed_digit.specs.Masks.{plus_mask, minus_mask, from_masks}
+use Rattle.signed_digit.proofs.Masks.{masks_string}
+use Rattle.form_masks.specs.Form.{form_of, string_of}
 use Rattle.network.specs.declared.Row.{Row}
 use Rattle.network.specs.Rows.{rows_of}
 use Rattle.build_steps.specs.Parts.{Part}
-use Rattle.build_steps.specs.Search.{rowWith, Fit, fit, none-fits, firstFit}
-use Rattle.build_steps.specs.Chain.{chosenForm, chained, chainEnd}
-use Rattle.build_steps.specs.Steps.{searched, lookedUp, step}
-use Rattle.build_steps.proofs.ChosenForm.{chosen-form}
-use Rattle.build_steps.proofs.Chain.{one-has-row}
-use Rattle.build_steps.proofs.FirstFit.{fit-is-first}
-use Rattle.build_steps.proofs.Lawful.{lawful-value}
+use Rattle.build_steps.specs.Search.{row_with, Fit, fit, none_fits, first_fit_of}
+use Rattle.build_steps.specs.Chain.{chosen_form_of, chained, chain_end}
+use Rattle.build_steps.specs.Steps.{searched, looked_up, step}
+use Rattle.build_steps.proofs.ChosenForm.{chosen_form_lem}
+use Rattle.build_steps.proofs.Chain.{one_has_row}
+use Rattle.build_steps.proofs.FirstFit.{fit_is_first}
+use Rattle.build_steps.proofs.Lawful.{lawful_value}
 use Rattle.build_index.specs.Inner.{value_at}
-use Rattle.build_index.proofs.Values.{length-rows, value_in}
+use Rattle.build_index.proofs.Values.{length_rows, value_in}
 use Rattle.build_pair.specs.Inner.{Searchable}
 use Rattle.build_chain.specs.Inner.{Readable}
 use Rattle.build_part.specs.Inner.{Ready}
@@ -32,56 +32,56 @@ module _ (table heads links values marks : List ℕ) (n most : ℕ) (p : Part) (
   -- a row's value is odd
   odd : (i : ℕ) → i < n → value_at table i % 2 ≡ 1
   odd i h =
-      ap (λ (v : ℕ). v % 2) (sym (value_in table n i h)) ∙ (lawful-value r.lawful i (omega (arith, length-rows table n))).odd
+      ap (λ (v : ℕ). v % 2) (sym (value_in table n i h)) ∙ (lawful_value r.lawful i (omega (arith, length_rows table n))).odd
 
   -- step 1
-  pub row-used : (i : ℕ) → rowWith rows p.value ≡ at_place i → rows ≡ step rows p
-  unfolding step lookedUp
-  row-used i e = sym (ap (λ (w : Place). lookedUp w rows p) e)
+  pub row_used : (i : ℕ) → row_with rows p.value ≡ at_place i → rows ≡ step rows p
+  unfolding step looked_up
+  row_used i e = sym (ap (λ (w : Place). looked_up w rows p) e)
 
   -- the chosen form, as a string
-  form-string : stringOf (form_of (chosenForm p.value p.choice)) ≡ chosenForm p.value p.choice
-  unfolding stringOf
-  form-string =
-      let c = chosen-form p.value p.choice r.part.below r.part.choice in
-      let s = chosenForm p.value p.choice in
-      ap (λ (k : ℕ). fromMasks k (plusMask s) (minusMask s)) (sym c.places) ∙ masks-string s
+  form_string : string_of (form_of (chosen_form_of p.value p.choice)) ≡ chosen_form_of p.value p.choice
+  unfolding string_of
+  form_string =
+      let c = chosen_form_lem p.value p.choice r.part.below r.part.choice in
+      let s = chosen_form_of p.value p.choice in
+      ap (λ (k : ℕ). from_masks k (plus_mask s) (minus_mask s)) (sym c.places) ∙ masks_string s
 
-  pub readable : Readable (form_of (chosenForm p.value p.choice)) rows
+  pub readable : Readable (form_of (chosen_form_of p.value p.choice)) rows
   readable =
-      let c = chosen-form p.value p.choice r.part.below r.part.choice in
-      let e : chainEnd (reverse (stringOf (form_of (chosenForm p.value p.choice)))) ≡ p.value = ap (λ (s : DigitString). chainEnd (reverse s)) form-string ∙ c.ends r.part.odd in
-      record { one = one-has-row r.lawful; above = omega (arith, e, r.part.odd); below = omega (arith, e, r.part.below) }
+      let c = chosen_form_lem p.value p.choice r.part.below r.part.choice in
+      let e : chain_end (reverse (string_of (form_of (chosen_form_of p.value p.choice)))) ≡ p.value = ap (λ (s : DigitString). chain_end (reverse s)) form_string ∙ c.ends r.part.odd in
+      record { one = one_has_row r.lawful; above = omega (arith, e, r.part.odd); below = omega (arith, e, r.part.below) }
 
-  module _ (e : rowWith rows p.value ≡ nowhere) where
+  module _ (e : row_with rows p.value ≡ nowhere) where
     pub searchable : Searchable table heads links n most p.value
     searchable = record {
       index = r.index;
       odd = odd;
       bounded = r.bounded;
       small = r.small;
-      new-odd = r.part.odd;
-      new-small = r.part.below;
+      new_odd = r.part.odd;
+      new_small = r.part.below;
       new = e;
     }
 
-    step_is : (f : Fit) → firstFit rows p.value ≡ f → searched f rows p ≡ step rows p
-    unfolding step lookedUp
-    step_is f q = sym (ap (λ (w : Place). lookedUp w rows p) e ∙ ap (λ (x : Fit). searched x rows p) q)
+    step_is : (f : Fit) → first_fit_of rows p.value ≡ f → searched f rows p ≡ step rows p
+    unfolding step looked_up
+    step_is f q = sym (ap (λ (w : Place). looked_up w rows p) e ∙ ap (λ (x : Fit). searched x rows p) q)
 
     -- step 2: a fit is written as row n
-    module _ (row : Row) (f : firstFit rows p.value ≡ fit row) where
-      pub fit-added : rows ++ (row ∷ []) ≡ step rows p
+    module _ (row : Row) (f : first_fit_of rows p.value ≡ fit row) where
+      pub fit_added : rows ++ (row ∷ []) ≡ step rows p
       unfolding searched
-      fit-added = step_is (fit row) f
+      fit_added = step_is (fit row) f
 
       pub fit_length : length (step rows p) ≡ n + 1
-      fit_length = ap length (sym fit-added) ∙ length-append rows (row ∷ []) ∙ omega (arith, length-rows table n)
+      fit_length = ap length (sym fit_added) ∙ length-append rows (row ∷ []) ∙ omega (arith, length_rows table n)
 
-      pub fit-new : rowWith rows row.value ≡ nowhere
-      fit-new = ap (rowWith rows) (fit-is-first rows p.value r.part.odd r.part.below row f).value ∙ e
+      pub fit_new : row_with rows row.value ≡ nowhere
+      fit_new = ap (row_with rows) (fit_is_first rows p.value r.part.odd r.part.below row f).value ∙ e
 
     -- step 3
-    pub chain-added : firstFit rows p.value ≡ none-fits → chained rows (stringOf (form_of (chosenForm p.value p.choice))) ≡ step rows p
+    pub chain_added : first_fit_of rows p.value ≡ none_fits → chained rows (string_of (form_of (chosen_form_of p.value p.choice))) ≡ step rows p
     unfolding searched
-    chain-added f = ap (chained rows) form-string ∙ step_is none-fits f
+    chain_added f = ap (chained rows) form_string ∙ step_is none_fits f

@@ -21,4 +21,4 @@ pub record Ready (table heads links values marks : List ℕ) (n most : ℕ) (p :
   pub part : Buildable p
   pub room : HasRoom table links (length (step (rows_of table n) p))
   pub sieve : Sieve table values marks n
-  pub sieve-room : length (step (rows_of table n) p) + 7 ≤ length values
+  pub sieve_room : length (step (rows_of table n) p) + 7 ≤ length values

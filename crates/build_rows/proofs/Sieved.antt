@@ -5,48 +5,48 @@ use Prim.Native.Nat.{ℕ, ◌+◌, ◌^◌, ◌≤◌, ◌<◌}
 use native.Mathlib.Omega.{arith}
 use lib.ListN.{length}
 use Rattle.network.specs.declared.Row.{Row}
-use Rattle.network.specs.Rows.{rows_of, row_in, firstRow}
+use Rattle.network.specs.Rows.{rows_of, row_in, first_row_of}
 use Rattle.build_steps.specs.Parts.{Part}
 use Rattle.build_steps.specs.Steps.{step}
-use Rattle.build_steps.specs.RowSteps.{Lawful, row-0}
-use Rattle.build_steps.proofs.Lawful.{row_before, lawful-value}
-use Rattle.build_steps.proofs.Steps.{step-grows}
+use Rattle.build_steps.specs.RowSteps.{Lawful, row_0}
+use Rattle.build_steps.proofs.Lawful.{row_before, lawful_value}
+use Rattle.build_steps.proofs.Steps.{step_grows}
 use Rattle.build_index.specs.Inner.{value_at, Grown}
-use Rattle.build_index.proofs.Values.{length-rows, value_in}
+use Rattle.build_index.proofs.Values.{length_rows, value_in}
 use Rattle.build_sieve.specs.Inner.{Sieve}
-use Rattle.build_sieve.proofs.Sieves.{sieve-kept}
+use Rattle.build_sieve.proofs.Sieves.{sieve_kept}
 use Rattle.build_part.specs.Inner.{Ready}
-use Rattle.build_rows.proofs.Longer.{step-longer}
+use Rattle.build_rows.proofs.Longer.{step_longer}
 
 -- the values of lawful rows
-pub values-bounded : (table : List ℕ) (n : ℕ) → Lawful (rows_of table n) → (i : ℕ) → i < n → value_at table i < 2 ^ 31
-values-bounded table n w i l = omega (arith, value_in table n i l, (lawful-value w i (omega (arith, length-rows table n))).to)
+pub values_bounded : (table : List ℕ) (n : ℕ) → Lawful (rows_of table n) → (i : ℕ) → i < n → value_at table i < 2 ^ 31
+values_bounded table n w i l = omega (arith, value_in table n i l, (lawful_value w i (omega (arith, length_rows table n))).to)
 
 -- row 0 alone
-pub first-bounded : (table table' heads' links' : List ℕ) → Grown table table' heads' links' 1 (firstRow ∷ []) → (i : ℕ) → i < 1 → value_at table' i < 2 ^ 31
-first-bounded table table' heads' links' g = values-bounded table' 1 (subst Lawful (sym g.rows_are) row-0)
+pub first_bounded : (table table' heads' links' : List ℕ) → Grown table table' heads' links' 1 (first_row_of ∷ []) → (i : ℕ) → i < 1 → value_at table' i < 2 ^ 31
+first_bounded table table' heads' links' g = values_bounded table' 1 (subst Lawful (sym g.rows_are) row_0)
 
 module _ (table heads links values marks : List ℕ) (n most : ℕ) (p : Part) (r : Ready table heads links values marks n most p) (table' heads' links' : List ℕ) (n' : ℕ)
     (g : Grown table table' heads' links' n' (step (rows_of table n) p)) where
   step_count : length (step (rows_of table n) p) ≡ n'
-  step_count = ap length (sym g.rows_are) ∙ length-rows table' n'
+  step_count = ap length (sym g.rows_are) ∙ length_rows table' n'
 
-  pub no-fewer : n ≤ n'
-  no-fewer = omega (arith, step_count, step-longer (rows_of table n) p, length-rows table n)
+  pub no_fewer : n ≤ n'
+  no_fewer = omega (arith, step_count, step_longer (rows_of table n) p, length_rows table n)
 
-  pub room-left : n' + 7 ≤ length values
-  room-left = omega (arith, step_count, r.sieve-room)
+  pub room_left : n' + 7 ≤ length values
+  room_left = omega (arith, step_count, r.sieve_room)
 
-  same-value : (i : ℕ) → i < n → value_at table' i ≡ value_at table i
-  same-value i l =
-      let w = step-grows (rows_of table n) p r.lawful r.part in
-      sym (value_in table' n' i (omega (arith, no-fewer)))
+  same_value : (i : ℕ) → i < n → value_at table' i ≡ value_at table i
+  same_value i l =
+      let w = step_grows (rows_of table n) p r.lawful r.part in
+      sym (value_in table' n' i (omega (arith, no_fewer)))
       ∙ ap (λ (rows : List Row). (row_in rows i).value) (g.rows_are ∙ w.is)
-      ∙ ap (λ (x : Row). x.value) (row_before (rows_of table n) w.more i (omega (arith, length-rows table n)))
+      ∙ ap (λ (x : Row). x.value) (row_before (rows_of table n) w.more i (omega (arith, length_rows table n)))
       ∙ value_in table n i l
 
-  pub sieve-carried : Sieve table' values marks n
-  sieve-carried = sieve-kept table table' values marks n same-value r.sieve
+  pub sieve_carried : Sieve table' values marks n
+  sieve_carried = sieve_kept table table' values marks n same_value r.sieve
 
-  pub step-bounded : (i : ℕ) → i < n' → value_at table' i < 2 ^ 31
-  step-bounded = values-bounded table' n' (subst Lawful (sym g.rows_are) (step-grows (rows_of table n) p r.lawful r.part).lawful)
+  pub step_bounded : (i : ℕ) → i < n' → value_at table' i < 2 ^ 31
+  step_bounded = values_bounded table' n' (subst Lawful (sym g.rows_are) (step_grows (rows_of table n) p r.lawful r.part).lawful)

@@ -1,8 +1,8 @@
 // The rows of a network, built odd part by odd part.
 ghost use Rattle.std.specs.Prelude.{◌≡◌, [], ◌∷◌, map, ◌≤◌, max, length, take};
-ghost use Rattle.network.specs.Rows.{rows_of, firstRow};
+ghost use Rattle.network.specs.Rows.{rows_of, first_row_of};
 ghost use Rattle.build_steps.specs.Steps.{step, steps};
-ghost use Rattle.build_odd_parts.specs.Inner.{partIn};
+ghost use Rattle.build_odd_parts.specs.Inner.{part_in};
 ghost use Rattle.build_index.specs.Inner.{Indexed, HasRoom, Grown};
 ghost use Rattle.build_sieve.specs.Inner.{Sieve};
 ghost use Rattle.build_part.specs.Inner.{part_of, Ready};
@@ -46,7 +46,7 @@ fn first_row(
 )
     requires indexed { Indexed table.old heads.old links.old 0 × HasRoom table.old links.old 1 }
     requires sieve { Sieve table.old values.old marks.old 0 × (8 ≤ length values.old) }
-    ensures grown { Grown table.old table.new heads.new links.new 1 (firstRow ∷ []) }
+    ensures grown { Grown table.old table.new heads.new links.new 1 (first_row_of ∷ []) }
     ensures sieve_2 { Sieve table.new values.new marks.new 1 }
 {
     build_index::put(table, heads, links, 0, network::FIRST);
@@ -66,7 +66,7 @@ pub fn add_rows(
 ) -> usize
     requires { CanStart keys.now m choices.now table.old heads.old links.old values.old marks.old }
     ensures { Grown table.old table.new heads.new links.new result
-        (steps (firstRow ∷ []) (map (partIn choices.now) (take m keys.now))) }
+        (steps (first_row_of ∷ []) (map (part_in choices.now) (take m keys.now))) }
 {
     first_row(table, heads, links, values, marks);
     let mut n: usize = 1;

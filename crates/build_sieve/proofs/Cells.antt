@@ -23,8 +23,8 @@ reached n t h =
     let more : 2 ^ t ≤ n * 2 ^ t = le_trans (le_of_eq (sym (one-mul (2 ^ t)))) (mul-le-mul_right (2 ^ t) h) in
     le_of_lt (lt_of_not-le (λ (g : size (n * 2 ^ t) ≤ t). not-le_of_lt (lt_of_lt_of_le (size-lt (n * 2 ^ t)) (pow_mono g)) more))
 
-size-shifted : (n t : ℕ) → 0 < n → size (n * 2 ^ t) ≡ size n + t
-size-shifted n t h =
+size_shifted : (n t : ℕ) → 0 < n → size (n * 2 ^ t) ≡ size n + t
+size_shifted n t h =
     let z = size (n * 2 ^ t) in
     let long : t ≤ z = reached n t h in
     let low : z ≤ size n + t = size-le (n * 2 ^ t) (size n + t) (shl_lt (size n) t (size-lt n)) in
@@ -40,10 +40,10 @@ module _ (f : Format) where
   fields n = (size n - prec f) * hid f + n / 2 ^ (size n - prec f)
 
   -- t more factors 2 add t to the exponent's field
-  fields-lifted : (n t : ℕ) → 0 < n → prec f ≤ size n → fields (n * 2 ^ t) ≡ t * hid f + fields n
-  fields-lifted n t h long =
+  fields_lifted : (n t : ℕ) → 0 < n → prec f ≤ size n → fields (n * 2 ^ t) ≡ t * hid f + fields n
+  fields_lifted n t h long =
       let k = size n - prec f in
-      let e : size (n * 2 ^ t) - prec f ≡ k + t = ap (λ (z : ℕ). z - prec f) (size-shifted n t h) ∙ over (size n) (prec f) t long in
+      let e : size (n * 2 ^ t) - prec f ≡ k + t = ap (λ (z : ℕ). z - prec f) (size_shifted n t h) ∙ over (size n) (prec f) t long in
       let d : n * 2 ^ t / 2 ^ (k + t) ≡ n / 2 ^ k = div_same (n * 2 ^ t) (2 ^ (k + t)) n (2 ^ k) (pow_pos (k + t)) (pow_pos k) (mul_assoc n (2 ^ t) (2 ^ k) ∙ ap (λ (x : ℕ). n * x) (mul_comm (2 ^ t) (2 ^ k) ∙ sym (pow-add 2 k t))) in
       ap (λ (j : ℕ). j * hid f + n * 2 ^ t / 2 ^ j) e ∙ ap (λ (q : ℕ). (k + t) * hid f + q) d ∙ apart k t (hid f) (n / 2 ^ k)
     where
@@ -67,72 +67,72 @@ module _ (f : Format) where
       joined : (x y z : ℕ) → x + y + z ≡ x + (y + z)
       joined x y z = omega arith
 
-positive-bits : (a : ℕ) → a ≤ 2 ^ 53 → to_bits binary64 (of_int binary64 (pos a)) ≡ fields binary64 (a * 2 ^ 1074)
+positive_bits : (a : ℕ) → a ≤ 2 ^ 53 → to_bits binary64 (of_int binary64 (pos a)) ≡ fields binary64 (a * 2 ^ 1074)
 unfolding of_int
-positive-bits a h = bits_of binary64 false a _ (round_whole binary64 false a h) ∙ zero-add (fields binary64 (a * 2 ^ 1074))
+positive_bits a h = bits_of binary64 false a _ (round_whole binary64 false a h) ∙ zero-add (fields binary64 (a * 2 ^ 1074))
 
-negative-bits : (k : ℕ) → suc k ≤ 2 ^ 53 → to_bits binary64 (of_int binary64 (negsuc k)) ≡ 2 ^ 63 + fields binary64 (suc k * 2 ^ 1074)
+negative_bits : (k : ℕ) → suc k ≤ 2 ^ 53 → to_bits binary64 (of_int binary64 (negsuc k)) ≡ 2 ^ 63 + fields binary64 (suc k * 2 ^ 1074)
 unfolding of_int
-negative-bits k h = bits_of binary64 true (suc k) _ (round_whole binary64 true (suc k) h)
+negative_bits k h = bits_of binary64 true (suc k) _ (round_whole binary64 true (suc k) h)
 
 -- ---- of the bits, the 20 below the exponent's field
-cut-lifted : (t b : ℕ) → (t * 2 ^ 52 + b) / 2 ^ 32 * 2 ^ 12 % 2 ^ 32 ≡ b / 2 ^ 32 * 2 ^ 12 % 2 ^ 32
-cut-lifted t b = omega arith
+cut_lifted : (t b : ℕ) → (t * 2 ^ 52 + b) / 2 ^ 32 * 2 ^ 12 % 2 ^ 32 ≡ b / 2 ^ 32 * 2 ^ 12 % 2 ^ 32
+cut_lifted t b = omega arith
 
-cut-signed : (b : ℕ) → (2 ^ 63 + b) / 2 ^ 32 * 2 ^ 12 % 2 ^ 32 ≡ b / 2 ^ 32 * 2 ^ 12 % 2 ^ 32
-cut-signed b = omega arith
+cut_signed : (b : ℕ) → (2 ^ 63 + b) / 2 ^ 32 * 2 ^ 12 % 2 ^ 32 ≡ b / 2 ^ 32 * 2 ^ 12 % 2 ^ 32
+cut_signed b = omega arith
 
-cell-is : (shift x : ℕ) → cell_of shift x ≡ to_bits binary64 (of_int binary64 (pos x)) / 2 ^ 32 * 2 ^ 12 % 2 ^ 32 / 2 ^ shift
+cell_is : (shift x : ℕ) → cell_of shift x ≡ to_bits binary64 (of_int binary64 (pos x)) / 2 ^ 32 * 2 ^ 12 % 2 ^ 32 / 2 ^ shift
 unfolding cell_of
-cell-is shift x = refl
+cell_is shift x = refl
 
-cell-fields : (shift a : ℕ) → a < 2 ^ 32 → cell_of shift a ≡ fields binary64 (a * 2 ^ 1074) / 2 ^ 32 * 2 ^ 12 % 2 ^ 32 / 2 ^ shift
-cell-fields shift a h = cell-is shift a ∙ ap (λ (b : ℕ). b / 2 ^ 32 * 2 ^ 12 % 2 ^ 32 / 2 ^ shift) (positive-bits a (le_trans (le_of_lt h) (lit≤ tt)))
+cell_fields : (shift a : ℕ) → a < 2 ^ 32 → cell_of shift a ≡ fields binary64 (a * 2 ^ 1074) / 2 ^ 32 * 2 ^ 12 % 2 ^ 32 / 2 ^ shift
+cell_fields shift a h = cell_is shift a ∙ ap (λ (b : ℕ). b / 2 ^ 32 * 2 ^ 12 % 2 ^ 32 / 2 ^ shift) (positive_bits a (le_trans (le_of_lt h) (lit≤ tt)))
 
 -- ---- a factor 2 is no digit
-pub cell-lifted : (shift t x : ℕ) → 0 < x → 2 ^ t * x < 2 ^ 32 → cell_of shift (2 ^ t * x) ≡ cell_of shift x
-cell-lifted shift t x h small =
+pub cell_lifted : (shift t x : ℕ) → 0 < x → 2 ^ t * x < 2 ^ 32 → cell_of shift (2 ^ t * x) ≡ cell_of shift x
+cell_lifted shift t x h small =
     let n = x * 2 ^ 1074 in
     let less : x < 2 ^ 32 = lt_of_le_of_lt (le_trans (le_of_eq (sym (one-mul x))) (mul-le-mul_right x (pow_pos t))) small in
     let long : 53 ≤ size n = le_trans (lit≤ tt) (reached x 1074 h) in
     let e : 2 ^ t * x * 2 ^ 1074 ≡ n * 2 ^ t = ap (λ (k : ℕ). k * 2 ^ 1074) (mul_comm (2 ^ t) x) ∙ mul_right_comm x (2 ^ t) (2 ^ 1074) in
-    cell-fields shift (2 ^ t * x) small
-    ∙ ap (λ (b : ℕ). b / 2 ^ 32 * 2 ^ 12 % 2 ^ 32 / 2 ^ shift) (ap (fields binary64) e ∙ fields-lifted binary64 n t (mul-pos h (pow_pos 1074)) long)
-    ∙ ap (λ (b : ℕ). b / 2 ^ shift) (cut-lifted t (fields binary64 n))
-    ∙ sym (cell-fields shift x less)
+    cell_fields shift (2 ^ t * x) small
+    ∙ ap (λ (b : ℕ). b / 2 ^ 32 * 2 ^ 12 % 2 ^ 32 / 2 ^ shift) (ap (fields binary64) e ∙ fields_lifted binary64 n t (mul-pos h (pow_pos 1074)) long)
+    ∙ ap (λ (b : ℕ). b / 2 ^ shift) (cut_lifted t (fields binary64 n))
+    ∙ sym (cell_fields shift x less)
 
 -- ---- a sign is no digit
 negative : (shift k : ℕ) → suc k < 2 ^ 32 → to_bits binary64 (of_int binary64 (negsuc k)) / 2 ^ 32 * 2 ^ 12 % 2 ^ 32 / 2 ^ shift ≡ cell_of shift (suc k)
 negative shift k h =
-    ap (λ (b : ℕ). b / 2 ^ 32 * 2 ^ 12 % 2 ^ 32 / 2 ^ shift) (negative-bits k (le_trans (le_of_lt h) (lit≤ tt)))
-    ∙ ap (λ (b : ℕ). b / 2 ^ shift) (cut-signed (fields binary64 (suc k * 2 ^ 1074)))
-    ∙ sym (cell-fields shift (suc k) h)
+    ap (λ (b : ℕ). b / 2 ^ 32 * 2 ^ 12 % 2 ^ 32 / 2 ^ shift) (negative_bits k (le_trans (le_of_lt h) (lit≤ tt)))
+    ∙ ap (λ (b : ℕ). b / 2 ^ shift) (cut_signed (fields binary64 (suc k * 2 ^ 1074)))
+    ∙ sym (cell_fields shift (suc k) h)
 
-pub cell-negative : (shift k : ℕ) → k + 1 < 2 ^ 32 → to_bits binary64 (of_int binary64 (negsuc k)) / 2 ^ 32 * 2 ^ 12 % 2 ^ 32 / 2 ^ shift ≡ cell_of shift (k + 1)
-cell-negative shift k h = negative shift k (subst (λ (j : ℕ). j < 2 ^ 32) (add-one k) h) ∙ ap (cell_of shift) (sym (add-one k))
+pub cell_negative : (shift k : ℕ) → k + 1 < 2 ^ 32 → to_bits binary64 (of_int binary64 (negsuc k)) / 2 ^ 32 * 2 ^ 12 % 2 ^ 32 / 2 ^ shift ≡ cell_of shift (k + 1)
+cell_negative shift k h = negative shift k (subst (λ (j : ℕ). j < 2 ^ 32) (add-one k) h) ∙ ap (cell_of shift) (sym (add-one k))
 
 -- whatever the sign
-pub cell-of : (shift : ℕ) (z : ℤ) → nat_abs z < 2 ^ 32 → to_bits binary64 (of_int binary64 z) / 2 ^ 32 * 2 ^ 12 % 2 ^ 32 / 2 ^ shift ≡ cell_of shift (nat_abs z)
-cell-of shift (pos n) h = sym (cell-is shift n)
-cell-of shift (negsuc k) h = negative shift k h
+pub cell_of_lem : (shift : ℕ) (z : ℤ) → nat_abs z < 2 ^ 32 → to_bits binary64 (of_int binary64 z) / 2 ^ 32 * 2 ^ 12 % 2 ^ 32 / 2 ^ shift ≡ cell_of shift (nat_abs z)
+cell_of_lem shift (pos n) h = sym (cell_is shift n)
+cell_of_lem shift (negsuc k) h = negative shift k h
 
 -- ---- 32 places, less the lowest ones
-pub cell-low : (shift x : ℕ) → shift ≤ 32 → cell_of shift x < 2 ^ (32 - shift)
-cell-low shift x h =
+pub cell_low : (shift x : ℕ) → shift ≤ 32 → cell_of shift x < 2 ^ (32 - shift)
+cell_low shift x h =
     let b = to_bits binary64 (of_int binary64 (pos x)) / 2 ^ 32 * 2 ^ 12 in
-    subst (λ (c : ℕ). c < 2 ^ (32 - shift)) (sym (cell-is shift x)) (shr_lt (32 - shift) shift (subst (λ (j : ℕ). b % 2 ^ 32 < 2 ^ j) (sym (back 32 shift h)) (mod-lt b (pow_pos 32))))
+    subst (λ (c : ℕ). c < 2 ^ (32 - shift)) (sym (cell_is shift x)) (shr_lt (32 - shift) shift (subst (λ (j : ℕ). b % 2 ^ 32 < 2 ^ j) (sym (back 32 shift h)) (mod-lt b (pow_pos 32))))
 
 -- ---- a whole number is written as 64 bits
-value-number : (x : Float) (s : Bool) (a c : ℕ) → HasValue x s a c → T (not (is_nan x))
+value_number : (x : Float) (s : Bool) (a c : ℕ) → HasValue x s a c → T (not (is_nan x))
 unfolding is_nan
-value-number nan s a c v = absurd v
-value-number (inf t) s a c v = absurd v
-value-number (fin t m e) s a c v = tt
+value_number nan s a c v = absurd v
+value_number (inf t) s a c v = absurd v
+value_number (fin t m e) s a c v = tt
 
-pub whole-number : (z : ℤ) → nat_abs z < 2 ^ 32 → T (not (is_nan (of_int binary64 z)))
+pub whole_number : (z : ℤ) → nat_abs z < 2 ^ 32 → T (not (is_nan (of_int binary64 z)))
 unfolding of_int
-whole-number (pos n) h = value-number _ false n 1 (round_whole binary64 false n (le_trans (le_of_lt h) (lit≤ tt)))
-whole-number (negsuc k) h = value-number _ true (suc k) 1 (round_whole binary64 true (suc k) (le_trans (le_of_lt h) (lit≤ tt)))
+whole_number (pos n) h = value_number _ false n 1 (round_whole binary64 false n (le_trans (le_of_lt h) (lit≤ tt)))
+whole_number (negsuc k) h = value_number _ true (suc k) 1 (round_whole binary64 true (suc k) (le_trans (le_of_lt h) (lit≤ tt)))
 
 pub high_half : (z : ℤ) → to_bits binary64 (of_int binary64 z) / 2 ^ 32 < 2 ^ 32
 high_half z = shr_lt 32 32 (to_bits-lt binary64 (of_int binary64 z) (of_int-fits binary64 z))

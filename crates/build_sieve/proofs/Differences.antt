@@ -10,18 +10,18 @@ use mir.Syntax.{w32}
 use mir.Val.{SFits}
 
 module _ (a k : ℕ) where
-  less-fits : (t : Bool) → ltb a (suc k) ≡ t → a < 2 ^ 31 → suc k < 2 ^ 31 → SFits w32 (cond t (negsuc (suc k - suc a)) (pos (a - suc k)))
-  less-fits true e h l = record { sfits = omega (arith, ltb-true a (suc k) e) }
-  less-fits false e h l = record { sfits = omega arith }
+  less_fits : (t : Bool) → ltb a (suc k) ≡ t → a < 2 ^ 31 → suc k < 2 ^ 31 → SFits w32 (cond t (negsuc (suc k - suc a)) (pos (a - suc k)))
+  less_fits true e h l = record { sfits = omega (arith, ltb-true a (suc k) e) }
+  less_fits false e h l = record { sfits = omega arith }
 
-  less-size : (t : Bool) → ltb a (suc k) ≡ t → nat_abs (cond t (negsuc (suc k - suc a)) (pos (a - suc k))) ≡ (a - suc k) + (suc k - a)
-  less-size true e = omega (arith, ltb-true a (suc k) e)
-  less-size false e = omega (arith, ltb-false a (suc k) e)
+  less_size : (t : Bool) → ltb a (suc k) ≡ t → nat_abs (cond t (negsuc (suc k - suc a)) (pos (a - suc k))) ≡ (a - suc k) + (suc k - a)
+  less_size true e = omega (arith, ltb-true a (suc k) e)
+  less_size false e = omega (arith, ltb-false a (suc k) e)
 
-pub difference-fits : (a b : ℕ) → a < 2 ^ 31 → b < 2 ^ 31 → SFits w32 (pos a -ℤ pos b)
-difference-fits a zero h l = record { sfits = omega arith }
-difference-fits a (suc k) h l = less-fits a k (ltb a (suc k)) refl h l
+pub difference_fits : (a b : ℕ) → a < 2 ^ 31 → b < 2 ^ 31 → SFits w32 (pos a -ℤ pos b)
+difference_fits a zero h l = record { sfits = omega arith }
+difference_fits a (suc k) h l = less_fits a k (ltb a (suc k)) refl h l
 
-pub difference-size : (a b : ℕ) → nat_abs (pos a -ℤ pos b) ≡ (a - b) + (b - a)
-difference-size a zero = omega arith
-difference-size a (suc k) = less-size a k (ltb a (suc k)) refl
+pub difference_size : (a b : ℕ) → nat_abs (pos a -ℤ pos b) ≡ (a - b) + (b - a)
+difference_size a zero = omega arith
+difference_size a (suc k) = less_size a k (ltb a (suc k)) refl

@@ -8,27 +8,27 @@ use native.Mathlib.Omega.{arith}
 use lib.Pow.{pow_mono, shr-shr}
 
 -- a digit below the others
-digit-above : (m b e : ℕ) → b ≤ 1 → (2 * m + b) / 2 ^ suc e ≡ m / 2 ^ e
-digit-above m b e h =
+digit_above : (m b e : ℕ) → b ≤ 1 → (2 * m + b) / 2 ^ suc e ≡ m / 2 ^ e
+digit_above m b e h =
     let half : (2 * m + b) / 2 ≡ m = omega arith in
     let q : 1 + e ≡ suc e = omega arith in
     ap (λ (k : ℕ). (2 * m + b) / 2 ^ k) (sym q) ∙ sym (shr-shr (2 * m + b) 1 e) ∙ ap (λ (x : ℕ). x / 2 ^ e) half
 
 -- a digit that is chosen
-pub digit-small : (t : Bool) → cond t 1 0 ≤ 1
-digit-small true = omega arith
-digit-small false = omega arith
+pub digit_small : (t : Bool) → cond t 1 0 ≤ 1
+digit_small true = omega arith
+digit_small false = omega arith
 
-pub digit-zero : (t : Bool) → cond {A = ℕ} t 1 0 ≡ 0 → t ≡ false
-digit-zero true e = absurd (omega (arith, e))
-digit-zero false e = refl
+pub digit_zero : (t : Bool) → cond {A = ℕ} t 1 0 ≡ 0 → t ≡ false
+digit_zero true e = absurd (omega (arith, e))
+digit_zero false e = refl
 
 -- a mask of the numbers from i to 7
-pub mask-small : (m i : ℕ) → i ≤ 8 → m < 2 ^ (8 - i) → m < 2 ^ 8
-mask-small m i h l = omega (arith, l, pow_mono {i = 8 - i} {j = 8} (omega arith))
+pub mask_small : (m i : ℕ) → i ≤ 8 → m < 2 ^ (8 - i) → m < 2 ^ 8
+mask_small m i h l = omega (arith, l, pow_mono {i = 8 - i} {j = 8} (omega arith))
 
-pub mask-more : (m b i : ℕ) → b ≤ 1 → 1 ≤ i → i ≤ 8 → m < 2 ^ (8 - i) → 2 * m + b < 2 ^ (8 - (i - 1))
-mask-more m b i h k o l =
+pub mask_more : (m b i : ℕ) → b ≤ 1 → 1 ≤ i → i ≤ 8 → m < 2 ^ (8 - i) → 2 * m + b < 2 ^ (8 - (i - 1))
+mask_more m b i h k o l =
     let q : 8 - (i - 1) ≡ suc (8 - i) = omega arith in
     subst (λ (e : ℕ). 2 * m + b < 2 ^ e) (sym q) (omega (arith, pow-suc 2 (8 - i)))
 
@@ -37,8 +37,8 @@ module _ (P : ℕ → Type 0) where
   abbrev pub Zeros : ℕ → ℕ → Type 0
   Zeros m i = (j : ℕ) → i ≤ j → j < 8 → m / 2 ^ (j - i) % 2 ≡ 0 → P j
 
-  pub zeros-more : (m b i : ℕ) → b ≤ 1 → 1 ≤ i → Zeros m i → (b ≡ 0 → P (i - 1)) → Zeros (2 * m + b) (i - 1)
-  zeros-more m b i h k z p j from to e =
+  pub zeros_more : (m b i : ℕ) → b ≤ 1 → 1 ≤ i → Zeros m i → (b ≡ 0 → P (i - 1)) → Zeros (2 * m + b) (i - 1)
+  zeros_more m b i h k z p j from to e =
       ⊎_elim
       (λ (same : i - 1 ≡ j).
       let q : j - (i - 1) ≡ 0 = omega arith in
@@ -46,5 +46,5 @@ module _ (P : ℕ → Type 0) where
       subst P same (p (omega arith)))
       (λ (above : i - 1 < j).
       let q : suc (j - i) ≡ j - (i - 1) = omega arith in
-      z j (omega arith) to (ap (λ (x : ℕ). x % 2) (sym (digit-above m b (j - i) h)) ∙ ap (λ (x : ℕ). (2 * m + b) / 2 ^ x % 2) q ∙ e))
+      z j (omega arith) to (ap (λ (x : ℕ). x % 2) (sym (digit_above m b (j - i) h)) ∙ ap (λ (x : ℕ). (2 * m + b) / 2 ^ x % 2) q ∙ e))
       (eq-or-lt_of_le from)

@@ -11,29 +11,29 @@ unfoldable pub cell_of : ℕ → ℕ → ℕ
 cell_of shift x = Ieee.to_bits binary64 (Ieee.of_int binary64 (pos x)) / 2 ^ 32 * 2 ^ 12 % 2 ^ 32 / 2 ^ shift
 
 -- so many of the 32 places of a cell are dropped, with m marks: 2,048, 8,192 or 32,768 of them are used
-unfoldable pub shiftFor : ℕ → ℕ
-shiftFor m = cond (ltb m 8192) 21 (cond (ltb m 32768) 19 17)
+unfoldable pub shift_for_of : ℕ → ℕ
+shift_for_of m = cond (ltb m 8192) 21 (cond (ltb m 32768) 19 17)
 
 -- the cell of a number, with m marks
-abbrev pub cellIn : ℕ → ℕ → ℕ
-cellIn m x = cell_of (shiftFor m) x
+abbrev pub cell_within : ℕ → ℕ → ℕ
+cell_within m x = cell_of (shift_for_of m) x
 
 -- the values of n rows, and zeros after them; the cell of each has a mark, the higher the lower the row
 pub record Sieve (table values marks : List ℕ) (n : ℕ) : Type 0 where
   pub room : n + 7 ≤ length values
   pub cells : 2048 ≤ length marks
-  pub values-are : (i : ℕ) → i < n → get_or values i 0 ≡ value_at table i
+  pub values_are : (i : ℕ) → i < n → get_or values i 0 ≡ value_at table i
   pub rest : (i : ℕ) → n ≤ i → get_or values i 0 ≡ 0
-  pub marked : (i : ℕ) → i < n → 128 ≤ get_or marks (cellIn (length marks) (value_at table i)) 0 * (i + 1)
+  pub marked : (i : ℕ) → i < n → 128 ≤ get_or marks (cell_within (length marks) (value_at table i)) 0 * (i + 1)
 
 -- the cells of v + r and of |v - r| for some values r; v + r is even
 pub record Cells (values : List ℕ) (at count v shift : ℕ) (sums differences : List ℕ) : Type 0 where
-  pub sums-are : (j : ℕ) → j < count → get_or sums j 0 ≡ cell_of shift ((v + get_or values (at + j) 0) / 2)
-  pub differences-are : (j : ℕ) → j < count → get_or differences j 0 ≡ cell_of shift ((v - get_or values (at + j) 0) + (get_or values (at + j) 0 - v))
+  pub sums_are : (j : ℕ) → j < count → get_or sums j 0 ≡ cell_of shift ((v + get_or values (at + j) 0) / 2)
+  pub differences_are : (j : ℕ) → j < count → get_or differences j 0 ≡ cell_of shift ((v - get_or values (at + j) 0) + (get_or values (at + j) 0 - v))
 
 -- the mark of the cell at place j
-abbrev pub markAt : List ℕ → List ℕ → ℕ → ℕ
-markAt marks cells j = get_or marks (get_or cells j 0) 0
+abbrev pub mark_at : List ℕ → List ℕ → ℕ → ℕ
+mark_at marks cells j = get_or marks (get_or cells j 0) 0
 
 -- the first cells, so many of them, are cells of marks
 abbrev pub InMarks : List ℕ → List ℕ → ℕ → Type 0

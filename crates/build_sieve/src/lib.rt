@@ -2,16 +2,16 @@
 mod leading;
 
 ghost use Rattle.std.specs.Prelude.{◌≡◌, ℕ, ◌+◌, ◌*◌, ◌/◌, ◌%◌, ◌^◌, ◌≤◌, ◌<◌, max, leb, length};
-ghost use Rattle.network.specs.Rows.{rowWords};
+ghost use Rattle.network.specs.Rows.{row_words};
 ghost use Rattle.build_index.specs.Inner.{value_at};
-ghost use Rattle.build_sieve.specs.Inner.{shiftFor, Sieve, markAt, InMarks};
+ghost use Rattle.build_sieve.specs.Inner.{shift_for_of, Sieve, mark_at, InMarks};
 
 use leading::cell_of;
 pub use leading::fill_cells;
 
 // The number of a cell's places that are dropped, with m marks.
 pub fn shift_for(m: usize) -> u32
-    ensures { result ≡ shiftFor m }
+    ensures { result ≡ shift_for_of m }
 {
     if m < 8192 {
         21
@@ -38,7 +38,7 @@ fn higher(a: u8, b: u8) -> u8
 
 // The rows from one number to below another join the sieve.
 pub fn extend(table: &[u32], from: usize, to: usize, values: &mut [u32], marks: &mut [u8])
-    requires sieve { Sieve table.now values.old marks.old from × (from ≤ to) × (to + 7 ≤ length values.old) × (rowWords * to ≤ length table.now) × (to ≤ 4096) }
+    requires sieve { Sieve table.now values.old marks.old from × (from ≤ to) × (to + 7 ≤ length values.old) × (row_words * to ≤ length table.now) × (to ≤ 4096) }
     requires by_index { (i : ℕ) → i < to → value_at table.now i < 2 ^ 31 }
     ensures { Sieve table.now values.new marks.new to }
 {
@@ -56,7 +56,7 @@ pub fn extend(table: &[u32], from: usize, to: usize, values: &mut [u32], marks: 
 // The marks of the eight cells from place k on in one: no less than any of them.
 pub fn joined(marks: &[u8], cells: &[u32; 32], k: usize) -> u8
     requires { (k + 8 ≤ 32) × (length cells.now ≡ 32) × InMarks marks.now cells.now (k + 8) }
-    ensures { (i : ℕ) → i < 8 → markAt marks.now cells.now (k + i) ≤ result }
+    ensures { (i : ℕ) → i < 8 → mark_at marks.now cells.now (k + i) ≤ result }
 {
     let mut all: u8 = 0;
     let mut i: usize = 0;
@@ -79,7 +79,7 @@ pub fn may_be_below(m: usize, mark: u8) -> bool
 // below m.
 pub fn marked(marks: &[u8], cells: &[u32; 32], k: usize, m: usize) -> u32
     requires { (k + 8 ≤ 32) × (length cells.now ≡ 32) × InMarks marks.now cells.now (k + 8) × (m ≤ 4096) }
-    ensures { (result < 2 ^ 8) × ((i : ℕ) → i < 8 → result / 2 ^ i % 2 ≡ 0 → markAt marks.now cells.now (k + i) * m < 128) }
+    ensures { (result < 2 ^ 8) × ((i : ℕ) → i < 8 → result / 2 ^ i % 2 ≡ 0 → mark_at marks.now cells.now (k + i) * m < 128) }
 {
     let mut mask: u32 = 0;
     let mut i: usize = 8;

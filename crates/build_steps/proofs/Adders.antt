@@ -1,18 +1,18 @@
--- The adders of a filter whose network was built: `built-adders`, `most-adders`. Assumes nothing.
+-- The adders of a filter whose network was built: `built_adders`, `most_adders`. Assumes nothing.
 use mathlib.Core.Path.{◌≡◌, sym, ap}
 use mathlib.Core.List.{List}
 use Prim.Native.Nat.{ℕ, ◌+◌, ◌≤◌}
 use native.Mathlib.Omega.{arith}
 use lib.IntN.{ℤ}
-use Rattle.sequence.proofs.Count.{count-few}
-use Rattle.network.specs.Adders.{rowAdders, isNonzero, joiningAdders, adders}
+use Rattle.sequence.proofs.Count.{count_few}
+use Rattle.network.specs.Adders.{row_adders, is_nonzero, joining_adders_of, adders}
 use Rattle.build_steps.specs.TapRows.{built}
 use Rattle.build_steps.specs.CanBuild.{CanBuild}
-use Rattle.build_steps.proofs.Passes.{built-few, built-passed}
+use Rattle.build_steps.proofs.Passes.{built_few, built_passed}
 
 module _ (cs : List ℤ) (ks : List ℕ) (c : CanBuild cs ks) where
-  pub built-adders : adders (built cs ks) ≡ rowAdders (built cs ks) + joiningAdders cs
-  built-adders = ap (λ (h : List ℤ). rowAdders (built cs ks) + joiningAdders h) (sym (built-passed cs ks c).result)
+  pub built_adders : adders (built cs ks) ≡ row_adders (built cs ks) + joining_adders_of cs
+  built_adders = ap (λ (h : List ℤ). row_adders (built cs ks) + joining_adders_of h) (sym (built_passed cs ks c).result)
 
-  pub most-adders : adders (built cs ks) ≤ 3840 + 255
-  most-adders = omega (arith, built-adders, built-few cs ks c, count-few isNonzero cs, c.few)
+  pub most_adders : adders (built cs ks) ≤ 3840 + 255
+  most_adders = omega (arith, built_adders, built_few cs ks c, count_few is_nonzero cs, c.few)

@@ -12,36 +12,36 @@ use Rattle.signed_digit.specs.Weight.{weight}
 use Rattle.signed_digit.specs.Minimal.{Minimal}
 use Rattle.signed_digit.specs.CanonicalForm.{canonical}
 use Rattle.signed_digit.specs.Forms.{listing}
-use Rattle.signed_digit.proofs.Value.{value-eq}
-use Rattle.signed_digit.proofs.Listing.{listing-is}
-use Rattle.signed_digit.proofs.Coefficients.{canonical-32, weight-32}
-use Rattle.build_steps.specs.Parts.{leastWeight}
-use Rattle.build_steps.specs.Chain.{chosenForm, chainEnd}
+use Rattle.signed_digit.proofs.Value.{value_eq}
+use Rattle.signed_digit.proofs.Listing.{listing_is}
+use Rattle.signed_digit.proofs.Coefficients.{canonical_32, weight_32}
+use Rattle.build_steps.specs.Parts.{least_weight_of}
+use Rattle.build_steps.specs.Chain.{chosen_form_of, chain_end}
 use Rattle.build_steps.specs.CanBuild.{Chosen}
-use Rattle.build_steps.proofs.ChainValue.{chain-ends, leading-one, weight-reverse}
+use Rattle.build_steps.proofs.ChainValue.{chain_ends, leading_one, weight_reverse}
 
 -- ---- "by least weight": no string of the value is lighter
-pub least-weight : (v : ℕ) → v ≤ 2 ^ 31 → (s : DigitString) → Minimal (pos v) s → weight s ≡ leastWeight v
-unfolding leastWeight
-least-weight v h s m =
-    let c = (canonical-32 (pos v) h).minimal in
+pub least_weight_lem : (v : ℕ) → v ≤ 2 ^ 31 → (s : DigitString) → Minimal (pos v) s → weight s ≡ least_weight_of v
+unfolding least_weight_of
+least_weight_lem v h s m =
+    let c = (canonical_32 (pos v) h).minimal in
     omega (arith, m.least (canonical 32 (pos v)) c.has_value, c.least s m.has_value)
 
 -- ---- the chosen form
-pub chosen-form : (v choice : ℕ) → v < 2 ^ 31 → choice < length (listing 32 (pos v)) → Chosen v (chosenForm v choice)
-unfolding chosenForm
-chosen-form v choice h l =
+pub chosen_form_lem : (v choice : ℕ) → v < 2 ^ 31 → choice < length (listing 32 (pos v)) → Chosen v (chosen_form_of v choice)
+unfolding chosen_form_of
+chosen_form_lem v choice h l =
     let form : DigitString = get_or (listing 32 (pos v)) choice [] in
     let m = member [] (listing 32 (pos v)) choice l in
-    let o = (listing-is 32 (pos v)).only form m in
-    let w : weight form ≤ 16 = omega (arith, weight-32 (pos v) (omega arith), o.1.least (canonical 32 (pos v)) (canonical-32 (pos v) (omega arith)).minimal.has_value) in
-    let end : v % 2 ≡ 1 → chainEnd (reverse form) ≡ v = λ odd. chain-ends v form odd (omega (arith, (value-eq form (pos v)).0 o.1.has_value)) in
+    let o = (listing_is 32 (pos v)).only form m in
+    let w : weight form ≤ 16 = omega (arith, weight_32 (pos v) (omega arith), o.1.least (canonical 32 (pos v)) (canonical_32 (pos v) (omega arith)).minimal.has_value) in
+    let end : v % 2 ≡ 1 → chain_end (reverse form) ≡ v = λ odd. chain_ends v form odd (omega (arith, (value_eq form (pos v)).0 o.1.has_value)) in
     record {
       listed = m;
       minimal = o.1;
       places = o.0;
       light = w;
       ends = end;
-      leads = λ odd. leading-one (reverse form) (omega (arith, end odd));
-      light-down = omega (arith, weight-reverse form);
+      leads = λ odd. leading_one (reverse form) (omega (arith, end odd));
+      light_down = omega (arith, weight_reverse form);
     }

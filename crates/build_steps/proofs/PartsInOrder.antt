@@ -12,11 +12,11 @@ use borrow.Author.Tests.{eqb-true, eqb-false}
 use lib.Dec.{eqb}
 use lib.IntN.{ℤ, pos}
 use lib.ListN.{length, get_or}
-use Rattle.coefficient.specs.Parts.{Parts, no-odd-part, parts, parts_of}
-use Rattle.coefficient.proofs.PartsOf.{no-parts, same_parts}
-use Rattle.build_steps.specs.Parts.{Part, comesBefore, insert, insertTap, takenFrom, partsToBuild}
+use Rattle.coefficient.specs.Parts.{Parts, no_odd_part, parts, parts_of}
+use Rattle.coefficient.proofs.PartsOf.{no_parts, same_parts}
+use Rattle.build_steps.specs.Parts.{Part, comes_before, insert, insert_tap, taken_from, parts_to_build}
 use Rattle.build_steps.specs.PartOrder.{Before, InOrder, HasOddPart, Earliest, PartsInOrder}
-use Rattle.build_steps.proofs.Order.{before-is, before-apart, before-trans, else-before}
+use Rattle.build_steps.proofs.Order.{before_is, before_apart, before_trans, else_before}
 
 -- ---- the statements
 
@@ -45,21 +45,21 @@ alone p = record {
   few = omega arith;
 }
 
-there-already : (p q : Part) (qs : List Part) → InOrder (q ∷ qs) → p.value ≡ q.value → Inserted p (q ∷ qs) (q ∷ qs)
-there-already p q qs o e = record { ordered = o; old = λ x m. m; new = (q, Memᴰ.head refl, sym e); only = λ x m. inl m; few = omega arith }
+there_already : (p q : Part) (qs : List Part) → InOrder (q ∷ qs) → p.value ≡ q.value → Inserted p (q ∷ qs) (q ∷ qs)
+there_already p q qs o e = record { ordered = o; old = λ x m. m; new = (q, Memᴰ.head refl, sym e); only = λ x m. inl m; few = omega arith }
 
-in-front : (p q : Part) (qs : List Part) → InOrder (q ∷ qs) → Before p.value q.value → Inserted p (q ∷ qs) (p ∷ q ∷ qs)
-in-front p q qs o b = record {
+in_front : (p q : Part) (qs : List Part) → InOrder (q ∷ qs) → Before p.value q.value → Inserted p (q ∷ qs) (p ∷ q ∷ qs)
+in_front p q qs o b = record {
   ordered = (all, o);
   old = λ x m. Memᴰ.tail m;
   new = (p, Memᴰ.head refl, refl);
-  only = λ x m. ⊎_elim (λ e. inr (e, λ y k h. before-apart p.value y.value (all y k) (sym h))) (λ k. inl k) (Memᴰ.cases_cons m);
+  only = λ x m. ⊎_elim (λ e. inr (e, λ y k h. before_apart p.value y.value (all y k) (sym h))) (λ k. inl k) (Memᴰ.cases_cons m);
   few = omega arith;
 }
   where
     all : (x : Part) → Memᴰ x (q ∷ qs) → Before p.value x.value
     all x m =
-        ⊎_elim (λ e. subst (λ (y : Part). Before p.value y.value) (sym e) b) (λ k. before-trans p.value q.value x.value b (o.0 x k)) (Memᴰ.cases_cons m)
+        ⊎_elim (λ e. subst (λ (y : Part). Before p.value y.value) (sym e) b) (λ k. before_trans p.value q.value x.value b (o.0 x k)) (Memᴰ.cases_cons m)
 
 further : (p q : Part) (qs rs : List Part) → InOrder (q ∷ qs) → (p.value ≡ q.value → ⊥) → Before q.value p.value → Inserted p qs rs → Inserted p (q ∷ qs) (q ∷ rs)
 further p q qs rs o n b r = record {
@@ -76,13 +76,13 @@ further p q qs rs o n b r = record {
 inserted : (p : Part) (ps : List Part) → InOrder ps → Inserted p ps (insert p ps)
 unfolding insert
 inserted p [] o = alone p
-inserted p (q ∷ qs) o = go (eqb p.value q.value) (comesBefore p.value q.value) refl refl (inserted p qs o.1)
+inserted p (q ∷ qs) o = go (eqb p.value q.value) (comes_before p.value q.value) refl refl (inserted p qs o.1)
   where
-    go : (x y : Bool) → eqb p.value q.value ≡ x → comesBefore p.value q.value ≡ y → Inserted p qs (insert p qs)
+    go : (x y : Bool) → eqb p.value q.value ≡ x → comes_before p.value q.value ≡ y → Inserted p qs (insert p qs)
         → Inserted p (q ∷ qs) (cond x (q ∷ qs) (cond y (p ∷ q ∷ qs) (q ∷ insert p qs)))
-    go true y e b r = there-already p q qs o (eqb-true _ _ e)
-    go false true e b r = in-front p q qs o (before-is _ _ b)
-    go false false e b r = further p q qs (insert p qs) o (eqb-false _ _ e) (else-before _ _ (eqb-false _ _ e) b) r
+    go true y e b r = there_already p q qs o (eqb-true _ _ e)
+    go false true e b r = in_front p q qs o (before_is _ _ b)
+    go false false e b r = further p q qs (insert p qs) o (eqb-false _ _ e) (else_before _ _ (eqb-false _ _ e) b) r
 
 -- ---- one tap more
 record TapTaken (n : ℤ) (choice : ℕ) (taken rs : List Part) : Type 0 where
@@ -92,16 +92,16 @@ record TapTaken (n : ℤ) (choice : ℕ) (taken rs : List Part) : Type 0 where
   only : (q : Part) → Memᴰ q rs → Memᴰ q taken ⊎ (HasOddPart n q.value × (choice ≡ q.choice) × Without taken q.value)
   few : length rs ≤ suc (length taken)
 
-tap-taken : (n : ℤ) (choice : ℕ) (taken : List Part) (x : Parts) → InOrder taken → parts_of n ≡ x → TapTaken n choice taken (insertTap x choice taken)
-unfolding insertTap
-tap-taken n choice taken no-odd-part o e = record {
+tap_taken : (n : ℤ) (choice : ℕ) (taken : List Part) (x : Parts) → InOrder taken → parts_of n ≡ x → TapTaken n choice taken (insert_tap x choice taken)
+unfolding insert_tap
+tap_taken n choice taken no_odd_part o e = record {
   ordered = o;
   old = λ q m. m;
-  new = λ v h. absurd (no-parts h.0 v h.1 (sym e ∙ h.2));
+  new = λ v h. absurd (no_parts h.0 v h.1 (sym e ∙ h.2));
   only = λ q m. inl m;
   few = omega arith;
 }
-tap-taken n choice taken (parts s u t) o e =
+tap_taken n choice taken (parts s u t) o e =
     let p : Part = record { value = u; choice = choice } in
     let r = inserted p taken o in
     record {
@@ -114,8 +114,8 @@ tap-taken n choice taken (parts s u t) o e =
   where
     from : (q : Part) → q ≡ record { value = u; choice = choice } → Without taken u → HasOddPart n q.value × (choice ≡ q.choice) × Without taken q.value
     from q h f =
-        let v-is : q.value ≡ u = ap (λ (y : Part). y.value) h in
-        ((s, t, e ∙ ap (λ (v : ℕ). parts s v t) (sym v-is)), sym (ap (λ (y : Part). y.choice) h), λ y m k. f y m (k ∙ v-is))
+        let v_is : q.value ≡ u = ap (λ (y : Part). y.value) h in
+        ((s, t, e ∙ ap (λ (v : ℕ). parts s v t) (sym v_is)), sym (ap (λ (y : Part). y.choice) h), λ y m k. f y m (k ∙ v_is))
 
 -- ---- all taps
 record Taken (taken : List Part) (cs : List ℤ) (ks : List ℕ) (rs : List Part) : Type 0 where
@@ -139,27 +139,27 @@ taken_more n cs k ks taken middle rs t r = record {
     every (suc i) v l h = r.every i v (le_of_suc-le-suc l) h
 
     here : (q : Part) → HasOddPart n q.value → k ≡ q.choice → Earliest (n ∷ cs) (k ∷ ks) q
-    here q h e = record { tap = 0; within = suc-le-suc zero-le; has = h; choice = e; not-before = λ j l. absurd (not-suc-le-zero l) }
+    here q h e = record { tap = 0; within = suc-le-suc zero-le; has = h; choice = e; not_before = λ j l. absurd (not-suc-le-zero l) }
 
     later : (q : Part) → Earliest cs ks q → Without middle q.value → Earliest (n ∷ cs) (k ∷ ks) q
-    later q w f = record { tap = suc w.tap; within = suc-le-suc w.within; has = w.has; choice = w.choice; not-before = not-before }
+    later q w f = record { tap = suc w.tap; within = suc-le-suc w.within; has = w.has; choice = w.choice; not_before = not_before }
       where
-        not-before : (j : ℕ) → j < suc w.tap → HasOddPart (get_or (n ∷ cs) j (pos 0)) q.value → ⊥
-        not-before zero l h = let x = t.new q.value h in f x.0 x.1 x.2
-        not-before (suc j) l h = w.not-before j (le_of_suc-le-suc l) h
+        not_before : (j : ℕ) → j < suc w.tap → HasOddPart (get_or (n ∷ cs) j (pos 0)) q.value → ⊥
+        not_before zero l h = let x = t.new q.value h in f x.0 x.1 x.2
+        not_before (suc j) l h = w.not_before j (le_of_suc-le-suc l) h
 
-taken-all : (taken : List Part) (cs : List ℤ) (ks : List ℕ) → InOrder taken → length cs ≤ length ks → Taken taken cs ks (takenFrom taken cs ks)
-unfolding takenFrom
-taken-all taken [] ks o l = record { ordered = o; old = λ q m. m; every = λ i v h. absurd (not-suc-le-zero h); only = λ q m. inl m; few = omega arith }
-taken-all taken (n ∷ cs) [] o l = absurd (not-suc-le-zero l)
-taken-all taken (n ∷ cs) (k ∷ ks) o l =
-    let t = tap-taken n k taken (parts_of n) o refl in
-    taken_more n cs k ks taken (insertTap (parts_of n) k taken) _ t (taken-all (insertTap (parts_of n) k taken) cs ks t.ordered (le_of_suc-le-suc l))
+taken_all : (taken : List Part) (cs : List ℤ) (ks : List ℕ) → InOrder taken → length cs ≤ length ks → Taken taken cs ks (taken_from taken cs ks)
+unfolding taken_from
+taken_all taken [] ks o l = record { ordered = o; old = λ q m. m; every = λ i v h. absurd (not-suc-le-zero h); only = λ q m. inl m; few = omega arith }
+taken_all taken (n ∷ cs) [] o l = absurd (not-suc-le-zero l)
+taken_all taken (n ∷ cs) (k ∷ ks) o l =
+    let t = tap_taken n k taken (parts_of n) o refl in
+    taken_more n cs k ks taken (insert_tap (parts_of n) k taken) _ t (taken_all (insert_tap (parts_of n) k taken) cs ks t.ordered (le_of_suc-le-suc l))
 
 -- ---- the theorem
-pub parts-in-order : (coefficients : List ℤ) (choices : List ℕ) → length coefficients ≤ length choices → PartsInOrder coefficients choices (partsToBuild coefficients choices)
-parts-in-order cs ks l =
-    let t = taken-all [] cs ks tt l in
+pub parts_in_order : (coefficients : List ℤ) (choices : List ℕ) → length coefficients ≤ length choices → PartsInOrder coefficients choices (parts_to_build coefficients choices)
+parts_in_order cs ks l =
+    let t = taken_all [] cs ks tt l in
     record {
       in_order = t.ordered;
       every = t.every;

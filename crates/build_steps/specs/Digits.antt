@@ -4,6 +4,6 @@ use Rattle.signed_digit.specs.Weight.{weight}
 use Rattle.signed_digit.specs.CanonicalForm.{canonical}
 
 -- N_b of source document 004: how many digits of the coefficients are nonzero, each coefficient in canonical form
-unfoldable pub nonzeroDigits : List ℤ → ℕ
-nonzeroDigits [] = 0
-nonzeroDigits (n ∷ ns) = weight (canonical 32 n) + nonzeroDigits ns
+unfoldable pub nonzero_digits : List ℤ → ℕ
+nonzero_digits [] = 0
+nonzero_digits (n ∷ ns) = weight (canonical 32 n) + nonzero_digits ns

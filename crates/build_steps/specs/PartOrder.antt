@@ -4,12 +4,12 @@ use Rattle.std.specs.Prelude.{◌≡◌, ℕ, ◌≤◌, ◌<◌, ℤ, pos, leng
 use mathlib.Core.List.{List, [], ◌∷◌, Memᴰ}
 use Rattle.signed_digit.specs.Reduction.{Sign}
 use Rattle.coefficient.specs.Parts.{parts, parts_of}
-use Rattle.build_steps.specs.Parts.{Part, leastWeight}
+use Rattle.build_steps.specs.Parts.{Part, least_weight_of}
 
 -- v is built before w: "by least weight, then by smaller value"
 pub data Before (v w : ℕ) : Type 0 where
-  lighter : leastWeight v < leastWeight w → Before v w
-  smaller : leastWeight v ≡ leastWeight w → v < w → Before v w
+  lighter : least_weight_of v < least_weight_of w → Before v w
+  smaller : least_weight_of v ≡ least_weight_of w → v < w → Before v w
 
 -- each part is built before every one after it
 abbrev pub InOrder : List Part → Type 0
@@ -26,7 +26,7 @@ pub record Earliest (coefficients : List ℤ) (choices : List ℕ) (p : Part) : 
   pub within : tap < length coefficients
   pub has : HasOddPart (get_or coefficients tap (pos 0)) p.value
   pub choice : get_or choices tap 0 ≡ p.choice
-  pub not-before : (j : ℕ) → j < tap → HasOddPart (get_or coefficients j (pos 0)) p.value → ⊥
+  pub not_before : (j : ℕ) → j < tap → HasOddPart (get_or coefficients j (pos 0)) p.value → ⊥
 
 -- "take the distinct odd parts by least weight, then by smaller value": these and no others, in order
 pub record PartsInOrder (coefficients : List ℤ) (choices : List ℕ) (ps : List Part) : Type 0 where

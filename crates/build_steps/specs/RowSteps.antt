@@ -2,24 +2,24 @@
 use Rattle.std.specs.Prelude.{◌≡◌, cond, List, [], ◌∷◌, ◌++◌, ◌⊎◌, ℕ, ◌+◌, ◌*◌, ◌-◌, ◌%◌, ◌^◌, ◌≤◌, ◌<◌, eqb, ℤ, pos, length, get_or, take}
 use Rattle.refusal.specs.Answer.{nowhere, at_place}
 use Rattle.network.specs.declared.Row.{Row}
-use Rattle.network.specs.Rows.{plus, minus, row_in, firstRow}
+use Rattle.network.specs.Rows.{plus, minus, row_in, first_row_of}
 use Rattle.network.specs.RowRule.{LaterRow, RowRule}
 use Rattle.build_steps.specs.Parts.{Part}
 use Rattle.build_steps.specs.PartOrder.{HasOddPart}
-use Rattle.build_steps.specs.Search.{rowWith, fit, firstFit}
-use Rattle.build_steps.specs.Chain.{chosenForm, chained}
+use Rattle.build_steps.specs.Search.{row_with, fit, first_fit_of}
+use Rattle.build_steps.specs.Chain.{chosen_form_of, chained}
 
 -- ---- step 2
 
 -- the place of a sign "in the order `+`, `-`, `r`"
-abbrev pub signPlace : ℕ → ℕ
-signPlace sign = cond (eqb sign plus) 0 (cond (eqb sign minus) 1 2)
+abbrev pub sign_place : ℕ → ℕ
+sign_place sign = cond (eqb sign plus) 0 (cond (eqb sign minus) 1 2)
 
 -- r comes no later than q: "lowest left, then lowest shift, then sign"
 pub data NoLater (r q : Row) : Type 0 where
-  lower-left : r.left < q.left → NoLater r q
-  lower-shift : r.left ≡ q.left → r.shift < q.shift → NoLater r q
-  no-later-sign : r.left ≡ q.left → r.shift ≡ q.shift → signPlace r.sign ≤ signPlace q.sign → NoLater r q
+  lower_left : r.left < q.left → NoLater r q
+  lower_shift : r.left ≡ q.left → r.shift < q.shift → NoLater r q
+  no_later_sign : r.left ≡ q.left → r.shift ≡ q.shift → sign_place r.sign ≤ sign_place q.sign → NoLater r q
 
 -- r is the first of the new rows of value v from these rows
 pub record FirstFit (rows : List Row) (v : ℕ) (r : Row) : Type 0 where
@@ -31,29 +31,29 @@ pub record FirstFit (rows : List Row) (v : ℕ) (r : Row) : Type 0 where
 
 -- where a new row comes from: step 2, "The first fit is added"; or step 3, "v = 2^gap·v ± 1 with row 0 on the right"
 pub data Made (rows : List Row) (r : Row) : Type 0 where
-  by-search : firstFit rows r.value ≡ fit r → Made rows r
-  by-sum : (v : ℕ) → rowWith rows v ≡ at_place r.left → r.right ≡ 0 → r.sign ≡ plus → r.value ≡ 2 ^ r.shift * v + 1 → Made rows r
-  by_difference : (v : ℕ) → rowWith rows v ≡ at_place r.left → r.right ≡ 0 → r.sign ≡ minus → r.value ≡ 2 ^ r.shift * v - 1 → Made rows r
+  by_search : first_fit_of rows r.value ≡ fit r → Made rows r
+  by_sum : (v : ℕ) → row_with rows v ≡ at_place r.left → r.right ≡ 0 → r.sign ≡ plus → r.value ≡ 2 ^ r.shift * v + 1 → Made rows r
+  by_difference : (v : ℕ) → row_with rows v ≡ at_place r.left → r.right ≡ 0 → r.sign ≡ minus → r.value ≡ 2 ^ r.shift * v - 1 → Made rows r
 
 -- row 0 and rows that came one by one, each keeping the row rule over the rows before it and bringing a value that none of them has
 pub data Lawful : List Row → Type 0 where
-  row-0 : Lawful (firstRow ∷ [])
-  one_more : {rows : List Row} {r : Row} → Lawful rows → LaterRow rows (length rows) r → rowWith rows r.value ≡ nowhere → Made rows r → Lawful (rows ++ (r ∷ []))
+  row_0 : Lawful (first_row_of ∷ [])
+  one_more : {rows : List Row} {r : Row} → Lawful rows → LaterRow rows (length rows) r → row_with rows r.value ≡ nowhere → Made rows r → Lawful (rows ++ (r ∷ []))
 
 -- ---- one odd part
 
 -- "a row has this value"
 abbrev pub HasRow : List Row → ℕ → Type 0
-HasRow rows v = (i : ℕ) × (rowWith rows v ≡ at_place i)
+HasRow rows v = (i : ℕ) × (row_with rows v ≡ at_place i)
 
 pub record TheStep (rows : List Row) (p : Part) (after : List Row) : Type 0 where
   -- "If a row has this value, use it."
   pub used : HasRow rows p.value → after ≡ rows
   -- "Else search for one new row from existing rows .. The first fit is added"
-  pub found : rowWith rows p.value ≡ nowhere → (r : Row) → FirstFit rows p.value r → after ≡ rows ++ (r ∷ [])
+  pub found : row_with rows p.value ≡ nowhere → (r : Row) → FirstFit rows p.value r → after ≡ rows ++ (r ∷ [])
   -- "Only if none fits, read the chosen form"
-  pub read : rowWith rows p.value ≡ nowhere → ((q : Row) → q.value ≡ p.value → LaterRow rows (length rows) q → ⊥)
-      → after ≡ chained rows (chosenForm p.value p.choice)
+  pub read : row_with rows p.value ≡ nowhere → ((q : Row) → q.value ≡ p.value → LaterRow rows (length rows) q → ⊥)
+      → after ≡ chained rows (chosen_form_of p.value p.choice)
 
 -- `grown` is `rows` and at most `most` rows more, and has a row of value v
 pub record Growth (rows grown : List Row) (v most : ℕ) : Type 0 where
@@ -72,8 +72,8 @@ pub record ChainRow (rows : List Row) (r : Row) : Type 0 where
 
 -- step 2 or step 3
 pub data LaterBy (rows : List Row) (r : Row) : Type 0 where
-  first-fit : FirstFit rows r.value r → LaterBy rows r
-  chain-row : ChainRow rows r → LaterBy rows r
+  first_fit_lem : FirstFit rows r.value r → LaterBy rows r
+  chain_row : ChainRow rows r → LaterBy rows r
 
 -- "A row's value is odd, from 1 to 2^31 - 1"
 pub record RowValue (v : ℕ) : Type 0 where
@@ -82,8 +82,8 @@ pub record RowValue (v : ℕ) : Type 0 where
   pub to : v ≤ 2 ^ 31 - 1
 
 -- the most rows of a network that is built: row 0, and at most 15 rows for each of 256 odd parts
-abbrev pub mostRows : ℕ
-mostRows = 1 + 256 * 15
+abbrev pub most_rows : ℕ
+most_rows = 1 + 256 * 15
 
 pub record TheRows (coefficients : List ℤ) (rows : List Row) : Type 0 where
   pub rule : (i : ℕ) → i < length rows → RowRule rows i
@@ -94,4 +94,4 @@ pub record TheRows (coefficients : List ℤ) (rows : List Row) : Type 0 where
   pub later : (i : ℕ) → 0 < i → i < length rows → LaterBy (take i rows) (row_in rows i)
   -- every odd part has a row
   pub has : (i v : ℕ) → i < length coefficients → HasOddPart (get_or coefficients i (pos 0)) v → HasRow rows v
-  pub few : length rows ≤ mostRows
+  pub few : length rows ≤ most_rows

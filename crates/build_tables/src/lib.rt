@@ -1,10 +1,10 @@
 // A network written into its two tables.
 ghost use Rattle.std.specs.Prelude.{◌≡◌, map, ◌*◌, ◌≤◌, length, take};
-ghost use Rattle.network.specs.Rows.{tapWords};
-ghost use Rattle.build_steps.specs.Parts.{partsToBuild};
-ghost use Rattle.build_steps.specs.Steps.{builtRows};
+ghost use Rattle.network.specs.Rows.{tap_words};
+ghost use Rattle.build_steps.specs.Parts.{parts_to_build};
+ghost use Rattle.build_steps.specs.Steps.{built_rows};
 ghost use Rattle.build_steps.specs.CanBuild.{CanBuildInto};
-ghost use Rattle.build_odd_parts.specs.Inner.{partIn, Ordered};
+ghost use Rattle.build_odd_parts.specs.Inner.{part_in, Ordered};
 ghost use Rattle.build_rows.specs.Inner.{CanStart};
 ghost use Rattle.build_tables.specs.Inner.{Written};
 
@@ -22,8 +22,8 @@ fn write_network(
     marks: &mut [u8],
 ) -> usize
     requires can_start { CanStart keys.now m choices.now rows.old heads.old links.old values.old marks.old }
-    requires keys_value { map (partIn choices.now) (take m keys.now) ≡ partsToBuild coefficients.now choices.now }
-    requires coefficients_in_bounds { tapWords * length coefficients.now ≤ length taps.old }
+    requires keys_value { map (part_in choices.now) (take m keys.now) ≡ parts_to_build coefficients.now choices.now }
+    requires coefficients_in_bounds { tap_words * length coefficients.now ≤ length taps.old }
     ensures { Written coefficients.now choices.now rows.old taps.old
         rows.new taps.new result }
 {
@@ -42,7 +42,7 @@ fn within_64(
     taps: &mut [u32],
 ) -> usize
     requires can_build_into { CanBuildInto coefficients.now choices.now rows.old taps.old × Ordered coefficients.now keys.now m × (m ≤ length keys.now) }
-    requires choices_len_bound { length (builtRows coefficients.now choices.now) ≤ 64 }
+    requires choices_len_bound { length (built_rows coefficients.now choices.now) ≤ 64 }
     ensures { Written coefficients.now choices.now rows.old taps.old
         rows.new taps.new result }
 {
@@ -74,7 +74,7 @@ fn within_512(
     taps: &mut [u32],
 ) -> usize
     requires can_build_into { CanBuildInto coefficients.now choices.now rows.old taps.old × Ordered coefficients.now keys.now m × (m ≤ length keys.now) }
-    requires choices_len_bound { length (builtRows coefficients.now choices.now) ≤ 512 }
+    requires choices_len_bound { length (built_rows coefficients.now choices.now) ≤ 512 }
     ensures { Written coefficients.now choices.now rows.old taps.old
         rows.new taps.new result }
 {
@@ -106,7 +106,7 @@ fn within_3072(
     taps: &mut [u32],
 ) -> usize
     requires can_build_into { CanBuildInto coefficients.now choices.now rows.old taps.old × Ordered coefficients.now keys.now m × (m ≤ length keys.now) }
-    requires choices_len_bound { length (builtRows coefficients.now choices.now) ≤ 3072 }
+    requires choices_len_bound { length (built_rows coefficients.now choices.now) ≤ 3072 }
     ensures { Written coefficients.now choices.now rows.old taps.old
         rows.new taps.new result }
 {
@@ -139,7 +139,7 @@ fn within_3841(
     taps: &mut [u32],
 ) -> usize
     requires can_build_into { CanBuildInto coefficients.now choices.now rows.old taps.old × Ordered coefficients.now keys.now m × (m ≤ length keys.now) }
-    requires choices_len_bound { length (builtRows coefficients.now choices.now) ≤ 3841 }
+    requires choices_len_bound { length (built_rows coefficients.now choices.now) ≤ 3841 }
     ensures { Written coefficients.now choices.now rows.old taps.old
         rows.new taps.new result }
 {

@@ -1,12 +1,12 @@
 // The tap rows of a built network, over rows with their index.
 ghost use Rattle.std.specs.Prelude.{◌≡◌, ◌*◌, ◌≤◌, length};
-ghost use Rattle.refusal.specs.Answer.{placeOr};
-ghost use Rattle.coefficient.specs.Parts.{parts_of, signIf};
-ghost use Rattle.network.specs.Rows.{rows_of, tapWords, wordsOfTapRows};
-ghost use Rattle.build_steps.specs.Search.{rowWith};
-ghost use Rattle.build_steps.specs.TapRows.{sign_code, tapRowOf};
+ghost use Rattle.refusal.specs.Answer.{place_or};
+ghost use Rattle.coefficient.specs.Parts.{parts_of, sign_if};
+ghost use Rattle.network.specs.Rows.{rows_of, tap_words, words_of_tap_rows};
+ghost use Rattle.build_steps.specs.Search.{row_with};
+ghost use Rattle.build_steps.specs.TapRows.{sign_code, tap_row_of};
 ghost use Rattle.build_index.specs.Inner.{Indexed};
-ghost use Rattle.build_tap_rows.specs.Inner.{over, tapRowsFor};
+ghost use Rattle.build_tap_rows.specs.Inner.{over, tap_rows_for};
 
 use build_index::Found;
 use coefficient::Reduced;
@@ -14,7 +14,7 @@ use network::TapRow;
 
 // The sign as it is stored.
 fn sign_code(negative: bool) -> u32
-    ensures { result ≡ sign_code (signIf negative) }
+    ensures { result ≡ sign_code (sign_if negative) }
 {
     if negative {
         network::MINUS
@@ -26,7 +26,7 @@ fn sign_code(negative: bool) -> u32
 // The row that has the value x, 0 where there is none.
 fn row_of(table: &[u32], heads: &[u16], links: &[u16], n: usize, x: u32) -> u32
     requires { Indexed table.now heads.now links.now n }
-    ensures { result ≡ placeOr 0 (rowWith (rows_of table.now n) x) }
+    ensures { result ≡ place_or 0 (row_with (rows_of table.now n) x) }
 {
     match build_index::find(table, heads, links, n, x) {
         Found::At(i) => i as u32,
@@ -36,7 +36,7 @@ fn row_of(table: &[u32], heads: &[u16], links: &[u16], n: usize, x: u32) -> u32
 
 fn tap_row(table: &[u32], heads: &[u16], links: &[u16], n: usize, coefficient: i32) -> TapRow
     requires { Indexed table.now heads.now links.now n }
-    ensures { result ≡ tapRowOf (rows_of table.now n) (parts_of coefficient) }
+    ensures { result ≡ tap_row_of (rows_of table.now n) (parts_of coefficient) }
 {
     match coefficient::reduce(coefficient) {
         Reduced::Zero => network::EMPTY,
@@ -57,8 +57,8 @@ pub fn write_tap_rows(
     n: usize,
     taps: &mut [u32],
 )
-    requires { Indexed table.now heads.now links.now n × (tapWords * length coefficients.now ≤ length taps.old) }
-    ensures { taps.new ≡ over (wordsOfTapRows (tapRowsFor (rows_of table.now n) coefficients.now)) taps.old }
+    requires { Indexed table.now heads.now links.now n × (tap_words * length coefficients.now ≤ length taps.old) }
+    ensures { taps.new ≡ over (words_of_tap_rows (tap_rows_for (rows_of table.now n) coefficients.now)) taps.old }
 {
     let mut j: usize = 0;
     while j < coefficients.len() {

@@ -1,14 +1,14 @@
 -- The claims of specs/Claims.antt, proved. Assumes nothing.
 use Rattle.coefficient.specs.Claims.{CoefficientClaims}
-use Rattle.coefficient.proofs.TheReduction.{answer-right}
-use Rattle.coefficient.proofs.TheStretch.{stretch-found, stretch-own}
-use Rattle.coefficient.proofs.Figures.{reduction-figures, trimmed-figures}
+use Rattle.coefficient.proofs.TheReduction.{answer_right}
+use Rattle.coefficient.proofs.TheStretch.{stretch_found, stretch_own}
+use Rattle.coefficient.proofs.Figures.{reduction_figures, trimmed_figures}
 
-pub coefficient-claims : CoefficientClaims
-coefficient-claims = record {
-  reduction-right = answer-right;
-  stretch-found = stretch-found;
-  stretch-own = stretch-own;
-  reductions = reduction-figures;
-  stretches = trimmed-figures;
+pub coefficient_claims : CoefficientClaims
+coefficient_claims = record {
+  reduction_right = answer_right;
+  stretch_found = stretch_found;
+  stretch_own = stretch_own;
+  reductions = reduction_figures;
+  stretches = trimmed_figures;
 }

@@ -9,8 +9,8 @@ use native.Mathlib.Omega.{arith}
 use lib.IntN.{ℤ, pos, negsuc, nat_abs}
 use lib.ListN.{get_or}
 use Rattle.word.specs.Zero.{is_zero}
-use Rattle.word.proofs.Zero.{nonzero-is}
-use Rattle.coefficient.specs.Stretch.{firstFrom, start_of, endWith, end_of}
+use Rattle.word.proofs.Zero.{nonzero_is}
+use Rattle.coefficient.specs.Stretch.{first_from, start_of, end_with, end_of}
 use Rattle.coefficient.specs.Claims.{AllZero}
 
 -- a is the place of the first nonzero
@@ -34,15 +34,15 @@ zero_or_not (pos (suc m)) = inr (λ e. omega (arith, ap nat_abs e))
 zero_or_not (negsuc m) = inr (λ e. omega (arith, ap nat_abs e))
 
 module _ (x : ℤ) (xs : List ℤ) where
-  zeros-on : x ≡ pos 0 → AllZero xs → AllZero (x ∷ xs)
-  zeros-on z a = record { zeros = go }
+  zeros_on : x ≡ pos 0 → AllZero xs → AllZero (x ∷ xs)
+  zeros_on z a = record { zeros = go }
     where
       go : (k : ℕ) → get_or (x ∷ xs) k (pos 0) ≡ pos 0
       go zero = z
       go (suc k) = a.zeros k
 
-  first-here : x ≢ pos 0 → First (x ∷ xs) 0
-  first-here n = record { nonzero = n; before = λ k l. absurd (omega arith) }
+  first_here : x ≢ pos 0 → First (x ∷ xs) 0
+  first_here n = record { nonzero = n; before = λ k l. absurd (omega arith) }
 
   first_on : (a : ℕ) → x ≡ pos 0 → First xs a → First (x ∷ xs) (suc a)
   first_on a z f = record { nonzero = f.nonzero; before = go }
@@ -51,8 +51,8 @@ module _ (x : ℤ) (xs : List ℤ) where
       go zero l = z
       go (suc k) l = f.before k (omega arith)
 
-  last-here : x ≢ pos 0 → AllZero xs → Last (x ∷ xs) 0
-  last-here n a = record { nonzero = n; after = go }
+  last_here : x ≢ pos 0 → AllZero xs → Last (x ∷ xs) 0
+  last_here n a = record { nonzero = n; after = go }
     where
       go : (k : ℕ) → 0 < k → get_or (x ∷ xs) k (pos 0) ≡ pos 0
       go zero l = absurd (omega arith)
@@ -65,51 +65,51 @@ module _ (x : ℤ) (xs : List ℤ) where
       go zero m = absurd (omega arith)
       go (suc k) m = l.after k (omega arith)
 
-  nonzeros-on : (x ≡ pos 0) ⊎ (x ≢ pos 0) → Nonzeros xs → Nonzeros (x ∷ xs)
-  nonzeros-on (inl z) (none a) = none (zeros-on z a)
-  nonzeros-on (inr n) (none a) = some 0 0 (first-here n) (last-here n a)
-  nonzeros-on (inl z) (some a b f l) = some (suc a) (suc b) (first_on a z f) (last_on b l)
-  nonzeros-on (inr n) (some a b f l) = some 0 (suc b) (first-here n) (last_on b l)
+  nonzeros_on : (x ≡ pos 0) ⊎ (x ≢ pos 0) → Nonzeros xs → Nonzeros (x ∷ xs)
+  nonzeros_on (inl z) (none a) = none (zeros_on z a)
+  nonzeros_on (inr n) (none a) = some 0 0 (first_here n) (last_here n a)
+  nonzeros_on (inl z) (some a b f l) = some (suc a) (suc b) (first_on a z f) (last_on b l)
+  nonzeros_on (inr n) (some a b f l) = some 0 (suc b) (first_here n) (last_on b l)
 
 pub nonzeros : (h : List ℤ) → Nonzeros h
 nonzeros [] = none (record { zeros = λ k. refl })
-nonzeros (x ∷ xs) = nonzeros-on x xs (zero_or_not x) (nonzeros xs)
+nonzeros (x ∷ xs) = nonzeros_on x xs (zero_or_not x) (nonzeros xs)
 
 -- ---- where the definitions have them
 rest : (x : ℤ) (xs : List ℤ) → AllZero (x ∷ xs) → AllZero xs
 rest x xs a = record { zeros = λ k. a.zeros (suc k) }
 
-first-none : (h : List ℤ) (k : ℕ) → AllZero h → firstFrom k h ≡ 0
-unfolding firstFrom
-first-none [] k a = refl
-first-none (x ∷ xs) k a = ap (λ (z : ℤ). cond (is_zero z) (firstFrom (suc k) xs) k) (a.zeros 0) ∙ first-none xs (suc k) (rest x xs a)
+first_none : (h : List ℤ) (k : ℕ) → AllZero h → first_from k h ≡ 0
+unfolding first_from
+first_none [] k a = refl
+first_none (x ∷ xs) k a = ap (λ (z : ℤ). cond (is_zero z) (first_from (suc k) xs) k) (a.zeros 0) ∙ first_none xs (suc k) (rest x xs a)
 
 pub start_none : (h : List ℤ) → AllZero h → start_of h ≡ 0
-start_none h a = first-none h 0 a
+start_none h a = first_none h 0 a
 
 pub end_none : (h : List ℤ) → AllZero h → end_of h ≡ 0
 unfolding end_of
 end_none [] a = refl
-end_none (x ∷ xs) a = ap (endWith x) (end_none xs (rest x xs a)) ∙ ap (λ (z : ℤ). endWith z 0) (a.zeros 0)
+end_none (x ∷ xs) a = ap (end_with x) (end_none xs (rest x xs a)) ∙ ap (λ (z : ℤ). end_with z 0) (a.zeros 0)
 
-first-is : (h : List ℤ) (k a : ℕ) → First h a → firstFrom k h ≡ k + a
-unfolding firstFrom
-first-is [] k a f = absurd (f.nonzero refl)
-first-is (x ∷ xs) k zero f = rw (nonzero-is x f.nonzero) (omega arith)
-first-is (x ∷ xs) k (suc a) f =
+first_is : (h : List ℤ) (k a : ℕ) → First h a → first_from k h ≡ k + a
+unfolding first_from
+first_is [] k a f = absurd (f.nonzero refl)
+first_is (x ∷ xs) k zero f = rw (nonzero_is x f.nonzero) (omega arith)
+first_is (x ∷ xs) k (suc a) f =
     let g : First xs a = record { nonzero = f.nonzero; before = λ i l. f.before (suc i) (omega arith) } in
-    let i = first-is xs (suc k) a g in
-    ap (λ (z : ℤ). cond (is_zero z) (firstFrom (suc k) xs) k) (f.before 0 (omega arith)) ∙ omega arith
+    let i = first_is xs (suc k) a g in
+    ap (λ (z : ℤ). cond (is_zero z) (first_from (suc k) xs) k) (f.before 0 (omega arith)) ∙ omega arith
 
 pub start_is : (h : List ℤ) (a : ℕ) → First h a → start_of h ≡ a
-start_is h a f = first-is h 0 a f ∙ zero-add a
+start_is h a f = first_is h 0 a f ∙ zero-add a
 
 pub end_is : (h : List ℤ) (b : ℕ) → Last h b → end_of h ≡ suc b
 unfolding end_of
 end_is [] b l = absurd (l.nonzero refl)
 end_is (x ∷ xs) zero l =
     let a : AllZero xs = record { zeros = λ k. l.after (suc k) (omega arith) } in
-    ap (endWith x) (end_none xs a) ∙ rw (nonzero-is x l.nonzero)
+    ap (end_with x) (end_none xs a) ∙ rw (nonzero_is x l.nonzero)
 end_is (x ∷ xs) (suc b) l =
     let m : Last xs b = record { nonzero = l.nonzero; after = λ k g. l.after (suc k) (omega arith) } in
-    ap (endWith x) (end_is xs b m)
+    ap (end_with x) (end_is xs b m)

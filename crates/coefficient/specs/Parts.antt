@@ -16,26 +16,26 @@ unfoldable pub shift_of : ℤ → ℕ
 shift_of n = count_trailing_zeros (nat_abs n) (nat_abs n)
 
 -- "odd part": what is left of the magnitude when 2^shift is taken out
-unfoldable pub oddPartOf : ℤ → ℕ
-oddPartOf n = nat_abs n / 2 ^ shift_of n
+unfoldable pub odd_part_of : ℤ → ℕ
+odd_part_of n = nat_abs n / 2 ^ shift_of n
 
 pub data Parts : Type 0 where
-  no-odd-part : Parts
+  no_odd_part : Parts
   parts : Sign → ℕ → ℕ → Parts
 
 -- the sign, odd part and shift of a coefficient
 unfoldable pub parts_of : ℤ → Parts
-parts_of n = cond (is_zero n) no-odd-part (parts (sign_of n) (oddPartOf n) (shift_of n))
+parts_of n = cond (is_zero n) no_odd_part (parts (sign_of n) (odd_part_of n) (shift_of n))
 
 -- the sign that the field `negative` stands for
-abbrev pub signIf : Bool → Sign
-signIf true = negative
-signIf false = positive
+abbrev pub sign_if : Bool → Sign
+sign_if true = negative
+sign_if false = positive
 
 -- what each case of `Reduced` says: no odd part, or the sign, the odd part and the shift
 abbrev pub parts_in : Reduced → Parts
-parts_in Zero = no-odd-part
-parts_in (Split r) = parts (signIf r.negative) r.odd_part r.shift
+parts_in Zero = no_odd_part
+parts_in (Split r) = parts (sign_if r.negative) r.odd_part r.shift
 
 -- p are the parts of n: the contract of `reduce`, and what every claim about it speaks of
 pub record ReducedTo (n : ℤ) (p : Parts) : Type 0 where

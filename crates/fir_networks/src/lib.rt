@@ -2,7 +2,7 @@
 // declared in include/fir.h.
 ghost use Rattle.std.specs.Prelude.{◌≡◌};
 ghost use Rattle.network_check.specs.Checked.{answer_of};
-ghost use Rattle.fir_words.specs.Words.{refusalWord};
+ghost use Rattle.fir_words.specs.Words.{refusal_word_of};
 ghost use Rattle.fir_networks.specs.Check.{CheckedWord, CoefficientsWord};
 ghost use Rattle.fir_networks.specs.Run.{RanWord};
 
@@ -12,7 +12,7 @@ pub use building::fir_build;
 use network_check::Checked;
 
 fn checked_word(answer: Checked) -> u64
-    ensures { result ≡ refusalWord (answer_of answer) }
+    ensures { result ≡ refusal_word_of (answer_of answer) }
 {
     match answer {
         Checked::Passed => 0,

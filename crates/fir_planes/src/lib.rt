@@ -2,13 +2,13 @@
 // include/fir.h.
 ghost use Rattle.std.specs.Prelude.{◌≡◌};
 ghost use Rattle.plane_grid.specs.Answer.{answer_of};
-ghost use Rattle.fir_words.specs.Words.{refusalWord};
+ghost use Rattle.fir_words.specs.Words.{refusal_word_of};
 ghost use Rattle.fir_planes.specs.Planes.{PlanesWrittenWord, PlanesReadWord};
 
 use plane_grid::Converted;
 
 fn converted_word(answer: Converted) -> u64
-    ensures { result ≡ refusalWord (answer_of answer) }
+    ensures { result ≡ refusal_word_of (answer_of answer) }
 {
     match answer {
         Converted::Done => 0,

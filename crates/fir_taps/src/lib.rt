@@ -1,7 +1,7 @@
 // Rounding taps: functions for C, declared in include/fir.h.
 ghost use Rattle.std.specs.Prelude.{◌≡◌};
 ghost use Rattle.tap.specs.Rounding as Tap;
-ghost use Rattle.fir_taps.specs.Rounding.{tapWord, TapRoundedWord, TapsRoundedWord};
+ghost use Rattle.fir_taps.specs.Rounding.{tap_word_of, TapRoundedWord, TapsRoundedWord};
 
 use fir_words::refusal_word;
 use tap::RoundedTap;
@@ -9,7 +9,7 @@ use tap::pattern::of_bits;
 use tap_set::RoundedTaps;
 
 fn tap_word(tap: RoundedTap) -> u64
-    ensures { result ≡ tapWord (Tap.answer_of tap) }
+    ensures { result ≡ tap_word_of (Tap.answer_of tap) }
 {
     match tap {
         RoundedTap::Exact(n) => word::pattern(n) as u64,

@@ -33,9 +33,9 @@ second (d ∷ []) = nought
 second (d ∷ e ∷ s) = e
 
 -- the mask of the links of one kind, at the place of their lower digit
-abbrev pub linksOf : (Digit → Digit → ℕ) → DigitString → ℕ
-linksOf kind [] = 0
-linksOf kind (d ∷ s) = kind d (second s) + 2 * linksOf kind s
+abbrev pub links_of : (Digit → Digit → ℕ) → DigitString → ℕ
+links_of kind [] = 0
+links_of kind (d ∷ s) = kind d (second s) + 2 * links_of kind s
 
 -- whether some form takes the link from d to e: any between opposite digits, one between equal digits where some form takes the link above
 abbrev pub joined : Digit → Digit → ℕ → ℕ
@@ -53,9 +53,9 @@ takes d (e ∷ []) = 0
 takes d (e ∷ f ∷ s) = joined d f (takes f s)
 
 -- the mask of the links that some form takes
-abbrev pub takenLinks : DigitString → ℕ
-takenLinks [] = 0
-takenLinks (d ∷ s) = takes d s + 2 * takenLinks s
+abbrev pub taken_links : DigitString → ℕ
+taken_links [] = 0
+taken_links (d ∷ s) = takes d s + 2 * taken_links s
 
 -- a mask with an offset, modulo 2^32
 abbrev pub shifted : ℕ → ℕ → ℕ

@@ -1,6 +1,6 @@
 // Every minimal form of a coefficient, in order, and their number.
 ghost use Rattle.std.specs.Prelude.{◌≡◌, ◌+◌, ◌-◌, ◌/◌, ◌%◌, ◌^◌, ◌<◌, ◌≤◌, ◌++◌, map, length, drop};
-ghost use Rattle.signed_digit.specs.Masks.{plusMask, minusMask};
+ghost use Rattle.signed_digit.specs.Masks.{plus_mask, minus_mask};
 ghost use Rattle.signed_digit.specs.Forms.{listing};
 ghost use Rattle.signed_digit.specs.Listed.{FormsListed, FormsCounted};
 ghost use Rattle.form_links.specs.Inner.{grown};
@@ -58,8 +58,8 @@ pub fn form_count(n: i32) -> u32
 fn list(n: i32, plus: &mut [u32], minus: &mut [u32]) -> usize
     requires { (1597 ≤ length plus.old) × (1597 ≤ length minus.old) }
     ensures count { result ≡ length (listing 32 n) }
-    ensures plus { plus.new ≡ map plusMask (listing 32 n) ++ drop (length (listing 32 n)) plus.old }
-    ensures minus { minus.new ≡ map minusMask (listing 32 n) ++ drop (length (listing 32 n)) minus.old }
+    ensures plus { plus.new ≡ map plus_mask (listing 32 n) ++ drop (length (listing 32 n)) plus.old }
+    ensures minus { minus.new ≡ map minus_mask (listing 32 n) ++ drop (length (listing 32 n)) minus.old }
 {
     let first = form_masks::canonical(n);
     plus[0] = first.plus;

@@ -3,29 +3,29 @@ use mathlib.Core.Path.{◌≡◌, refl}
 use mathlib.Core.Bool.{false, ◌&&◌}
 use Prim.Native.Nat.{ℕ, zero, suc, ◌<◌}
 use native.Mathlib.Omega.{arith}
-use Rattle.refusal.specs.Answer.{lowestFrom}
+use Rattle.refusal.specs.Answer.{lowest_from}
 use Rattle.signed_digit.specs.Value.{value}
 use Rattle.signed_digit.specs.Masks.{holds}
-use Rattle.signed_digit.specs.CanonicalForm.{canonicalNat}
-use Rattle.form_masks.specs.Form.{stringOf, overlapIn}
+use Rattle.signed_digit.specs.CanonicalForm.{canonical_nat}
+use Rattle.form_masks.specs.Form.{string_of, overlap_in}
 use Rattle.form_masks.specs.Value.{value_of}
-use Rattle.form_masks.specs.Weight.{weightOf}
+use Rattle.form_masks.specs.Weight.{weight_of}
 use Rattle.form_masks.specs.Figures.{FormMaskFigures}
 
-none-below-2 : (k : ℕ) → k < 2 → (holds 21 k && holds 20 k) ≡ false
-none-below-2 zero h = refl
-none-below-2 (suc zero) h = refl
-none-below-2 (suc (suc k)) h = absurd (omega arith)
+none_below_2 : (k : ℕ) → k < 2 → (holds 21 k && holds 20 k) ≡ false
+none_below_2 zero h = refl
+none_below_2 (suc zero) h = refl
+none_below_2 (suc (suc k)) h = absurd (omega arith)
 
-pub form-mask-figures : FormMaskFigures
-unfolding value_of weightOf stringOf overlapIn lowestFrom value canonicalNat
-form-mask-figures =
+pub form_mask_figures : FormMaskFigures
+unfolding value_of weight_of string_of overlap_in lowest_from value canonical_nat
+form_mask_figures =
     record {
-      masks-45 = record { plus-32 = omega arith; minus-32 = omega arith; no-place-in-both = refl };
-      value-45 = record { valued = refl };
-      weight-45 = record { weighed = refl };
-      place-2 = record { within = omega arith; in_both = refl; none-lower = none-below-2 };
+      masks_45 = record { plus_32 = omega arith; minus_32 = omega arith; no_place_in_both = refl };
+      value_45 = record { valued = refl };
+      weight_45 = record { weighed = refl };
+      place_2 = record { within = omega arith; in_both = refl; none_lower = none_below_2 };
       overlapping = record { valued = refl };
-      canonical-45 = record { masks = refl };
-      canonical-least = record { masks = refl };
+      canonical_45 = record { masks = refl };
+      canonical_least = record { masks = refl };
     }

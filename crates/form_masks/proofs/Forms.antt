@@ -11,56 +11,56 @@ use lib.ListN.{length}
 use lib.Signed.{mag}
 use mir.Syntax.{w64}
 use mir.Val.{SFits}
-use Rattle.refusal.specs.Answer.{Answer, given, refused, refuseAt, Place, at_place}
+use Rattle.refusal.specs.Answer.{Answer, given, refused, refuse_at, Place, at_place}
 use Rattle.signed_digit.specs.String.{DigitString}
 use Rattle.signed_digit.specs.Value.{value}
 use Rattle.signed_digit.specs.Weight.{weight}
-use Rattle.signed_digit.specs.Masks.{plusMask, minusMask, fromMasks}
-use Rattle.signed_digit.proofs.Value.{value-masks}
-use Rattle.signed_digit.proofs.Masks.{masks-disjoint, masks-string, masks-weight, fromMasks-plus, fromMasks-minus}
+use Rattle.signed_digit.specs.Masks.{plus_mask, minus_mask, from_masks}
+use Rattle.signed_digit.proofs.Value.{value_masks}
+use Rattle.signed_digit.proofs.Masks.{masks_disjoint, masks_string, masks_weight, from_masks_plus, from_masks_minus}
 use Rattle.form_masks.specs.declared.Form.{Form}
-use Rattle.form_masks.specs.Form.{form_of, stringOf, overlapIn}
-use Rattle.form_masks.specs.Inner.{lowestIn}
+use Rattle.form_masks.specs.Form.{form_of, string_of, overlap_in}
+use Rattle.form_masks.specs.Inner.{lowest_in}
 use Rattle.form_masks.specs.Value.{value_of}
-use Rattle.form_masks.specs.Weight.{weightOf}
-use Rattle.form_masks.proofs.Weights.{union-weight}
-use Rattle.form_masks.proofs.Overlap.{overlap-and, lowest-nowhere}
+use Rattle.form_masks.specs.Weight.{weight_of}
+use Rattle.form_masks.proofs.Weights.{union_weight}
+use Rattle.form_masks.proofs.Overlap.{overlap_and, lowest_nowhere}
 
 -- ---- the check 8, by the bitwise and of the masks
 module _ {A : Type 0} (x y : ℕ) (rest : Answer A) where
-  pub overlapping : (place : ℕ) → at_place place ≡ lowestIn 32 (bit_and x y) → refused 8 place ≡ refuseAt (overlapIn 32 x y) 8 rest
-  overlapping place e = ap (λ (p : Place). refuseAt p 8 rest) (e ∙ sym (overlap-and 32 x y))
+  pub overlapping : (place : ℕ) → at_place place ≡ lowest_in 32 (bit_and x y) → refused 8 place ≡ refuse_at (overlap_in 32 x y) 8 rest
+  overlapping place e = ap (λ (p : Place). refuse_at p 8 rest) (e ∙ sym (overlap_and 32 x y))
 
-  pub disjoint : bit_and x y ≡ 0 → rest ≡ refuseAt (overlapIn 32 x y) 8 rest
-  disjoint z = sym (ap (λ (p : Place). refuseAt p 8 rest) (overlap-and 32 x y ∙ lowest-nowhere 32 (bit_and x y) z))
+  pub disjoint : bit_and x y ≡ 0 → rest ≡ refuse_at (overlap_in 32 x y) 8 rest
+  disjoint z = sym (ap (λ (p : Place). refuse_at p 8 rest) (overlap_and 32 x y ∙ lowest_nowhere 32 (bit_and x y) z))
 
 -- ---- the string of two masks with no place in common
 module _ (form : Form) (hx : form.plus < 2 ^ 32) (hy : form.minus < 2 ^ 32) (z : bit_and form.plus form.minus ≡ 0) where
-  pub string-plus : plusMask (stringOf form) ≡ form.plus
-  unfolding stringOf
-  string-plus = fromMasks-plus 32 form.plus form.minus hx
+  pub string_plus : plus_mask (string_of form) ≡ form.plus
+  unfolding string_of
+  string_plus = from_masks_plus 32 form.plus form.minus hx
 
-  pub string-minus : minusMask (stringOf form) ≡ form.minus
-  unfolding stringOf
-  string-minus = fromMasks-minus 32 form.plus form.minus hy z
+  pub string_minus : minus_mask (string_of form) ≡ form.minus
+  unfolding string_of
+  string_minus = from_masks_minus 32 form.plus form.minus hy z
 
-  pub form-string : form_of (stringOf form) ≡ form
-  form-string = ap₂ (λ (x y : ℕ). record { plus = x; minus = y }) string-plus string-minus
+  pub form_string : form_of (string_of form) ≡ form
+  form_string = ap₂ (λ (x y : ℕ). record { plus = x; minus = y }) string_plus string_minus
 
   -- "Its value is the first mask minus the second"
-  pub string-value : value (stringOf form) ≡ pos form.plus -ℤ pos form.minus
-  string-value = value-masks (stringOf form) ∙ ap₂ (λ (x y : ℕ). pos x -ℤ pos y) string-plus string-minus
+  pub string_value : value (string_of form) ≡ pos form.plus -ℤ pos form.minus
+  string_value = value_masks (string_of form) ∙ ap₂ (λ (x y : ℕ). pos x -ℤ pos y) string_plus string_minus
 
-  pub string-weight : weight (stringOf form) ≡ ones form.plus + ones form.minus
-  string-weight = sym (masks-weight (stringOf form)) ∙ ap₂ (λ (x y : ℕ). ones x + ones y) string-plus string-minus
+  pub string_weight : weight (string_of form) ≡ ones form.plus + ones form.minus
+  string_weight = sym (masks_weight (string_of form)) ∙ ap₂ (λ (x y : ℕ). ones x + ones y) string_plus string_minus
 
-  pub string-union : weight (stringOf form) ≡ ones (bit_or form.plus form.minus)
-  string-union = sym (union-weight (stringOf form)) ∙ ap₂ (λ (x y : ℕ). ones (bit_or x y)) string-plus string-minus
+  pub string_union : weight (string_of form) ≡ ones (bit_or form.plus form.minus)
+  string_union = sym (union_weight (string_of form)) ∙ ap₂ (λ (x y : ℕ). ones (bit_or x y)) string_plus string_minus
 
 -- the difference of two 32-bit masks is a 64-bit number
-pub difference-fits : (x y : ℕ) → x < 2 ^ 32 → y < 2 ^ 32 → SFits w64 (pos x -ℤ pos y)
-difference-fits x zero h k = record { sfits = omega arith }
-difference-fits x (suc y) h k = record { sfits = below (ltb x (suc y)) }
+pub difference_fits : (x y : ℕ) → x < 2 ^ 32 → y < 2 ^ 32 → SFits w64 (pos x -ℤ pos y)
+difference_fits x zero h k = record { sfits = omega arith }
+difference_fits x (suc y) h k = record { sfits = below (ltb x (suc y)) }
   where
     below : (b : Bool) → mag (cond b (negsuc (suc y - suc x)) (pos (x - suc y))) < 2 ^ 63
     below true = omega arith
@@ -68,14 +68,14 @@ difference-fits x (suc y) h k = record { sfits = below (ltb x (suc y)) }
 
 -- ---- the form of a string of 32 places
 module _ (s : DigitString) (l : length s ≡ 32) where
-  pub string-form : stringOf (form_of s) ≡ s
-  unfolding stringOf
-  string-form = ap (λ (p : ℕ). fromMasks p (plusMask s) (minusMask s)) (sym l) ∙ masks-string s
+  pub string_form : string_of (form_of s) ≡ s
+  unfolding string_of
+  string_form = ap (λ (p : ℕ). from_masks p (plus_mask s) (minus_mask s)) (sym l) ∙ masks_string s
 
-  pub form-value : value_of (form_of s) ≡ given (value s)
+  pub form_value : value_of (form_of s) ≡ given (value s)
   unfolding value_of
-  form-value = sym (disjoint (plusMask s) (minusMask s) (given (value (stringOf (form_of s)))) (masks-disjoint s)) ∙ ap (λ (t : DigitString). given (value t)) string-form
+  form_value = sym (disjoint (plus_mask s) (minus_mask s) (given (value (string_of (form_of s)))) (masks_disjoint s)) ∙ ap (λ (t : DigitString). given (value t)) string_form
 
-  pub form-weight : weightOf (form_of s) ≡ given (weight s)
-  unfolding weightOf
-  form-weight = sym (disjoint (plusMask s) (minusMask s) (given (weight (stringOf (form_of s)))) (masks-disjoint s)) ∙ ap (λ (t : DigitString). given (weight t)) string-form
+  pub form_weight : weight_of (form_of s) ≡ given (weight s)
+  unfolding weight_of
+  form_weight = sym (disjoint (plus_mask s) (minus_mask s) (given (weight (string_of (form_of s)))) (masks_disjoint s)) ∙ ap (λ (t : DigitString). given (weight t)) string_form

@@ -7,8 +7,8 @@ use borrow.Author.Tests.{ltb-true}
 use lib.Dec.{T}
 use lib.IntN.{ℤ, pos, negsuc, nat_abs}
 use lib.Signed.{lt_z}
-use Rattle.signed_digit.specs.CanonicalForm.{canonicalNat, canonical}
-use Rattle.signed_digit.proofs.Strings.{negated-is}
+use Rattle.signed_digit.specs.CanonicalForm.{canonical_nat, canonical}
+use Rattle.signed_digit.proofs.Strings.{negated_is}
 use Rattle.form_masks.specs.declared.Form.{Form}
 use Rattle.form_masks.specs.Form.{form_of}
 
@@ -20,11 +20,11 @@ not_negative (negsuc k) h = absurd (subst T h tt)
 abbrev pub exchanged : Form → Form
 exchanged form = record { plus = form.minus; minus = form.plus }
 
-pub canonical-negative : (n : ℤ) → lt_z n (pos 0) ≡ true → exchanged (form_of (canonicalNat 32 (nat_abs n))) ≡ form_of (canonical 32 n)
-canonical-negative (pos k) h = absurd (omega (arith, ltb-true k 0 h))
-canonical-negative (negsuc k) h =
-    let s = negated-is (canonicalNat 32 (suc k)) in
+pub canonical_negative : (n : ℤ) → lt_z n (pos 0) ≡ true → exchanged (form_of (canonical_nat 32 (nat_abs n))) ≡ form_of (canonical 32 n)
+canonical_negative (pos k) h = absurd (omega (arith, ltb-true k 0 h))
+canonical_negative (negsuc k) h =
+    let s = negated_is (canonical_nat 32 (suc k)) in
     ap₂ (λ (x y : ℕ). record { plus = x; minus = y }) (sym s.plus) (sym s.minus)
 
-pub canonical-not-negative : (n : ℤ) → lt_z n (pos 0) ≡ false → form_of (canonicalNat 32 (nat_abs n)) ≡ form_of (canonical 32 n)
-canonical-not-negative n h = sym (ap (λ (z : ℤ). form_of (canonical 32 z)) (not_negative n h))
+pub canonical_not_negative : (n : ℤ) → lt_z n (pos 0) ≡ false → form_of (canonical_nat 32 (nat_abs n)) ≡ form_of (canonical 32 n)
+canonical_not_negative n h = sym (ap (λ (z : ℤ). form_of (canonical 32 z)) (not_negative n h))

@@ -7,15 +7,15 @@ use Rattle.form_masks.specs.Value.{FormValued}
 use Rattle.form_masks.specs.Weight.{FormWeighed}
 
 -- 64-16-4+1 is maskPair (64 + 1) (16 + 4)
-abbrev pub maskPair : ℕ → ℕ → Form
-maskPair plus minus = record { plus = plus; minus = minus }
+abbrev pub mask_pair : ℕ → ℕ → Form
+mask_pair plus minus = record { plus = plus; minus = minus }
 
 pub record FormMaskFigures : Type 0 where
-  pub masks-45 : TwoMasks (maskPair (64 + 1) (16 + 4))
-  pub value-45 : FormValued (maskPair (64 + 1) (16 + 4)) (given (pos 45))
-  pub weight-45 : FormWeighed (maskPair (64 + 1) (16 + 4)) (given 4)
+  pub masks_45 : TwoMasks (mask_pair (64 + 1) (16 + 4))
+  pub value_45 : FormValued (mask_pair (64 + 1) (16 + 4)) (given (pos 45))
+  pub weight_45 : FormWeighed (mask_pair (64 + 1) (16 + 4)) (given 4)
   -- places 2 and 4 are in both
-  pub place-2 : LowestOverlap (maskPair (16 + 4 + 1) (16 + 4)) 2
-  pub overlapping : FormValued (maskPair (16 + 4 + 1) (16 + 4)) (refused 8 2)
-  pub canonical-45 : InCanonicalForm (pos 45) (maskPair (64 + 1) (16 + 4))
-  pub canonical-least : InCanonicalForm (neg_ℤ (pos (2 ^ 31))) (maskPair 0 (2 ^ 31))
+  pub place_2 : LowestOverlap (mask_pair (16 + 4 + 1) (16 + 4)) 2
+  pub overlapping : FormValued (mask_pair (16 + 4 + 1) (16 + 4)) (refused 8 2)
+  pub canonical_45 : InCanonicalForm (pos 45) (mask_pair (64 + 1) (16 + 4))
+  pub canonical_least : InCanonicalForm (neg_ℤ (pos (2 ^ 31))) (mask_pair 0 (2 ^ 31))

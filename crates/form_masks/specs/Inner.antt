@@ -2,8 +2,8 @@
 use Rattle.std.specs.Prelude.{ℕ}
 use Rattle.refusal.specs.Answer.{Place, lowest}
 use Rattle.signed_digit.specs.Masks.{holds}
-use Rattle.form_masks.specs.Form.{placesFrom}
+use Rattle.form_masks.specs.Form.{places_from}
 
 -- the lowest of p places that a mask holds
-unfoldable pub lowestIn : ℕ → ℕ → Place
-lowestIn p mask = lowest (holds mask) (placesFrom 0 p)
+unfoldable pub lowest_in : ℕ → ℕ → Place
+lowest_in p mask = lowest (holds mask) (places_from 0 p)

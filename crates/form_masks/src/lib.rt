@@ -2,9 +2,9 @@
 ghost use Rattle.std.specs.Prelude.{◌≡◌, ◌≤◌, ◌<◌, ◌^◌};
 ghost use Rattle.std.specs.Int.Count as Count;
 ghost use Rattle.refusal.specs.Answer.{at_place};
-ghost use Rattle.signed_digit.specs.CanonicalForm.{canonicalNat};
+ghost use Rattle.signed_digit.specs.CanonicalForm.{canonical_nat};
 ghost use Rattle.form_masks.specs.Form.{form_of, InCanonicalForm};
-ghost use Rattle.form_masks.specs.Inner.{lowestIn};
+ghost use Rattle.form_masks.specs.Inner.{lowest_in};
 ghost use Rattle.form_masks.specs.Value as Value;
 ghost use Rattle.form_masks.specs.Weight as Weight;
 
@@ -41,7 +41,7 @@ pub fn ones(x: u32) -> u32
 // The lowest place where x has a one.
 fn lowest_one(x: u32) -> u32
     requires { 0 < x }
-    ensures { at_place result ≡ lowestIn 32 x }
+    ensures { at_place result ≡ lowest_in 32 x }
 {
     u32::trailing_zeros(x)
 }
@@ -72,7 +72,7 @@ pub fn weight(form: Form) -> FormWeight
 // masks differ by m.
 fn canonical_of(m: u64) -> Form
     requires { m ≤ 2 ^ 31 }
-    ensures { result ≡ form_of (canonicalNat 32 m) }
+    ensures { result ≡ form_of (canonical_nat 32 m) }
 {
     let nonzero = ((3 * m) ^ m) / 2;
     let plus = (nonzero + m) / 2;

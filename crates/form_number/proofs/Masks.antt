@@ -5,20 +5,20 @@ use native.Mathlib.Nat.{mod-add-mod, add-mod-mod}
 use lib.Count.{count_trailing_zeros}
 use lib.ListN.{length-map, length-replicate, get_or-append}
 use Rattle.signed_digit.specs.String.{DigitString}
-use Rattle.signed_digit.specs.Masks.{plusMask, minusMask}
+use Rattle.signed_digit.specs.Masks.{plus_mask, minus_mask}
 use Rattle.signed_digit.specs.CanonicalForm.{canonical}
 use Rattle.signed_digit.specs.Forms.{listing}
 use Rattle.signed_digit.proofs.Strings.{small}
-use Rattle.signed_digit.proofs.Coefficients.{canonical-32}
+use Rattle.signed_digit.proofs.Coefficients.{canonical_32}
 use Rattle.form_masks.specs.declared.Form.{Form}
 use Rattle.form_masks.specs.Form.{form_of}
 use Rattle.form_links.specs.Inner.{shifted, grown}
-use Rattle.form_links.proofs.Growth.{grown-front, grown-all}
+use Rattle.form_links.proofs.Growth.{grown_front, grown_all}
 use Rattle.form_walk.specs.declared.Walk.{Walk}
-use Rattle.form_walk.specs.Inner.{skipOf, next_of}
+use Rattle.form_walk.specs.Inner.{skip_of, next_of}
 use Rattle.form_walk.proofs.Counted.{started}
-use Rattle.form_listing.proofs.Listed.{Ready, ready, Listing, list-start, list-link, list-next, list-end, widen-fits}
-use Rattle.form_number.specs.Inner.{offset_of, Noted, none_yet, one_more, AllNoted, offsetAt}
+use Rattle.form_listing.proofs.Listed.{Ready, ready, Listing, list_start, list_link, list_next, list_end, widen_fits}
+use Rattle.form_number.specs.Inner.{offset_of, Noted, none_yet, one_more, AllNoted, offset_at_of}
 use Rattle.form_number.proofs.Offsets.{not_taken, taken}
 
 -- ---- a table after a growth, place by place
@@ -29,14 +29,14 @@ at_map f d (x ∷ l) (suc i) h = at_map f d l i (omega arith)
 
 module _ (old : List ℕ) (at n offset : ℕ) (room : at + n ≤ length old) (i : ℕ) where
   kept_at : i < at → get_or (grown old at n offset) i 0 ≡ get_or old i 0
-  kept_at h = sym (get_or-take at (grown old at n offset) i 0 h) ∙ ap (λ (t : List ℕ). get_or t i 0) (grown-front old at n offset room) ∙ get_or-take at old i 0 h
+  kept_at h = sym (get_or-take at (grown old at n offset) i 0 h) ∙ ap (λ (t : List ℕ). get_or t i 0) (grown_front old at n offset room) ∙ get_or-take at old i 0 h
 
   copied_at : at ≤ i → i < at + n → get_or (grown old at n offset) i 0 ≡ shifted offset (get_or old (i - at) 0)
   copied_at l h =
       let copies : List ℕ = map (shifted offset) (take n old) in
       let e : i ≡ length (take at old) + (i - at) = omega (arith, length-take-le at old (omega arith)) in
       sym (get_or-take (at + n) (grown old at n offset) i 0 h)
-      ∙ ap₂ (λ (t : List ℕ) (j : ℕ). get_or t j 0) (grown-all old at n offset room) e
+      ∙ ap₂ (λ (t : List ℕ) (j : ℕ). get_or t j 0) (grown_all old at n offset room) e
       ∙ get_or-append-add (take at old) copies (i - at) 0
       ∙ at_map (shifted offset) 0 (take n old) (i - at) (omega (arith, length-take-le n old (omega arith)))
       ∙ ap (shifted offset) (get_or-take n old (i - at) 0 (omega arith))
@@ -44,15 +44,15 @@ module _ (old : List ℕ) (at n offset : ℕ) (room : at + n ≤ length old) (i 
 -- ---- the lister's tables beside the links that are noted
 module _ (forms offsets : List ℕ) where
   abbrev masked : ℕ → ℕ → ℕ → ℕ
-  masked first k i = (first + offsetAt forms offsets k i) % 2 ^ 32
+  masked first k i = (first + offset_at_of forms offsets k i) % 2 ^ 32
 
   -- the first k links say what stands in the places below `made`
   abbrev Says : List ℕ → ℕ → ℕ → ℕ → Type 0
   Says table first k made = (i : ℕ) → i < made → get_or table i 0 ≡ masked first k i
 
-  first-only : (table : List ℕ) (first : ℕ) → first < 2 ^ 32 → take 1 table ≡ first ∷ [] → Says table first 0 1
-  unfolding offsetAt
-  first-only table first b e i h =
+  first_only : (table : List ℕ) (first : ℕ) → first < 2 ^ 32 → take 1 table ≡ first ∷ [] → Says table first 0 1
+  unfolding offset_at_of
+  first_only table first b e i h =
       let z : i ≡ 0 = omega arith in
       let f : first + 0 ≡ first = omega arith in
       ap (λ (j : ℕ). get_or table j 0) z
@@ -61,9 +61,9 @@ module _ (forms offsets : List ℕ) where
       ∙ sym (ap (λ (x : ℕ). x % 2 ^ 32) f ∙ mod-eq_of_lt b)
 
   -- a table at a link, with `at` forms in front
-  says-next : (table : List ℕ) (first k made at n offset : ℕ) → at + n ≤ length table → at ≤ made → n ≤ made → get_or forms k 0 ≡ at → get_or offsets k 0 ≡ offset
+  says_next : (table : List ℕ) (first k made at n offset : ℕ) → at + n ≤ length table → at ≤ made → n ≤ made → get_or forms k 0 ≡ at → get_or offsets k 0 ≡ offset
       → Says table first k made → Says (grown table at n offset) first (suc k) (at + n)
-  says-next table first k made at n offset room f m ef eo s i h = go (ltb i at) refl
+  says_next table first k made at n offset room f m ef eo s i h = go (ltb i at) refl
     where
       go : (b : Bool) → ltb i at ≡ b → get_or (grown table at n offset) i 0 ≡ masked first (suc k) i
       go true e =
@@ -73,73 +73,73 @@ module _ (forms offsets : List ℕ) where
           let l = ltb-false i at e in
           let j : i - get_or forms k 0 ≡ i - at = ap (λ (x : ℕ). i - x) ef in
           let t = taken forms offsets k i (omega arith) in
-          let q : first + offsetAt forms offsets k (i - at) + offset ≡ first + offsetAt forms offsets (suc k) i = omega (arith, t, ap (offsetAt forms offsets k) j) in
+          let q : first + offset_at_of forms offsets k (i - at) + offset ≡ first + offset_at_of forms offsets (suc k) i = omega (arith, t, ap (offset_at_of forms offsets k) j) in
           copied_at table at n offset room i l h
           ∙ ap (shifted offset) (s (i - at) (omega arith))
-          ∙ mod-add-mod (first + offsetAt forms offsets k (i - at)) (2 ^ 32) offset
+          ∙ mod-add-mod (first + offset_at_of forms offsets k (i - at)) (2 ^ 32) offset
           ∙ ap (λ (x : ℕ). x % 2 ^ 32) q
 
   module _ (n : ℤ) (plus₀ minus₀ : List ℕ) (R : Ready n plus₀ minus₀) where
     record Beside (k : ℕ) (w : Walk) : Type 0 where
       plus : List ℕ
       minus : List ℕ
-      listing-way : Listing n plus₀ minus₀ R plus minus w
+      listing_way : Listing n plus₀ minus₀ R plus minus w
       made : ℕ
-      plus-says : Says plus (plusMask (canonical 32 n)) k made
-      minus-says : Says minus (minusMask (canonical 32 n)) k made
-      forms-made : w.forms ≤ made
+      plus_says : Says plus (plus_mask (canonical 32 n)) k made
+      minus_says : Says minus (minus_mask (canonical 32 n)) k made
+      forms_made : w.forms ≤ made
       moved_made : w.moved ≤ made
 
-    small-masks : plusMask (canonical 32 n) + minusMask (canonical 32 n) < 2 ^ 32
-    small-masks = omega (arith, small (canonical 32 n), ap (λ (x : ℕ). 2 ^ x) (canonical-32 n R.bounded).places)
+    small_masks : plus_mask (canonical 32 n) + minus_mask (canonical 32 n) < 2 ^ 32
+    small_masks = omega (arith, small (canonical 32 n), ap (λ (x : ℕ). 2 ^ x) (canonical_32 n R.bounded).places)
 
-    beside-start : (w : Walk) → Listing n plus₀ minus₀ R plus₀ minus₀ w → w.forms ≤ 1 → w.moved ≤ 1 → Beside 0 w
-    beside-start w A f m = record {
+    beside_start : (w : Walk) → Listing n plus₀ minus₀ R plus₀ minus₀ w → w.forms ≤ 1 → w.moved ≤ 1 → Beside 0 w
+    beside_start w A f m = record {
       plus = plus₀;
       minus = minus₀;
-      listing-way = A;
+      listing_way = A;
       made = 1;
-      plus-says = first-only plus₀ (plusMask (canonical 32 n)) (omega (arith, small-masks)) R.plus-first;
-      minus-says = first-only minus₀ (minusMask (canonical 32 n)) (omega (arith, small-masks)) R.minus-first;
-      forms-made = f;
+      plus_says = first_only plus₀ (plus_mask (canonical 32 n)) (omega (arith, small_masks)) R.plus_first;
+      minus_says = first_only minus₀ (minus_mask (canonical 32 n)) (omega (arith, small_masks)) R.minus_first;
+      forms_made = f;
       moved_made = m;
     }
 
     -- no more are copied than were made, and none is counted that was not made
-    skip-made : (w : Walk) (made : ℕ) → w.forms ≤ made → w.moved ≤ made → (skipOf w).moved ≤ made
-    skip-made w made f m = go (eqb (count_trailing_zeros 64 w.links) 0)
+    skip_made : (w : Walk) (made : ℕ) → w.forms ≤ made → w.moved ≤ made → (skip_of w).moved ≤ made
+    skip_made w made f m = go (eqb (count_trailing_zeros 64 w.links) 0)
       where
         go : (b : Bool) → cond b w.moved w.forms ≤ made
         go true = m
         go false = f
 
-    next-made : (v : Walk) → ((next_of v).forms ≤ v.forms + v.moved) × ((next_of v).moved ≤ v.forms + v.moved)
-    next-made v = go (eqb (v.opposite % 2) 1)
+    next_made : (v : Walk) → ((next_of v).forms ≤ v.forms + v.moved) × ((next_of v).moved ≤ v.forms + v.moved)
+    next_made v = go (eqb (v.opposite % 2) 1)
       where
         go : (b : Bool) → (cond b (v.forms + v.moved) v.forms ≤ v.forms + v.moved) × (cond b v.forms (v.forms + v.moved) ≤ v.forms + v.moved)
         go true = (omega arith, omega arith)
         go false = (omega arith, omega arith)
 
-    beside-next : (k : ℕ) (w : Walk) → Beside k w → w.links ≢ 0 → get_or forms k 0 ≡ (skipOf w).forms → get_or offsets k 0 ≡ offset_of (skipOf w) → Beside (suc k) (next_of (skipOf w))
-    beside-next k w B h ef eo =
-        let v : Walk = skipOf w in
-        let A = list-link n plus₀ minus₀ R B.plus B.minus w B.listing-way h v refl in
-        let r = widen-fits n plus₀ minus₀ R B.plus B.minus v A in
-        let m = skip-made w B.made B.forms-made B.moved_made in
+    beside_next : (k : ℕ) (w : Walk) → Beside k w → w.links ≢ 0 → get_or forms k 0 ≡ (skip_of w).forms → get_or offsets k 0 ≡ offset_of (skip_of w) → Beside (suc k) (next_of (skip_of w))
+    beside_next k w B h ef eo =
+        let v : Walk = skip_of w in
+        let A = list_link n plus₀ minus₀ R B.plus B.minus w B.listing_way h v refl in
+        let r = widen_fits n plus₀ minus₀ R B.plus B.minus v A in
+        let m = skip_made w B.made B.forms_made B.moved_made in
         record {
           plus = grown B.plus v.forms v.moved (offset_of v);
           minus = grown B.minus v.forms v.moved (offset_of v);
-          listing-way = list-next n plus₀ minus₀ R B.plus B.minus v A (next_of v) _ _ refl refl refl;
+          listing_way = list_next n plus₀ minus₀ R B.plus B.minus v A (next_of v) _ _ refl refl refl;
           made = v.forms + v.moved;
-          plus-says = says-next B.plus (plusMask (canonical 32 n)) k B.made v.forms v.moved (offset_of v) r.0 B.forms-made m ef eo B.plus-says;
-          minus-says = says-next B.minus (minusMask (canonical 32 n)) k B.made v.forms v.moved (offset_of v) r.1 B.forms-made m ef eo B.minus-says;
-          forms-made = (next-made v).0;
-          moved_made = (next-made v).1;
+          plus_says = says_next B.plus (plus_mask (canonical 32 n)) k B.made v.forms v.moved (offset_of v) r.0 B.forms_made m ef eo B.plus_says;
+          minus_says = says_next B.minus (minus_mask (canonical 32 n)) k B.made v.forms v.moved (offset_of v) r.1 B.forms_made m ef eo B.minus_says;
+          forms_made = (next_made v).0;
+          moved_made = (next_made v).1;
         }
 
     beside : (start : Walk) → Beside 0 start → (k : ℕ) (w : Walk) → Noted start forms offsets k w → Beside k w
     beside start B k w none_yet = B
-    beside start B k w (one_more {k = i} {w = u} N h ef eo) = beside-next i u (beside start B i u N) h ef eo
+    beside start B k w (one_more {k = i} {w = u} N h ef eo) = beside_next i u (beside start B i u N) h ef eo
 
     -- where no link is left, the tables hold the listing
     table_at : (f : DigitString → ℕ) (table more : List ℕ) (k made i : ℕ) → table ≡ map f (listing 32 n) ++ more → Says table (f (canonical 32 n)) k made → i < length (listing 32 n) → i < made
@@ -148,17 +148,17 @@ module _ (forms offsets : List ℕ) where
         sym (ap (λ (t : List ℕ). get_or t i 0) e ∙ get_or-append (map f (listing 32 n)) more 0 i (omega (arith, length-map (listing 32 n) f)) ∙ at_map f [] (listing 32 n) i h)
         ∙ s i l
 
-    at-end : (k : ℕ) (w : Walk) → Beside k w → w.links ≡ 0 → (i : ℕ) → i < length (listing 32 n)
-        → (plusMask (get_or (listing 32 n) i []) ≡ masked (plusMask (canonical 32 n)) k i) × (minusMask (get_or (listing 32 n) i []) ≡ masked (minusMask (canonical 32 n)) k i)
-    at-end k w B z i h =
-        let e = list-end n plus₀ minus₀ R B.plus B.minus w B.listing-way z in
-        let l : i < B.made = omega (arith, e.0, B.forms-made) in
-        (table_at plusMask B.plus _ k B.made i e.1 B.plus-says h l, table_at minusMask B.minus _ k B.made i e.2 B.minus-says h l)
+    at_end_lem : (k : ℕ) (w : Walk) → Beside k w → w.links ≡ 0 → (i : ℕ) → i < length (listing 32 n)
+        → (plus_mask (get_or (listing 32 n) i []) ≡ masked (plus_mask (canonical 32 n)) k i) × (minus_mask (get_or (listing 32 n) i []) ≡ masked (minus_mask (canonical 32 n)) k i)
+    at_end_lem k w B z i h =
+        let e = list_end n plus₀ minus₀ R B.plus B.minus w B.listing_way z in
+        let l : i < B.made = omega (arith, e.0, B.forms_made) in
+        (table_at plus_mask B.plus _ k B.made i e.1 B.plus_says h l, table_at minus_mask B.minus _ k B.made i e.2 B.minus_says h l)
 
 -- ---- the theorem: form i of the listing, from the links of the whole walk
 module _ (n : ℤ) (bounded : nat_abs n ≤ 2 ^ 31) (forms offsets : List ℕ) (count : ℕ) (N : AllNoted n forms offsets count) (i : ℕ) (inside : i < length (listing 32 n)) where
-  abbrev canonical-form : Form
-  canonical-form = form_of (canonical 32 n)
+  abbrev canonical_form : Form
+  canonical_form = form_of (canonical 32 n)
 
   empty : List ℕ
   empty = replicate 1597 0
@@ -168,27 +168,27 @@ module _ (n : ℤ) (bounded : nat_abs n ≤ 2 ^ 31) (forms offsets : List ℕ) (
   room = omega (arith, length-replicate {A = ℕ} 1597 0)
 
   abbrev plus₀ : List ℕ
-  plus₀ = set empty 0 canonical-form.plus
+  plus₀ = set empty 0 canonical_form.plus
 
   abbrev minus₀ : List ℕ
-  minus₀ = set empty 0 canonical-form.minus
+  minus₀ = set empty 0 canonical_form.minus
 
-  tables-ready : Ready n plus₀ minus₀
-  tables-ready = ready n bounded canonical-form refl empty empty room room
+  tables_ready : Ready n plus₀ minus₀
+  tables_ready = ready n bounded canonical_form refl empty empty room room
 
-  masks : (plusMask (get_or (listing 32 n) i []) ≡ masked forms offsets (plusMask (canonical 32 n)) count i)
-      × (minusMask (get_or (listing 32 n) i []) ≡ masked forms offsets (minusMask (canonical 32 n)) count i)
+  masks : (plus_mask (get_or (listing 32 n) i []) ≡ masked forms offsets (plus_mask (canonical 32 n)) count i)
+      × (minus_mask (get_or (listing 32 n) i []) ≡ masked forms offsets (minus_mask (canonical 32 n)) count i)
   masks =
-      let s = started n bounded canonical-form refl N.start N.starts in
-      let A = list-start n plus₀ minus₀ tables-ready canonical-form refl N.start N.starts in
+      let s = started n bounded canonical_form refl N.start N.starts in
+      let A = list_start n plus₀ minus₀ tables_ready canonical_form refl N.start N.starts in
       let f = ap (λ (w : Walk). w.forms) s in
       let m = ap (λ (w : Walk). w.moved) s in
-      let B = beside-start forms offsets n plus₀ minus₀ tables-ready N.start A (omega arith) (omega arith) in
-      at-end forms offsets n plus₀ minus₀ tables-ready count N.end (beside forms offsets n plus₀ minus₀ tables-ready N.start B count N.end N.noted) N.none_left i inside
+      let B = beside_start forms offsets n plus₀ minus₀ tables_ready N.start A (omega arith) (omega arith) in
+      at_end_lem forms offsets n plus₀ minus₀ tables_ready count N.end (beside forms offsets n plus₀ minus₀ tables_ready N.start B count N.end N.noted) N.none_left i inside
 
-  pub form-is : (sum : ℕ) → sum ≡ offsetAt forms offsets count i % 2 ^ 32 → (form : Form) → form ≡ canonical-form
+  pub form_is : (sum : ℕ) → sum ≡ offset_at_of forms offsets count i % 2 ^ 32 → (form : Form) → form ≡ canonical_form
       → (p m : ℕ) → p ≡ (form.plus + sum) % 2 ^ 32 → m ≡ (form.minus + sum) % 2 ^ 32 → record { plus = p; minus = m } ≡ form_of (get_or (listing 32 n) i [])
-  form-is sum e form q p m ep em =
+  form_is sum e form q p m ep em =
       ap₂ together
       (added form.plus p ep ∙ ap (λ (x : Form). masked forms offsets x.plus count i) q ∙ sym masks.0)
       (added form.minus m em ∙ ap (λ (x : Form). masked forms offsets x.minus count i) q ∙ sym masks.1)
@@ -197,4 +197,4 @@ module _ (n : ℤ) (bounded : nat_abs n ≤ 2 ^ 31) (forms offsets : List ℕ) (
       together p m = record { plus = p; minus = m }
 
       added : (first r : ℕ) → r ≡ (first + sum) % 2 ^ 32 → r ≡ masked forms offsets first count i
-      added first r er = er ∙ ap (λ (x : ℕ). (first + x) % 2 ^ 32) e ∙ add-mod-mod first (offsetAt forms offsets count i) (2 ^ 32)
+      added first r er = er ∙ ap (λ (x : ℕ). (first + x) % 2 ^ 32) e ∙ add-mod-mod first (offset_at_of forms offsets count i) (2 ^ 32)

@@ -2,7 +2,7 @@
 ghost use Rattle.std.specs.Prelude.{◌≡◌, ◌-◌, ◌/◌, ◌%◌, ◌^◌, ◌<◌, ◌≤◌, [], length, slice_index_or};
 ghost use Rattle.signed_digit.specs.Forms.{listing};
 ghost use Rattle.form_masks.specs.Form.{form_of};
-ghost use Rattle.form_number.specs.Inner.{AllNoted, offsetAt};
+ghost use Rattle.form_number.specs.Inner.{AllNoted, offset_at_of};
 
 use form_masks::Form;
 use form_walk::{next, skip, start};
@@ -38,7 +38,7 @@ fn note_links(n: i32, forms: &mut [usize], offsets: &mut [u32]) -> usize
 // forms in front, the form takes it, and is the copy of an earlier one.
 fn offset_at(forms: &[usize], offsets: &[u32], count: usize, number: usize) -> u32
     requires { (count ≤ length forms.now) × (count ≤ length offsets.now) }
-    ensures { result ≡ offsetAt forms.now offsets.now count number % 2 ^ 32 }
+    ensures { result ≡ offset_at_of forms.now offsets.now count number % 2 ^ 32 }
 {
     let mut k = count;
     let mut i = number;

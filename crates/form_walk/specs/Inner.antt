@@ -5,7 +5,7 @@ use Rattle.std.specs.Int.Count.{count_trailing_zeros}
 use Rattle.signed_digit.specs.String.{DigitString}
 use Rattle.form_masks.specs.declared.Form.{Form}
 use Rattle.form_masks.specs.Form.{form_of}
-use Rattle.form_links.specs.Inner.{opposed, linksOf, takenLinks}
+use Rattle.form_links.specs.Inner.{opposed, links_of, taken_links}
 use Rattle.form_walk.specs.declared.Chains.{Chains}
 use Rattle.form_walk.specs.declared.Walk.{Walk}
 
@@ -21,14 +21,14 @@ IsTaken opposite equal mask = (v : ℕ) → v < 2 ^ 32 → v ≡ bit_or opposite
 
 -- before the first link of a canonical string s
 abbrev pub start_of : DigitString → Walk
-start_of s = record { links = takenLinks s * 4; opposite = linksOf opposed s * 4; bit = 1; forms = 1; moved = 0 }
+start_of s = record { links = taken_links s * 4; opposite = links_of opposed s * 4; bit = 1; forms = 1; moved = 0 }
 
 abbrev pub IsStart : Form → Walk → Type 0
 IsStart form w = (s : DigitString) → length s ≡ 32 → form ≡ form_of s → w ≡ start_of s
 
 -- at the next link
-abbrev pub skipOf : Walk → Walk
-skipOf w = record {
+abbrev pub skip_of : Walk → Walk
+skip_of w = record {
   links = w.links / 2 ^ count_trailing_zeros 64 w.links;
   opposite = w.opposite / 2 ^ count_trailing_zeros 64 w.links;
   bit = w.bit * 2 ^ count_trailing_zeros 64 w.links;

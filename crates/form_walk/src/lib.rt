@@ -1,6 +1,6 @@
 // The walk over the links of a coefficient.
 ghost use Rattle.std.specs.Prelude.{◌≡◌, ◌≢◌, ◌*◌, ◌≤◌, ◌<◌, ◌^◌};
-ghost use Rattle.form_walk.specs.Inner.{ahead_of, IsTaken, IsStart, skipOf, next_of};
+ghost use Rattle.form_walk.specs.Inner.{ahead_of, IsTaken, IsStart, skip_of, next_of};
 
 use form_masks::Form;
 use word::choose_index;
@@ -71,7 +71,7 @@ pub fn start(form: Form) -> Walk
 // Up to the next link. Where it does not touch the last one, nothing binds it.
 pub fn skip(w: Walk) -> Walk
     requires { (w.links ≢ 0) × (w.links ≤ 2 ^ 35) × (w.bit * w.links ≤ 2 ^ 35) }
-    ensures { result ≡ skipOf w }
+    ensures { result ≡ skip_of w }
 {
     let places = usize::trailing_zeros(w.links);
     Walk {

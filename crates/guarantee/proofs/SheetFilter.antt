@@ -11,25 +11,25 @@ use lib.ListN.{length, replicate, get_or-replicate, length-append, length-replic
 use mir.Syntax.{w16, w32}
 use Rattle.refusal.specs.Answer.{given}
 use Rattle.run_convolution.specs.Bounds.{Within}
-use Rattle.run_convolution.specs.Sums.{held, outputSum, outputSums}
+use Rattle.run_convolution.specs.Sums.{held, output_sum, output_sums}
 use Rattle.run_convolution.proofs.Steps.{held_low, held_high}
-use Rattle.run_convolution.proofs.Theorems.{Cleared, holds-start, outputs-exact}
-use Rattle.network.specs.Rows.{rowTable, tapTable}
-use Rattle.network.specs.Check.{networkAnswer}
-use Rattle.network.proofs.Figures.{sheet-network}
-use Rattle.run_calls.specs.Run.{runAnswer, runOutputs}
-use Rattle.network.specs.Figures.{sheetCoefficients, sheetRows, sheetTapRows}
-use Rattle.guarantee.specs.Sheet.{sheetSamples, sheetOutputs}
+use Rattle.run_convolution.proofs.Theorems.{Cleared, holds_start, outputs_exact}
+use Rattle.network.specs.Rows.{row_table, tap_table}
+use Rattle.network.specs.Check.{network_answer}
+use Rattle.network.proofs.Figures.{sheet_network_lem}
+use Rattle.run_calls.specs.Run.{run_answer, run_outputs}
+use Rattle.network.specs.Figures.{sheet_coefficients, sheet_rows, sheet_tap_rows}
+use Rattle.guarantee.specs.Sheet.{sheet_samples, sheet_outputs}
 
 abbrev cleared : List ℕ → List ℕ
 cleared beyond = replicate 256 0 ++ beyond
 
-sums : outputSums sheetCoefficients [] sheetSamples ≡ sheetOutputs
-unfolding outputSums outputSum
+sums : output_sums sheet_coefficients [] sheet_samples ≡ sheet_outputs
+unfolding output_sums output_sum
 sums = refl
 
-is-cleared : (beyond : List ℕ) → Cleared (cleared beyond)
-is-cleared beyond k = by k (ltb k 256) refl
+is_cleared : (beyond : List ℕ) → Cleared (cleared beyond)
+is_cleared beyond k = by k (ltb k 256) refl
   where
     by : (k : ℕ) (t : Bool) → ltb k 256 ≡ t → held (cleared beyond) k ≡ 0
     by k true e =
@@ -37,37 +37,37 @@ is-cleared beyond k = by k (ltb k 256) refl
         held_low (cleared beyond) k l ∙ get_or-append (replicate 256 0) beyond 0 k (omega (arith, length-replicate {A = ℕ} 256 0)) ∙ get_or-replicate 256 k 0 0 l
     by k false e = held_high (cleared beyond) k (ltb-false k 256 e)
 
-coefficients-fit : Within w32 sheetCoefficients
-coefficients-fit zero = record { sfits = lit≤ tt }
-coefficients-fit (suc zero) = record { sfits = lit≤ tt }
-coefficients-fit (suc (suc zero)) = record { sfits = lit≤ tt }
-coefficients-fit (suc (suc (suc zero))) = record { sfits = lit≤ tt }
-coefficients-fit (suc (suc (suc (suc k)))) = record { sfits = lit≤ tt }
+coefficients_fit : Within w32 sheet_coefficients
+coefficients_fit zero = record { sfits = lit≤ tt }
+coefficients_fit (suc zero) = record { sfits = lit≤ tt }
+coefficients_fit (suc (suc zero)) = record { sfits = lit≤ tt }
+coefficients_fit (suc (suc (suc zero))) = record { sfits = lit≤ tt }
+coefficients_fit (suc (suc (suc (suc k)))) = record { sfits = lit≤ tt }
 
-samples-fit : Within w16 sheetSamples
-samples-fit zero = record { sfits = lit≤ tt }
-samples-fit (suc zero) = record { sfits = lit≤ tt }
-samples-fit (suc (suc zero)) = record { sfits = lit≤ tt }
-samples-fit (suc (suc (suc k))) = record { sfits = lit≤ tt }
+samples_fit : Within w16 sheet_samples
+samples_fit zero = record { sfits = lit≤ tt }
+samples_fit (suc zero) = record { sfits = lit≤ tt }
+samples_fit (suc (suc zero)) = record { sfits = lit≤ tt }
+samples_fit (suc (suc (suc k))) = record { sfits = lit≤ tt }
 
 -- the call is accepted, and leaves these outputs, whatever lies past the tables, the registers and the outputs
 pub record Filtered (r t beyond : List ℕ) (a b c : ℤ) (rest : List ℤ) : Type 0 where
-  pub answer : runAnswer (sheetRows r) 3 (sheetTapRows t) 4 sheetSamples (length (cleared beyond)) (length (a ∷ b ∷ c ∷ rest)) ≡ given sheetCoefficients
-  pub outputs : runOutputs (given sheetCoefficients) sheetSamples (cleared beyond) (a ∷ b ∷ c ∷ rest) ≡ sheetOutputs ++ rest
+  pub answer : run_answer (sheet_rows r) 3 (sheet_tap_rows t) 4 sheet_samples (length (cleared beyond)) (length (a ∷ b ∷ c ∷ rest)) ≡ given sheet_coefficients
+  pub outputs : run_outputs (given sheet_coefficients) sheet_samples (cleared beyond) (a ∷ b ∷ c ∷ rest) ≡ sheet_outputs ++ rest
 
-pub sheet-filter : (r t beyond : List ℕ) (a b c : ℤ) (rest : List ℤ) → rowTable ≤ length (sheetRows r) → tapTable ≤ length (sheetTapRows t) → Filtered r t beyond a b c rest
-sheet-filter r t beyond a b c rest lr lt =
+pub sheet_filter : (r t beyond : List ℕ) (a b c : ℤ) (rest : List ℤ) → row_table ≤ length (sheet_rows r) → tap_table ≤ length (sheet_tap_rows t) → Filtered r t beyond a b c rest
+sheet_filter r t beyond a b c rest lr lt =
     record {
       answer =
-          ap (λ (short : Bool). networkAnswer short (sheetRows r) 3 (sheetTapRows t) 4) long ∙ sheet-network r t lr lt;
+          ap (λ (short : Bool). network_answer short (sheet_rows r) 3 (sheet_tap_rows t) 4) long ∙ sheet_network_lem r t lr lt;
       outputs =
           ap (λ (o : List ℤ). o ++ rest)
-          (outputs-exact sheetCoefficients (lit≤ tt) coefficients-fit (cleared beyond) (is-cleared beyond) sheetSamples [] (cleared beyond) (λ k. record { sfits = lit≤ tt }) samples-fit
-          (holds-start sheetCoefficients (cleared beyond) (λ k. omega (arith, is-cleared beyond k))) ∙ sums);
+          (outputs_exact sheet_coefficients (lit≤ tt) coefficients_fit (cleared beyond) (is_cleared beyond) sheet_samples [] (cleared beyond) (λ k. record { sfits = lit≤ tt }) samples_fit
+          (holds_start sheet_coefficients (cleared beyond) (λ k. omega (arith, is_cleared beyond k))) ∙ sums);
     }
   where
     size : 256 ≤ length (cleared beyond)
     size = omega (arith, length-append (replicate 256 0) beyond, length-replicate {A = ℕ} 256 0)
 
-    long : (ltb (length (cleared beyond)) 256 || ltb (length (a ∷ b ∷ c ∷ rest)) (length sheetSamples)) ≡ false
+    long : (ltb (length (cleared beyond)) 256 || ltb (length (a ∷ b ∷ c ∷ rest)) (length sheet_samples)) ≡ false
     long = rw (le-ltb (length (cleared beyond)) 256 size, le-ltb (length (a ∷ b ∷ c ∷ rest)) 3 (omega arith))

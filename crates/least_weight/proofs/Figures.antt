@@ -1,23 +1,23 @@
--- The figures of specs/Figures.antt: `weight-figures`. By computation. Assumes nothing.
+-- The figures of specs/Figures.antt: `weight_figures`. By computation. Assumes nothing.
 use mathlib.Core.Path.{refl}
-use Rattle.signed_digit.specs.CanonicalForm.{canonicalNat}
-use Rattle.least_weight.specs.Logarithm.{leastFrom, log2up}
-use Rattle.least_weight.specs.Weight.{natWeight}
+use Rattle.signed_digit.specs.CanonicalForm.{canonical_nat}
+use Rattle.least_weight.specs.Logarithm.{least_from, log2up}
+use Rattle.least_weight.specs.Weight.{nat_weight}
 use Rattle.least_weight.specs.Figures.{WeightFigures}
-use Rattle.least_weight.proofs.Weight.{weight-zero, weight-one}
+use Rattle.least_weight.proofs.Weight.{weight_zero, weight_one}
 
-pub weight-figures : WeightFigures
-unfolding natWeight canonicalNat log2up leastFrom
-weight-figures = record {
-  of-0 = weight-zero;
-  of-1 = weight-one;
-  of-45 = refl;
-  of-minus-45 = refl;
-  of-1431655765 = refl;
-  of-64-ones = refl;
-  of-4-and-1 = refl;
-  of-1-and-1 = refl;
-  log-1 = refl;
-  log-16 = refl;
-  log-17 = refl;
+pub weight_figures : WeightFigures
+unfolding nat_weight canonical_nat log2up least_from
+weight_figures = record {
+  of_0 = weight_zero;
+  of_1 = weight_one;
+  of_45 = refl;
+  of_minus_45 = refl;
+  of_1431655765 = refl;
+  of_64_ones = refl;
+  of_4_and_1 = refl;
+  of_1_and_1 = refl;
+  log_1 = refl;
+  log_16 = refl;
+  log_17 = refl;
 }

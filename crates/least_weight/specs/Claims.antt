@@ -7,21 +7,21 @@ use Rattle.signed_digit.specs.Weight.{weight}
 use Rattle.signed_digit.specs.Minimal.{Minimal}
 use Rattle.signed_digit.specs.CanonicalForm.{canonical}
 use Rattle.least_weight.specs.Logarithm.{log2up}
-use Rattle.least_weight.specs.Weight.{minimalWeight}
+use Rattle.least_weight.specs.Weight.{minimal_weight}
 
 pub record LeastWeightClaims : Type 0 where
   -- "no string of that value, of any length, has fewer nonzero digits"; one has as many, and so has every minimal one
-  pub none_below : (z : ℤ) (s : DigitString) → value s ≡ z → minimalWeight z ≤ weight s
-  pub attained : (z : ℤ) → (s : DigitString) × (Minimal z s) × (weight s ≡ minimalWeight z)
-  pub every-minimal : (z : ℤ) (s : DigitString) → Minimal z s → weight s ≡ minimalWeight z
+  pub none_below : (z : ℤ) (s : DigitString) → value s ≡ z → minimal_weight z ≤ weight s
+  pub attained : (z : ℤ) → (s : DigitString) × (Minimal z s) × (weight s ≡ minimal_weight z)
+  pub every_minimal : (z : ℤ) (s : DigitString) → Minimal z s → weight s ≡ minimal_weight z
   -- the canonical string has it, in any places that hold that string
-  pub in-places : (p : ℕ) (z : ℤ) → 3 * nat_abs z ≤ 2 * 2 ^ p → weight (canonical p z) ≡ minimalWeight z
+  pub in_places : (p : ℕ) (z : ℤ) → 3 * nat_abs z ≤ 2 * 2 ^ p → weight (canonical p z) ≡ minimal_weight z
   -- that of a sum or a difference is at most that of both; the opposite number and the shifted one have the same
-  pub of-sum : (y z : ℤ) → minimalWeight (y +ℤ z) ≤ minimalWeight y + minimalWeight z
-  pub of-difference : (y z : ℤ) → minimalWeight (y -ℤ z) ≤ minimalWeight y + minimalWeight z
-  pub of-opposite : (z : ℤ) → minimalWeight (neg_ℤ z) ≡ minimalWeight z
-  pub of-shifted : (s : ℕ) (z : ℤ) → minimalWeight (pos (2 ^ s) *ℤ z) ≡ minimalWeight z
+  pub of_sum : (y z : ℤ) → minimal_weight (y +ℤ z) ≤ minimal_weight y + minimal_weight z
+  pub of_difference : (y z : ℤ) → minimal_weight (y -ℤ z) ≤ minimal_weight y + minimal_weight z
+  pub of_opposite : (z : ℤ) → minimal_weight (neg_ℤ z) ≡ minimal_weight z
+  pub of_shifted : (s : ℕ) (z : ℤ) → minimal_weight (pos (2 ^ s) *ℤ z) ≡ minimal_weight z
   -- "the rounded-up base-2 logarithm": 2 to it is enough, and no smaller number is; so it is one more than d above 2^d, up to the next power
-  pub log-enough : (w : ℕ) → w ≤ 2 ^ log2up w
-  pub log-least : (w d : ℕ) → w ≤ 2 ^ d → log2up w ≤ d
-  pub log-between : (w d : ℕ) → 2 ^ d < w → w ≤ 2 ^ suc d → log2up w ≡ suc d
+  pub log_enough : (w : ℕ) → w ≤ 2 ^ log2up w
+  pub log_least : (w d : ℕ) → w ≤ 2 ^ d → log2up w ≤ d
+  pub log_between : (w d : ℕ) → 2 ^ d < w → w ≤ 2 ^ suc d → log2up w ≡ suc d

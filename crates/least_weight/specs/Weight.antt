@@ -2,15 +2,15 @@
 -- (specs/Claims.antt) says what it is. Definitions only.
 use Rattle.std.specs.Prelude.{ℕ, suc, ℤ, nat_abs}
 use Rattle.signed_digit.specs.Weight.{weight}
-use Rattle.signed_digit.specs.CanonicalForm.{canonicalNat}
+use Rattle.signed_digit.specs.CanonicalForm.{canonical_nat}
 use Rattle.least_weight.specs.Logarithm.{log2up}
 
 -- n is at most 2^L, so the canonical string has no digit past place L
-abbrev pub placesFor : ℕ → ℕ
-placesFor n = suc (log2up n)
+abbrev pub places_for : ℕ → ℕ
+places_for n = suc (log2up n)
 
-unfoldable pub natWeight : ℕ → ℕ
-natWeight n = weight (canonicalNat (placesFor n) n)
+unfoldable pub nat_weight : ℕ → ℕ
+nat_weight n = weight (canonical_nat (places_for n) n)
 
-abbrev pub minimalWeight : ℤ → ℕ
-minimalWeight z = natWeight (nat_abs z)
+abbrev pub minimal_weight : ℤ → ℕ
+minimal_weight z = nat_weight (nat_abs z)

@@ -9,7 +9,7 @@ use native.Mathlib.Omega.{arith}
 use lib.ListN.{length, get_or, take, drop, length-append, length-drop, take-append-drop, get_or-append}
 use lib.Seq.{sets, sets-eq, length-sets, length-take-le, get_or-take, get_or-drop, drop_at, drop-append-add, drop-drop, take-add, ext_get_or}
 use Rattle.sequence.specs.UpTo.{up_to}
-use Rattle.sequence.proofs.UpTo.{length-upTo, getD-upTo, upTo-same, upTo-take}
+use Rattle.sequence.proofs.UpTo.{length_up_to, get_d_up_to, up_to_same, up_to_take}
 
 -- what makes a layout of a width, of the words of an item and of the item that is read at a place
 pub record Layout {A : Type 0} (width : ℕ) (words_of : A → List ℕ) (item_at : List ℕ → ℕ → A) : Type 0 where
@@ -48,11 +48,11 @@ module _ {A : Type 0} {width : ℕ} {words_of : A → List ℕ} {item_at : List 
     after : drop (width * n) written ≡ words_of a ++ drop (width * n + width) t
     after = ap (drop (width * n)) written_is ∙ drop_at (take (width * n) t) (words_of a ++ drop (width * n + width) t) (width * n) taken
 
-    pub new-item : item_at written n ≡ a
-    new-item = at_drop written n ∙ ap (λ (x : List ℕ). item_at x 0) after ∙ L.there a (drop (width * n + width) t)
+    pub new_item : item_at written n ≡ a
+    new_item = at_drop written n ∙ ap (λ (x : List ℕ). item_at x 0) after ∙ L.there a (drop (width * n + width) t)
 
-    pub old-item : (i : ℕ) → i < n → item_at written i ≡ item_at t i
-    old-item i l = L.same written t i i word
+    pub old_item : (i : ℕ) → i < n → item_at written i ≡ item_at t i
+    old_item i l = L.same written t i i word
       where
         word : (k : ℕ) → k < width → get_or written (width * i + k) 0 ≡ get_or t (width * i + k) 0
         word k h =
@@ -61,14 +61,14 @@ module _ {A : Type 0} {width : ℕ} {words_of : A → List ℕ} {item_at : List 
             ∙ get_or-append (take (width * n) t) (words_of a ++ drop (width * n + width) t) 0 (width * i + k) (omega (arith, taken, below))
             ∙ get_or-take (width * n) t (width * i + k) 0 below
 
-    pub items-written : up_to (n + 1) (item_at written) ≡ up_to n (item_at t) ++ (a ∷ [])
+    pub items_written : up_to (n + 1) (item_at written) ≡ up_to n (item_at t) ++ (a ∷ [])
     unfolding up_to
-    items-written =
+    items_written =
         ap (λ (k : ℕ). up_to k (item_at written)) (add-one n)
-        ∙ ap₂ (λ (x : List A) (y : A). x ++ (y ∷ [])) (upTo-same (item_at written) (item_at t) n old-item) new-item
+        ∙ ap₂ (λ (x : List A) (y : A). x ++ (y ∷ [])) (up_to_same (item_at written) (item_at t) n old_item) new_item
 
-    pub rest-kept : drop (width * (n + 1)) written ≡ drop (width * (n + 1)) t
-    rest-kept =
+    pub rest_kept : drop (width * (n + 1)) written ≡ drop (width * (n + 1)) t
+    rest_kept =
         let next : width * (n + 1) ≡ width * n + width = ap (λ (k : ℕ). width * k) (add-one n) ∙ mul-suc width n in
         ap (λ (k : ℕ). drop k written) next
         ∙ sym (drop-drop width (width * n) written)
@@ -76,16 +76,16 @@ module _ {A : Type 0} {width : ℕ} {words_of : A → List ℕ} {item_at : List 
         ∙ drop_at (words_of a) (drop (width * n + width) t) width (L.size a)
         ∙ ap (λ (k : ℕ). drop k t) (sym next)
 
-  pub length-written : (t : List ℕ) (n : ℕ) (a : A) → length (sets t (width * n) (words_of a)) ≡ length t
-  length-written t n a = length-sets t (width * n) (words_of a)
+  pub length_written : (t : List ℕ) (n : ℕ) (a : A) → length (sets t (width * n) (words_of a)) ≡ length t
+  length_written t n a = length-sets t (width * n) (words_of a)
 
   -- ---- the words of all items
-  pub length-words : (items : List A) → length (flat_map words_of items) ≡ width * length items
+  pub length_words : (items : List A) → length (flat_map words_of items) ≡ width * length items
   unfolding flat_map
-  length-words [] = sym (mul-zero width)
-  length-words (a ∷ items) =
+  length_words [] = sym (mul-zero width)
+  length_words (a ∷ items) =
       length-append (words_of a) (flat_map words_of items)
-      ∙ ap₂ ◌+◌ (L.size a) (length-words items)
+      ∙ ap₂ ◌+◌ (L.size a) (length_words items)
       ∙ omega (arith, mul-suc width (length items))
 
   words_append : (items more : List A) → flat_map words_of (items ++ more) ≡ flat_map words_of items ++ flat_map words_of more
@@ -93,12 +93,12 @@ module _ {A : Type 0} {width : ℕ} {words_of : A → List ℕ} {item_at : List 
   words_append [] more = refl
   words_append (a ∷ items) more = ap (λ (x : List ℕ). words_of a ++ x) (words_append items more) ∙ sym (append_assoc (words_of a) (flat_map words_of items) (flat_map words_of more))
 
-  item-of-words : (d : A) (rest : List ℕ) (items : List A) (i : ℕ) → i < length items → item_at (flat_map words_of items ++ rest) i ≡ get_or items i d
+  item_of_words : (d : A) (rest : List ℕ) (items : List A) (i : ℕ) → i < length items → item_at (flat_map words_of items ++ rest) i ≡ get_or items i d
   unfolding flat_map
-  item-of-words d rest [] i l = absurd (not-suc-le-zero l)
-  item-of-words d rest (a ∷ items) zero l =
+  item_of_words d rest [] i l = absurd (not-suc-le-zero l)
+  item_of_words d rest (a ∷ items) zero l =
       ap (λ (x : List ℕ). item_at x 0) (append_assoc (words_of a) (flat_map words_of items) rest) ∙ L.there a (flat_map words_of items ++ rest)
-  item-of-words d rest (a ∷ items) (suc i) l =
+  item_of_words d rest (a ∷ items) (suc i) l =
       let more = flat_map words_of items ++ rest in
       let next : width * suc i ≡ width + width * i = omega (arith, mul-suc width i) in
       at_drop ((words_of a ++ flat_map words_of items) ++ rest) (suc i)
@@ -106,37 +106,37 @@ module _ {A : Type 0} {width : ℕ} {words_of : A → List ℕ} {item_at : List 
       ∙ ap (λ (k : ℕ). item_at (drop (k + width * i) (words_of a ++ more)) 0) (sym (L.size a))
       ∙ ap (λ (x : List ℕ). item_at x 0) (drop-append-add (words_of a) more (width * i))
       ∙ sym (at_drop more i)
-      ∙ item-of-words d rest items i (le_of_suc-le-suc l)
+      ∙ item_of_words d rest items i (le_of_suc-le-suc l)
 
   -- a table that starts with the words of some items holds them
-  pub items-of-words : (d : A) (rest : List ℕ) (items : List A) → up_to (length items) (item_at (flat_map words_of items ++ rest)) ≡ items
-  items-of-words d rest items =
+  pub items_of_words : (d : A) (rest : List ℕ) (items : List A) → up_to (length items) (item_at (flat_map words_of items ++ rest)) ≡ items
+  items_of_words d rest items =
       let read = item_at (flat_map words_of items ++ rest) in
       let n = length items in
-      ext_get_or d (up_to n read) items (length-upTo n read)
-      (λ i l. let h : i < n = omega (arith, l, length-upTo n read) in getD-upTo n read d i h ∙ item-of-words d rest items i h)
+      ext_get_or d (up_to n read) items (length_up_to n read)
+      (λ i l. let h : i < n = omega (arith, l, length_up_to n read) in get_d_up_to n read d i h ∙ item_of_words d rest items i h)
 
-  item-words : (t : List ℕ) (i : ℕ) → width * i + width ≤ length t → words_of (item_at t i) ≡ take width (drop (width * i) t)
-  item-words t i l =
+  item_words : (t : List ℕ) (i : ℕ) → width * i + width ≤ length t → words_of (item_at t i) ≡ take width (drop (width * i) t)
+  item_words t i l =
       ap words_of (at_drop t i)
       ∙ L.back (drop (width * i) t)
-      ∙ upTo-take (drop (width * i) t) 0 width (omega (arith, l, length-drop (width * i) t))
+      ∙ up_to_take (drop (width * i) t) 0 width (omega (arith, l, length-drop (width * i) t))
 
   -- the words of the items that a table holds are those that it starts with
-  pub words-of-items : (t : List ℕ) (n : ℕ) → width * n ≤ length t → flat_map words_of (up_to n (item_at t)) ≡ take (width * n) t
+  pub words_of_items : (t : List ℕ) (n : ℕ) → width * n ≤ length t → flat_map words_of (up_to n (item_at t)) ≡ take (width * n) t
   unfolding flat_map up_to
-  words-of-items t zero l = ap (λ (k : ℕ). take k t) (sym (mul-zero width))
-  words-of-items t (suc n) l =
+  words_of_items t zero l = ap (λ (k : ℕ). take k t) (sym (mul-zero width))
+  words_of_items t (suc n) l =
       let room : width * n + width ≤ length t = omega (arith, l, mul-suc width n) in
       words_append (up_to n (item_at t)) (item_at t n ∷ [])
-      ∙ ap₂ ◌++◌ (words-of-items t n (omega (arith, room))) (append-nil (words_of (item_at t n)) ∙ item-words t n room)
+      ∙ ap₂ ◌++◌ (words_of_items t n (omega (arith, room))) (append-nil (words_of (item_at t n)) ∙ item_words t n room)
       ∙ sym (take-add (width * n) width t)
       ∙ ap (λ (k : ℕ). take k t) (sym (mul-suc width n))
 
   -- a table that holds some items and is untouched past them: their words, then what it held before
-  pub table-with : (t old : List ℕ) (n : ℕ) (items : List A) → width * n ≤ length t → up_to n (item_at t) ≡ items → drop (width * n) t ≡ drop (width * n) old
+  pub table_with : (t old : List ℕ) (n : ℕ) (items : List A) → width * n ≤ length t → up_to n (item_at t) ≡ items → drop (width * n) t ≡ drop (width * n) old
       → t ≡ flat_map words_of items ++ drop (length (flat_map words_of items)) old
-  table-with t old n items l e d =
-      let size : length (flat_map words_of items) ≡ width * n = length-words items ∙ ap (λ (k : ℕ). width * k) (sym (ap length e) ∙ length-upTo n (item_at t)) in
+  table_with t old n items l e d =
+      let size : length (flat_map words_of items) ≡ width * n = length_words items ∙ ap (λ (k : ℕ). width * k) (sym (ap length e) ∙ length_up_to n (item_at t)) in
       sym (take-append-drop (width * n) t)
-      ∙ ap₂ ◌++◌ (sym (words-of-items t n l) ∙ ap (flat_map words_of) e) (d ∙ ap (λ (k : ℕ). drop k old) (sym size))
+      ∙ ap₂ ◌++◌ (sym (words_of_items t n l) ∙ ap (flat_map words_of) e) (d ∙ ap (λ (k : ℕ). drop k old) (sym size))

@@ -6,7 +6,7 @@ use native.Mathlib.Omega.{arith}
 use lib.ListN.{get_or}
 use Rattle.sequence.specs.UpTo.{up_to}
 use Rattle.network.specs.declared.Row.{Row}
-use Rattle.network.specs.Rows.{rowWords, wordsOfRow, row_at, tapWords, wordsOfTapRow, tapRowAt}
+use Rattle.network.specs.Rows.{row_words, words_of_row, row_at, tap_words, words_of_tap_row, tap_row_at}
 use Rattle.network.proofs.Items.{Layout}
 
 -- two rows with the same fields
@@ -22,15 +22,15 @@ same_row r q a b c d e =
 word : (s t : List ℕ) (a b k : ℕ) → get_or s (a + k) 0 ≡ get_or t (b + k) 0 → (x y : ℕ) → x ≡ a + k → y ≡ b + k → get_or s x 0 ≡ get_or t y 0
 word s t a b k e x y p q = rw (p, q) e
 
-pub row-layout : Layout rowWords wordsOfRow row_at
+pub row_layout : Layout row_words words_of_row row_at
 unfolding up_to
-row-layout =
+row_layout =
     record {
       size = λ r. refl;
       there = λ r rest. refl;
       back = λ t. refl;
       same = λ s t i j h. cc (
-        word s t (rowWords * i) (rowWords * j) 0 (h 0 (omega arith)) (rowWords * i) (rowWords * j) (omega arith) (omega arith),
+        word s t (row_words * i) (row_words * j) 0 (h 0 (omega arith)) (row_words * i) (row_words * j) (omega arith) (omega arith),
         h 1 (omega arith),
         h 2 (omega arith),
         h 3 (omega arith),
@@ -38,15 +38,15 @@ row-layout =
       );
     }
 
-pub tap-layout : Layout tapWords wordsOfTapRow tapRowAt
+pub tap_layout : Layout tap_words words_of_tap_row tap_row_at
 unfolding up_to
-tap-layout =
+tap_layout =
     record {
       size = λ r. refl;
       there = λ r rest. refl;
       back = λ t. refl;
       same = λ s t i j h. cc (
-        word s t (tapWords * i) (tapWords * j) 0 (h 0 (omega arith)) (tapWords * i) (tapWords * j) (omega arith) (omega arith),
+        word s t (tap_words * i) (tap_words * j) 0 (h 0 (omega arith)) (tap_words * i) (tap_words * j) (omega arith) (omega arith),
         h 1 (omega arith),
         h 2 (omega arith),
       );

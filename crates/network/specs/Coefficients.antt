@@ -10,9 +10,9 @@ abbrev pub with_sign : ℕ → ℤ → ℤ
 with_sign sign z = cond (eqb sign plus) z (cond (eqb sign minus) (neg_ℤ z) (pos 0))
 
 -- the "product" of a tap row: sign × 2^shift × the value of its row
-unfoldable pub coefficientOf : List Row → TapRow → ℤ
-coefficientOf rows t = with_sign t.sign (pos (lifted t.shift (row_in rows t.row).value))
+unfoldable pub coefficient_of : List Row → TapRow → ℤ
+coefficient_of rows t = with_sign t.sign (pos (lifted t.shift (row_in rows t.row).value))
 
 -- tap by tap
 abbrev pub coefficients : Network → List ℤ
-coefficients net = map (coefficientOf net.rows) net.taps
+coefficients net = map (coefficient_of net.rows) net.taps

@@ -1,4 +1,4 @@
--- The row rule. Document 01, "The network". `RowRule` says it in the document's words; `keepsRowRule` computes it, and `row-rule` and `row_kept` of
+-- The row rule. Document 01, "The network". `RowRule` says it in the document's words; `keeps_row_rule_of` computes it, and `row_rule` and `row_kept` of
 -- specs/Claims.antt claim that the two say the same. Definitions only.
 use Rattle.std.specs.Prelude.{ℕ, zero, suc, ◌*◌, ◌-◌, ◌%◌, ◌^◌, ◌≤◌, ◌<◌, ◌≡◌, Bool, false, cond, ◌&&◌, ◌||◌, List, T, eqb, leb, ltb, ℤ, pos, negsuc, ◌+ℤ◌, ◌-ℤ◌}
 use Rattle.network.specs.declared.Row.{Row}
@@ -9,8 +9,8 @@ abbrev pub combined : ℕ → ℤ → ℤ → ℤ
 combined sign a b = cond (eqb sign plus) (a +ℤ b) (cond (eqb sign minus) (a -ℤ b) (b -ℤ a))
 
 -- the sign of a row is one of the three
-abbrev pub isRowSign : ℕ → Bool
-isRowSign sign = eqb sign plus || eqb sign minus || eqb sign reversed
+abbrev pub is_row_sign : ℕ → Bool
+is_row_sign sign = eqb sign plus || eqb sign minus || eqb sign reversed
 
 -- 2^s·left, left standing for the value of the row that is named
 abbrev pub lifted : ℕ → ℕ → ℕ
@@ -33,15 +33,15 @@ pub record LaterRow (rows : List Row) (i : ℕ) (r : Row) : Type 0 where
   pub right : r.right < i
   -- "a shift s from 1 to 31"
   pub shift_from : 1 ≤ r.shift
-  pub shift-to : r.shift ≤ 31
+  pub shift_to : r.shift ≤ 31
   -- "and a sign"
-  pub sign : T (isRowSign r.sign)
+  pub sign : T (is_row_sign r.sign)
   -- "A stored value other than the one worked out breaks the row rule"
   pub worked : pos r.value ≡ combined r.sign (pos (lifted r.shift (row_in rows r.left).value)) (pos (row_in rows r.right).value)
   -- "A row's value is odd, from 1 to 2^31 - 1"
   pub odd : r.value % 2 ≡ 1
-  pub value-from : 1 ≤ r.value
-  pub value-to : r.value ≤ 2 ^ 31 - 1
+  pub value_from : 1 ≤ r.value
+  pub value_to : r.value ≤ 2 ^ 31 - 1
   -- "and 2^s·left is at most 2^32"
   pub bounded : lifted r.shift (row_in rows r.left).value ≤ 2 ^ 32
 
@@ -52,33 +52,33 @@ RowRule rows (suc i) = LaterRow rows (suc i) (row_in rows (suc i))
 
 -- ---- computed
 
-abbrev pub isFirst : Row → Bool
-isFirst r = eqb r.left 0 && eqb r.right 0 && eqb r.shift 0 && eqb r.sign plus && eqb r.value 1
+abbrev pub is_first_of : Row → Bool
+is_first_of r = eqb r.left 0 && eqb r.right 0 && eqb r.shift 0 && eqb r.sign plus && eqb r.value 1
 
-abbrev pub shiftWithin : ℕ → Bool
-shiftWithin s = leb 1 s && leb s 31
+abbrev pub shift_within : ℕ → Bool
+shift_within s = leb 1 s && leb s 31
 
 -- z is the natural number n
-abbrev pub isNatural : ℤ → ℕ → Bool
-isNatural (pos m) n = eqb m n
-isNatural (negsuc m) n = false
+abbrev pub is_natural : ℤ → ℕ → Bool
+is_natural (pos m) n = eqb m n
+is_natural (negsuc m) n = false
 
 -- the value v is the one that the sign gives for a and b
-abbrev pub isWorked : ℕ → ℕ → ℕ → ℕ → Bool
-isWorked sign a b v = isRowSign sign && isNatural (combined sign (pos a) (pos b)) v
+abbrev pub is_worked_of : ℕ → ℕ → ℕ → ℕ → Bool
+is_worked_of sign a b v = is_row_sign sign && is_natural (combined sign (pos a) (pos b)) v
 
-abbrev pub valueWithin : ℕ → Bool
-valueWithin v = eqb (v % 2) 1 && leb 1 v && leb v (2 ^ 31 - 1)
+abbrev pub value_within : ℕ → Bool
+value_within v = eqb (v % 2) 1 && leb 1 v && leb v (2 ^ 31 - 1)
 
 -- shift, sign and value of a later row, left and right being the values of the rows that it names
-abbrev pub isSum : Row → ℕ → ℕ → Bool
-isSum r left right =
-    shiftWithin r.shift && isWorked r.sign (lifted r.shift left) right r.value && valueWithin r.value && leb (lifted r.shift left) (2 ^ 32)
+abbrev pub is_sum_of : Row → ℕ → ℕ → Bool
+is_sum_of r left right =
+    shift_within r.shift && is_worked_of r.sign (lifted r.shift left) right r.value && value_within r.value && leb (lifted r.shift left) (2 ^ 32)
 
-abbrev pub isLater : List Row → ℕ → Row → Bool
-isLater rows i r = ltb r.left i && ltb r.right i && isSum r (row_in rows r.left).value (row_in rows r.right).value
+abbrev pub is_later : List Row → ℕ → Row → Bool
+is_later rows i r = ltb r.left i && ltb r.right i && is_sum_of r (row_in rows r.left).value (row_in rows r.right).value
 
 -- row i of a network keeps the row rule
-unfoldable pub keepsRowRule : List Row → ℕ → Bool
-keepsRowRule rows zero = isFirst (row_in rows 0)
-keepsRowRule rows (suc i) = isLater rows (suc i) (row_in rows (suc i))
+unfoldable pub keeps_row_rule_of : List Row → ℕ → Bool
+keeps_row_rule_of rows zero = is_first_of (row_in rows 0)
+keeps_row_rule_of rows (suc i) = is_later rows (suc i) (row_in rows (suc i))

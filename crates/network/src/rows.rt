@@ -1,7 +1,7 @@
 // A row in a table of words, read and written.
 ghost use Rattle.std.specs.Prelude.{◌≡◌, ◌+◌, ◌*◌, ◌≤◌, length};
 ghost use Rattle.std.proofs.lemmas.List.Edits.{sets};
-ghost use Rattle.network.specs.Rows.{rowWords, row_at, wordsOfRow};
+ghost use Rattle.network.specs.Rows.{row_words, row_at, words_of_row};
 
 use crate::Row;
 
@@ -10,7 +10,7 @@ const ROW_WORDS: usize = 5;
 
 // Row i.
 pub fn read_row(rows: &[u32], i: usize) -> Row
-    requires { rowWords * i + rowWords ≤ length rows.now }
+    requires { row_words * i + row_words ≤ length rows.now }
     ensures { result ≡ row_at rows.now i }
 {
     let at = ROW_WORDS * i;
@@ -25,7 +25,7 @@ pub fn read_row(rows: &[u32], i: usize) -> Row
 
 // The value of row i.
 pub fn read_value(rows: &[u32], i: usize) -> u32
-    requires { rowWords * i + rowWords ≤ length rows.now }
+    requires { row_words * i + row_words ≤ length rows.now }
     ensures { result ≡ (row_at rows.now i).value }
 {
     rows[ROW_WORDS * i + 4]
@@ -33,8 +33,8 @@ pub fn read_value(rows: &[u32], i: usize) -> u32
 
 // Row i becomes this one.
 pub fn write_row(rows: &mut [u32], i: usize, row: Row)
-    requires { rowWords * i + rowWords ≤ length rows.old }
-    ensures { rows.new ≡ sets rows.old (rowWords * i) (wordsOfRow row) }
+    requires { row_words * i + row_words ≤ length rows.old }
+    ensures { rows.new ≡ sets rows.old (row_words * i) (words_of_row row) }
 {
     let at = ROW_WORDS * i;
     rows[at] = row.left;

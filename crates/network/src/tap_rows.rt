@@ -1,7 +1,7 @@
 // A tap row in a table of words, read and written.
 ghost use Rattle.std.specs.Prelude.{◌≡◌, ◌+◌, ◌*◌, ◌≤◌, length};
 ghost use Rattle.std.proofs.lemmas.List.Edits.{sets};
-ghost use Rattle.network.specs.Rows.{tapWords, tapRowAt, wordsOfTapRow};
+ghost use Rattle.network.specs.Rows.{tap_words, tap_row_at, words_of_tap_row};
 
 use crate::TapRow;
 
@@ -10,8 +10,8 @@ const TAP_WORDS: usize = 3;
 
 // Tap row j.
 pub fn read_tap_row(taps: &[u32], j: usize) -> TapRow
-    requires { tapWords * j + tapWords ≤ length taps.now }
-    ensures { result ≡ tapRowAt taps.now j }
+    requires { tap_words * j + tap_words ≤ length taps.now }
+    ensures { result ≡ tap_row_at taps.now j }
 {
     let at = TAP_WORDS * j;
     TapRow {
@@ -23,8 +23,8 @@ pub fn read_tap_row(taps: &[u32], j: usize) -> TapRow
 
 // Tap row j becomes this one.
 pub fn write_tap_row(taps: &mut [u32], j: usize, tap: TapRow)
-    requires { tapWords * j + tapWords ≤ length taps.old }
-    ensures { taps.new ≡ sets taps.old (tapWords * j) (wordsOfTapRow tap) }
+    requires { tap_words * j + tap_words ≤ length taps.old }
+    ensures { taps.new ≡ sets taps.old (tap_words * j) (words_of_tap_row tap) }
 {
     let at = TAP_WORDS * j;
     taps[at] = tap.sign;

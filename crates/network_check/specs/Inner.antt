@@ -3,9 +3,9 @@ use Rattle.std.specs.Prelude.{◌-◌, ◌≡◌, Bool, true, false, List, ◌++
 use Rattle.refusal.specs.Answer.{Answer, given, refused}
 
 -- whether there is a result
-abbrev pub isGiven : {A : Type 0} → Answer A → Bool
-isGiven (given a) = true
-isGiven (refused number place) = false
+abbrev pub is_given : {A : Type 0} → Answer A → Bool
+is_given (given a) = true
+is_given (refused number place) = false
 
 -- 256 coefficients: "Coefficients past the last tap are 0"
 unfoldable pub padded : List ℤ → List ℤ

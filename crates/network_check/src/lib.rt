@@ -1,12 +1,12 @@
 // Checking a network, and the coefficients of one that passes.
 ghost use Rattle.std.specs.Prelude.{◌≡◌, ◌++◌, ◌*◌, ◌≤◌, pos, length, drop, replicate};
-ghost use Rattle.refusal.specs.Answer.{lowest, placeOr};
-ghost use Rattle.network.specs.Rows.{rowWords, tapWords, rows_of, tapRowsOf, networkOf, rowTable, tapTable};
+ghost use Rattle.refusal.specs.Answer.{lowest, place_or};
+ghost use Rattle.network.specs.Rows.{row_words, tap_words, rows_of, tap_rows_of, network_of, row_table, tap_table};
 ghost use Rattle.network.specs.Coefficients as Coefficients;
-ghost use Rattle.network.specs.Check.{breaksRowRule, breaksTapRowRule, numbers, checked, networkAnswer, outcome};
+ghost use Rattle.network.specs.Check.{breaks_row_rule, breaks_tap_row_rule, numbers, checked, network_answer, outcome};
 ghost use Rattle.network.specs.Checked.{NetworkChecked, CoefficientsRead};
 ghost use Rattle.network_check.specs.Checked.{answer_of};
-ghost use Rattle.network_check.specs.Inner.{isGiven, Holds};
+ghost use Rattle.network_check.specs.Inner.{is_given, Holds};
 
 use network_rules::TapProduct;
 use refusal::Refusal;
@@ -19,7 +19,7 @@ pub enum Checked {
 
 // Whether nothing was turned down.
 pub fn passes(answer: Checked) -> bool
-    ensures { result ≡ isGiven (answer_of answer) }
+    ensures { result ≡ is_given (answer_of answer) }
 {
     match answer {
         Checked::Passed => true,
@@ -29,8 +29,8 @@ pub fn passes(answer: Checked) -> bool
 
 // The lowest row that breaks the row rule, n where none does.
 fn first_broken_row(rows: &[u32], n: usize) -> usize
-    requires { rowWords * n ≤ length rows.now }
-    ensures { result ≡ placeOr n (lowest (breaksRowRule (rows_of rows.now n)) (numbers n)) }
+    requires { row_words * n ≤ length rows.now }
+    ensures { result ≡ place_or n (lowest (breaks_row_rule (rows_of rows.now n)) (numbers n)) }
 {
     let mut i: usize = 0;
     while i < n {
@@ -45,10 +45,10 @@ fn first_broken_row(rows: &[u32], n: usize) -> usize
 // The lowest tap that breaks the tap row rule, m where none does. The coefficients of the taps
 // before it are written to the buffer.
 fn fill(rows: &[u32], n: usize, taps: &[u32], m: usize, buffer: &mut [i32; 256]) -> usize
-    requires { (rowWords * n ≤ length rows.now) × (tapWords * m ≤ length taps.now) × (m ≤ 256) × (length buffer.old ≡ 256) }
-    ensures value { result ≡ placeOr m (lowest (breaksTapRowRule (rows_of rows.now n)) (tapRowsOf taps.now m)) }
+    requires { (row_words * n ≤ length rows.now) × (tap_words * m ≤ length taps.now) × (m ≤ 256) × (length buffer.old ≡ 256) }
+    ensures value { result ≡ place_or m (lowest (breaks_tap_row_rule (rows_of rows.now n)) (tap_rows_of taps.now m)) }
     ensures buffer_after { result ≡ m → buffer.new
-        ≡ Coefficients.coefficients (networkOf rows.now n taps.now m) ++ drop m buffer.old }
+        ≡ Coefficients.coefficients (network_of rows.now n taps.now m) ++ drop m buffer.old }
 {
     let mut j: usize = 0;
     while j < m {
@@ -64,9 +64,9 @@ fn fill(rows: &[u32], n: usize, taps: &[u32], m: usize, buffer: &mut [i32; 256])
 // The checks 10 and 11 of a network in tables that are long enough. Where it passes, its
 // coefficients are in the buffer, and zeros past them.
 fn rules(rows: &[u32], n: usize, taps: &[u32], m: usize, buffer: &mut [i32; 256]) -> Checked
-    requires { (rowTable ≤ length rows.now) × (tapTable ≤ length taps.now) × (m ≤ 256) × (buffer.old ≡ replicate 256 (pos 0)) }
-    ensures result_value { answer_of result ≡ outcome (checked (networkOf rows.now n taps.now m)) }
-    ensures holds { Holds (checked (networkOf rows.now n taps.now m)) buffer.new }
+    requires { (row_table ≤ length rows.now) × (tap_table ≤ length taps.now) × (m ≤ 256) × (buffer.old ≡ replicate 256 (pos 0)) }
+    ensures result_value { answer_of result ≡ outcome (checked (network_of rows.now n taps.now m)) }
+    ensures holds { Holds (checked (network_of rows.now n taps.now m)) buffer.new }
 {
     if n == 0 {
         return Checked::Refused(Refusal::RowRule(0));
@@ -97,8 +97,8 @@ pub fn examine(
     buffer: &mut [i32; 256],
 ) -> Checked
     requires { buffer.old ≡ replicate 256 (pos 0) }
-    ensures result_value { answer_of result ≡ outcome (networkAnswer short rows.now row_count taps.now tap_count) }
-    ensures holds { Holds (networkAnswer short rows.now row_count taps.now tap_count) buffer.new }
+    ensures result_value { answer_of result ≡ outcome (network_answer short rows.now row_count taps.now tap_count) }
+    ensures holds { Holds (network_answer short rows.now row_count taps.now tap_count) buffer.new }
 {
     if tap_count == 0 {
         return Checked::Refused(Refusal::NoTaps);

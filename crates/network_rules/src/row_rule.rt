@@ -1,13 +1,13 @@
 // The row rule.
 ghost use Rattle.std.specs.Prelude.{◌≡◌, ℕ, ◌+◌, ◌*◌, ◌^◌, ◌≤◌, ◌<◌, length};
-ghost use Rattle.network.specs.Rows.{rowWords, rows_of};
-ghost use Rattle.network.specs.RowRule.{isFirst, isWorked, isSum, keepsRowRule};
+ghost use Rattle.network.specs.Rows.{row_words, rows_of};
+ghost use Rattle.network.specs.RowRule.{is_first_of, is_worked_of, is_sum_of, keeps_row_rule_of};
 
 use network::{MINUS, PLUS, REVERSED, Row};
 use word::choose_wide;
 
 fn is_first(row: Row) -> bool
-    ensures { result ≡ isFirst row }
+    ensures { result ≡ is_first_of row }
 {
     (row.left == 0) & (row.right == 0) & (row.shift == 0) & (row.sign == PLUS) & (row.value == 1)
 }
@@ -16,7 +16,7 @@ fn is_first(row: Row) -> bool
 // names one that is the sum of the other two.
 fn is_worked(sign: u32, a: u64, b: u64, v: u64) -> bool
     requires { (a < 2 ^ 63) × (b < 2 ^ 32) × (v < 2 ^ 32) }
-    ensures { 1 ≤ v → result ≡ isWorked sign a b v }
+    ensures { 1 ≤ v → result ≡ is_worked_of sign a b v }
 {
     let right = choose_wide(sign == REVERSED, b, 0);
     let left = choose_wide(sign == MINUS, a, right);
@@ -26,7 +26,7 @@ fn is_worked(sign: u32, a: u64, b: u64, v: u64) -> bool
 // Shift, sign and value of a later row, over the values of the rows that it names. There is no
 // jump, since a network's signs follow no pattern.
 fn is_sum(row: Row, left: u32, right: u32) -> bool
-    ensures { result ≡ isSum row left right }
+    ensures { result ≡ is_sum_of row left right }
 {
     let a = crate::lift(row.shift % 32, left);
     ((1 <= row.shift) & (row.shift <= 31))
@@ -37,8 +37,8 @@ fn is_sum(row: Row, left: u32, right: u32) -> bool
 
 // Row i keeps the row rule, in every network of these rows that has it.
 pub fn keeps_row_rule(rows: &[u32], i: usize) -> bool
-    requires { rowWords * i + rowWords ≤ length rows.now }
-    ensures { (n : ℕ) → i < n → result ≡ keepsRowRule (rows_of rows.now n) i }
+    requires { row_words * i + row_words ≤ length rows.now }
+    ensures { (n : ℕ) → i < n → result ≡ keeps_row_rule_of (rows_of rows.now n) i }
 {
     let row = network::read_row(rows, i);
     if i == 0 {

@@ -2,11 +2,11 @@
 ghost use Rattle.std.specs.Prelude.{◌≡◌, true, ◌&&◌, ◌+◌, ◌*◌, ◌^◌, ◌≤◌, ◌<◌, leb, pos, length};
 ghost use Rattle.std.specs.Int.{w32};
 ghost use Rattle.std.proofs.Common.{to_z};
-ghost use Rattle.network.specs.Rows.{rowWords, tapWords, rows_of, tapRowAt};
+ghost use Rattle.network.specs.Rows.{row_words, tap_words, rows_of, tap_row_at};
 ghost use Rattle.network.specs.Coefficients.{with_sign};
-ghost use Rattle.network.specs.TapRowRule.{isTapSign};
-ghost use Rattle.word.specs.Bounds.{withinBounds};
-ghost use Rattle.network_rules.specs.Inner.{productOf};
+ghost use Rattle.network.specs.TapRowRule.{is_tap_sign};
+ghost use Rattle.word.specs.Bounds.{within_bounds};
+ghost use Rattle.network_rules.specs.Inner.{product_of};
 
 use network::{MINUS, NONE, PLUS};
 use word::choose_wide;
@@ -32,7 +32,7 @@ fn signed(word: u64) -> i32
 
 // p with the sign of a tap row, where that is a coefficient.
 fn with_sign(sign: u32, p: u64) -> i32
-    requires { (p ≤ 2 ^ 31) × ((isTapSign sign && withinBounds (with_sign sign (pos p))) ≡ true) }
+    requires { (p ≤ 2 ^ 31) × ((is_tap_sign sign && within_bounds (with_sign sign (pos p))) ≡ true) }
     ensures { result ≡ with_sign sign (pos p) }
 {
     let negative = (0x1_0000_0000 - p) % 0x1_0000_0000;
@@ -44,7 +44,7 @@ fn with_sign(sign: u32, p: u64) -> i32
 // with +. There is no jump, since the signs of taps follow no pattern.
 fn is_product(shift: u32, sign: u32, p: u64) -> bool
     requires { p < 2 ^ 63 }
-    ensures { (result ≡ (leb shift 31 && isTapSign sign && withinBounds (with_sign sign (pos p)))) × (result ≡ true → p ≤ 2 ^ 31) }
+    ensures { (result ≡ (leb shift 31 && is_tap_sign sign && within_bounds (with_sign sign (pos p)))) × (result ≡ true → p ≤ 2 ^ 31) }
 {
     (shift <= 31)
         & ((sign == PLUS) | (sign == MINUS))
@@ -53,8 +53,8 @@ fn is_product(shift: u32, sign: u32, p: u64) -> bool
 
 // The product of tap row j over the first n rows.
 pub fn tap_product(rows: &[u32], n: usize, taps: &[u32], j: usize) -> TapProduct
-    requires { (rowWords * n ≤ length rows.now) × (tapWords * j + tapWords ≤ length taps.now) }
-    ensures { result ≡ productOf (rows_of rows.now n) (tapRowAt taps.now j) }
+    requires { (row_words * n ≤ length rows.now) × (tap_words * j + tap_words ≤ length taps.now) }
+    ensures { result ≡ product_of (rows_of rows.now n) (tap_row_at taps.now j) }
 {
     let tap = network::read_tap_row(taps, j);
     let row = word::index(tap.row);

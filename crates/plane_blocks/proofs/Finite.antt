@@ -6,17 +6,17 @@ use native.Mathlib.Omega.{arith}
 use borrow.Author.Tests.{eqb-true, eqb-false}
 use lib.Dec.{eqb}
 
-pub and-true : (a b : Bool) → a && b ≡ true → (a ≡ true) × (b ≡ true)
-and-true true b e = (refl, e)
-and-true false b e = absurd (false≢true e)
+pub and_true : (a b : Bool) → a && b ≡ true → (a ≡ true) × (b ≡ true)
+and_true true b e = (refl, e)
+and_true false b e = absurd (false≢true e)
 
 abbrev pub all_below : ℕ → (ℕ → Bool) → Bool
 all_below zero f = true
 all_below (suc n) f = f n && all_below n f
 
-pub all-at : (n : ℕ) (f : ℕ → Bool) → all_below n f ≡ true → (i : ℕ) → i < n → f i ≡ true
-all-at zero f e i h = absurd (omega arith)
-all-at (suc n) f e i h = let w = and-true (f n) (all_below n f) e in go (eqb i n) refl w.0 (λ (l : i < n). all-at n f w.1 i l)
+pub all_at : (n : ℕ) (f : ℕ → Bool) → all_below n f ≡ true → (i : ℕ) → i < n → f i ≡ true
+all_at zero f e i h = absurd (omega arith)
+all_at (suc n) f e i h = let w = and_true (f n) (all_below n f) e in go (eqb i n) refl w.0 (λ (l : i < n). all_at n f w.1 i l)
   where
     less : (i n : ℕ) → i < suc n → (i ≡ n → ⊥) → i < n
     less i n h d = omega arith

@@ -9,14 +9,14 @@ use lib.ListN.{get_or, drop}
 use lib.Seq.{drop_at}
 use Rattle.sequence.specs.UpTo.{up_to}
 use Rattle.sequence.specs.Inner.{front}
-use Rattle.sequence.proofs.UpTo.{length-upTo, upTo-same}
-use Rattle.sequence.proofs.Front.{front-done}
+use Rattle.sequence.proofs.UpTo.{length_up_to, up_to_same}
+use Rattle.sequence.proofs.Front.{front_done}
 use Rattle.plane_masks.specs.Binary.{bit_at}
-use Rattle.plane_masks.proofs.Binary.{binary-ext, binary-whole}
+use Rattle.plane_masks.proofs.Binary.{binary_ext, binary_whole}
 use Rattle.plane_blocks.specs.Inner.{mixed, column, transposed}
-use Rattle.plane_blocks.proofs.Rows.{mixed-small}
-use Rattle.plane_blocks.proofs.Finite.{and-true, all_below, all-at}
-use Rattle.plane_blocks.proofs.Stages.{row_of, place_of, apart, apart-at, stage-bit, in_rows, in-places}
+use Rattle.plane_blocks.proofs.Rows.{mixed_small}
+use Rattle.plane_blocks.proofs.Finite.{and_true, all_below, all_at}
+use Rattle.plane_blocks.proofs.Stages.{row_of, place_of, apart, apart_at, stage_bit, in_rows, in_places}
 
 -- bit b of row r of the rows g is bit place r b of row row r b of the rows f
 pub record Leads (f g : List ℕ) (row place : ℕ → ℕ → ℕ) : Type 0 where
@@ -26,50 +26,50 @@ pub record Leads (f g : List ℕ) (row place : ℕ → ℕ → ℕ) : Type 0 whe
 abbrev pub after : ℕ → (ℕ → ℕ → ℕ) → ℕ → ℕ → ℕ
 after j at r b = at (row_of j r b) (place_of j r b)
 
-pub leads-start : (f : List ℕ) → Leads f f (λ (r b : ℕ). r) (λ (r b : ℕ). b)
-leads-start f = record { same = λ (r b : ℕ) h l. refl }
+pub leads_start : (f : List ℕ) → Leads f f (λ (r b : ℕ). r) (λ (r b : ℕ). b)
+leads_start f = record { same = λ (r b : ℕ) h l. refl }
 
-pub leads-on : (j m : ℕ) (f g k old : List ℕ) (row place : ℕ → ℕ → ℕ) → all_below 32 (apart j m) ≡ true → Leads f g row place → k ≡ front (mixed j m g) old 32
+pub leads_on : (j m : ℕ) (f g k old : List ℕ) (row place : ℕ → ℕ → ℕ) → all_below 32 (apart j m) ≡ true → Leads f g row place → k ≡ front (mixed j m g) old 32
     → Leads f k (after j row) (after j place)
-leads-on j m f g k old row place e p is = record { same = same }
+leads_on j m f g k old row place e p is = record { same = same }
   where
     same : (r b : ℕ) → r < 32 → b < 32 → bit_at (get_or k r 0) b ≡ bit_at (get_or f (after j row r b) 0) (after j place r b)
     same r b h l =
-        let a = apart-at j m e b l in
-        ap (λ (x : ℕ). bit_at x b) (ap (λ (t : List ℕ). get_or t r 0) is ∙ front-done (mixed j m g) old 32 r 0 h)
-        ∙ stage-bit j m g r b l a
-        ∙ p.same (row_of j r b) (place_of j r b) (in_rows j m g r b l a h) (in-places j m g r b l a)
+        let a = apart_at j m e b l in
+        ap (λ (x : ℕ). bit_at x b) (ap (λ (t : List ℕ). get_or t r 0) is ∙ front_done (mixed j m g) old 32 r 0 h)
+        ∙ stage_bit j m g r b l a
+        ∙ p.same (row_of j r b) (place_of j r b) (in_rows j m g r b l a h) (in_places j m g r b l a)
 
 -- ---- all five: row and place are changed about
-abbrev fiveTimes : (ℕ → ℕ → ℕ) → ℕ → ℕ → ℕ
-fiveTimes at = after 1 (after 2 (after 4 (after 8 (after 16 at))))
+abbrev five_times : (ℕ → ℕ → ℕ) → ℕ → ℕ → ℕ
+five_times at = after 1 (after 2 (after 4 (after 8 (after 16 at))))
 
 abbrev transposes : ℕ → ℕ → Bool
-transposes r b = eqb (fiveTimes (λ (r b : ℕ). r) r b) b && eqb (fiveTimes (λ (r b : ℕ). b) r b) r
+transposes r b = eqb (five_times (λ (r b : ℕ). r) r b) b && eqb (five_times (λ (r b : ℕ). b) r b) r
 
-all-transpose : all_below 32 (λ (r : ℕ). all_below 32 (transposes r)) ≡ true
-all-transpose = refl
+all_transpose : all_below 32 (λ (r : ℕ). all_below 32 (transposes r)) ≡ true
+all_transpose = refl
 
-pub changed-about : (f g : List ℕ) → Leads f g (fiveTimes (λ (r b : ℕ). r)) (fiveTimes (λ (r b : ℕ). b)) → (r b : ℕ) → r < 32 → b < 32
+pub changed_about : (f g : List ℕ) → Leads f g (five_times (λ (r b : ℕ). r)) (five_times (λ (r b : ℕ). b)) → (r b : ℕ) → r < 32 → b < 32
     → bit_at (get_or g r 0) b ≡ bit_at (get_or f b 0) r
-changed-about f g p r b h l =
-    let w = and-true (eqb (fiveTimes (λ (r b : ℕ). r) r b) b) _ (all-at 32 (transposes r) (all-at 32 (λ (r : ℕ). all_below 32 (transposes r)) all-transpose r h) b l) in
+changed_about f g p r b h l =
+    let w = and_true (eqb (five_times (λ (r b : ℕ). r) r b) b) _ (all_at 32 (transposes r) (all_at 32 (λ (r : ℕ). all_below 32 (transposes r)) all_transpose r h) b l) in
     p.same r b h l ∙ ap₂ (λ (r b : ℕ). bit_at (get_or f r 0) b) (eqb-true _ b w.0) (eqb-true _ r w.1)
 
 past : (g : ℕ → ℕ) (old : List ℕ) → drop 32 (front g old 32) ≡ drop 32 old
 unfolding front
-past g old = drop_at (up_to 32 g) (drop 32 old) 32 (length-upTo 32 g)
+past g old = drop_at (up_to 32 g) (drop 32 old) 32 (length_up_to 32 g)
 
 -- what the stages leave that are run to and fro, with the masks 0x0000ffff, 0x00ff00ff, 0x0f0f0f0f, 0x33333333 and 0x55555555
 module _ (rows spare to a b c d e : List ℕ) (is-a : a ≡ front (mixed 16 65535 rows) to 32) (is_b : b ≡ front (mixed 8 16711935 a) spare 32)
     (is_c : c ≡ front (mixed 4 252645135 b) a 32) (is-d : d ≡ front (mixed 2 858993459 c) b 32) (is-e : e ≡ front (mixed 1 1431655765 d) c 32) where
-  all-lead : Leads rows e (fiveTimes (λ (r b : ℕ). r)) (fiveTimes (λ (r b : ℕ). b))
-  all-lead =
-      leads-on 1 1431655765 rows d e c _ _ refl
-      (leads-on 2 858993459 rows c d b _ _ refl
-      (leads-on 4 252645135 rows b c a _ _ refl
-      (leads-on 8 16711935 rows a b spare _ _ refl
-      (leads-on 16 65535 rows rows a to _ _ refl (leads-start rows) is-a)
+  all_lead : Leads rows e (five_times (λ (r b : ℕ). r)) (five_times (λ (r b : ℕ). b))
+  all_lead =
+      leads_on 1 1431655765 rows d e c _ _ refl
+      (leads_on 2 858993459 rows c d b _ _ refl
+      (leads_on 4 252645135 rows b c a _ _ refl
+      (leads_on 8 16711935 rows a b spare _ _ refl
+      (leads_on 16 65535 rows rows a to _ _ refl (leads_start rows) is-a)
       is_b)
       is_c)
       is-d)
@@ -78,13 +78,13 @@ module _ (rows spare to a b c d e : List ℕ) (is-a : a ≡ front (mixed 16 6553
   row_is : (r : ℕ) → r < 32 → mixed 1 1431655765 d r ≡ column rows r
   unfolding column
   row_is r h =
-      sym (binary-whole 32 (mixed 1 1431655765 d r) (mixed-small 1 1431655765 d r (lit< tt)))
-      ∙ binary-ext 32 (bit_at (mixed 1 1431655765 d r)) (λ (p : ℕ). bit_at (get_or rows p 0) r) (λ (p : ℕ) l.
-      ap (λ (x : ℕ). bit_at x p) (sym (ap (λ (t : List ℕ). get_or t r 0) is-e ∙ front-done (mixed 1 1431655765 d) c 32 r 0 h)) ∙ changed-about rows e all-lead r p h l)
+      sym (binary_whole 32 (mixed 1 1431655765 d r) (mixed_small 1 1431655765 d r (lit< tt)))
+      ∙ binary_ext 32 (bit_at (mixed 1 1431655765 d r)) (λ (p : ℕ). bit_at (get_or rows p 0) r) (λ (p : ℕ) l.
+      ap (λ (x : ℕ). bit_at x p) (sym (ap (λ (t : List ℕ). get_or t r 0) is-e ∙ front_done (mixed 1 1431655765 d) c 32 r 0 h)) ∙ changed_about rows e all_lead r p h l)
 
-  pub all-transposed : e ≡ transposed rows ++ drop 32 to
+  pub all_transposed : e ≡ transposed rows ++ drop 32 to
   unfolding transposed front
-  all-transposed =
+  all_transposed =
       is-e
-      ∙ ap₂ (λ (x y : List ℕ). x ++ y) (upTo-same (mixed 1 1431655765 d) (column rows) 32 row_is)
+      ∙ ap₂ (λ (x y : List ℕ). x ++ y) (up_to_same (mixed 1 1431655765 d) (column rows) 32 row_is)
       (ap (drop 32) is_c ∙ past (mixed 4 252645135 b) a ∙ ap (drop 32) is-a ∙ past (mixed 16 65535 rows) to)

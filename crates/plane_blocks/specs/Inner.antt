@@ -20,5 +20,5 @@ unfoldable pub transposed : List ℕ → List ℕ
 transposed rows = up_to 32 (column rows)
 
 -- the 32 cells of a block in plane p: half a word
-unfoldable pub halfWord : List ℕ → ℕ → ℕ → ℕ
-halfWord table block p = get_or table (4 * p + block / 2) 0 / 2 ^ (32 * (block % 2)) % 2 ^ 32
+unfoldable pub half_word : List ℕ → ℕ → ℕ → ℕ
+half_word table block p = get_or table (4 * p + block / 2) 0 / 2 ^ (32 * (block % 2)) % 2 ^ 32

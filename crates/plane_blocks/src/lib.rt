@@ -2,8 +2,8 @@
 ghost use Rattle.std.specs.Prelude.{◌≡◌, List, ◌++◌, ℕ, ◌+◌, ◌*◌, ◌≤◌, ◌<◌, length, get_or, drop};
 ghost use Rattle.sequence.specs.UpTo.{up_to};
 ghost use Rattle.sequence.specs.Inner.{front};
-ghost use Rattle.plane_masks.specs.Planes.{cellMask};
-ghost use Rattle.plane_blocks.specs.Inner.{mixed, transposed, halfWord};
+ghost use Rattle.plane_masks.specs.Planes.{cell_mask};
+ghost use Rattle.plane_blocks.specs.Inner.{mixed, transposed, half_word};
 
 // One of the stages that transpose rows: each row is put together from two that are 16 apart.
 fn stage(from: &[u32], j: u32, m: u32, to: &mut [u32])
@@ -36,7 +36,7 @@ fn transpose(rows: &[u32], spare: &mut [u32], to: &mut [u32])
 // The rows of a block: in each plane its 32 cells.
 fn gather(table: &[u64], block: usize, rows: &mut [u32])
     requires { (128 ≤ length table.now) × (block < 8) × (32 ≤ length rows.old) }
-    ensures { rows.new ≡ front (halfWord table.now block) rows.old 32 }
+    ensures { rows.new ≡ front (half_word table.now block) rows.old 32 }
 {
     let j = block / 2;
     let shift = 32 * (block % 2);
@@ -51,7 +51,7 @@ fn gather(table: &[u64], block: usize, rows: &mut [u32])
 fn block_masks(table: &[u64], block: usize, masks: &mut [u32])
     requires { (128 ≤ length table.now) × (block < 8) × (32 ≤ length masks.old) }
     ensures { masks.new
-        ≡ up_to 32 (λ b. cellMask table.now (32 * block + b)) ++ drop 32 masks.old }
+        ≡ up_to 32 (λ b. cell_mask table.now (32 * block + b)) ++ drop 32 masks.old }
 {
     let mut rows = [0u32; 32];
     let mut spare = [0u32; 32];
@@ -75,8 +75,8 @@ fn put(masks: &[u32], n: usize, at: usize, to: &mut [u32])
 // The masks of the first n cells of a block, behind those of the cells before it.
 pub fn read_block(table: &[u64], block: usize, n: usize, masks: &mut [u32])
     requires { (128 ≤ length table.now) × (block < 8) × (n ≤ 32) × (32 * block + n ≤ length masks.old) }
-    ensures { (old : List ℕ) → masks.old ≡ front (cellMask table.now) old (32 * block)
-        → masks.new ≡ front (cellMask table.now) old (32 * block + n) }
+    ensures { (old : List ℕ) → masks.old ≡ front (cell_mask table.now) old (32 * block)
+        → masks.new ≡ front (cell_mask table.now) old (32 * block + n) }
 {
     let mut all = [0u32; 32];
     block_masks(table, block, &mut all);

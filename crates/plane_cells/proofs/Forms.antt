@@ -21,8 +21,8 @@ module _ (coefficients : List ℤ) (choices : List ℕ) (c : ℕ) (fits : SFits 
   same : handed ≡ get_or coefficients c (pos 0)
   same = to_z-of_z w32 (get_or coefficients c (pos 0)) fits
 
-  pub choice-below : HasForm coefficients choices c → get_or choices c 0 < length (listing 32 handed)
-  choice-below h = subst (λ (z : ℤ). get_or choices c 0 < length (listing 32 z)) (sym same) h.below
+  pub choice_below : HasForm coefficients choices c → get_or choices c 0 < length (listing 32 handed)
+  choice_below h = subst (λ (z : ℤ). get_or choices c 0 < length (listing 32 z)) (sym same) h.below
 
-  pub form-chosen : (form : Form) → form ≡ form_of (get_or (listing 32 handed) (get_or choices c 0) []) → form ≡ form_of (chosen coefficients choices c)
-  form-chosen form e = e ∙ ap (λ (z : ℤ). form_of (get_or (listing 32 z) (get_or choices c 0) [])) same
+  pub form_chosen : (form : Form) → form ≡ form_of (get_or (listing 32 handed) (get_or choices c 0) []) → form ≡ form_of (chosen coefficients choices c)
+  form_chosen form e = e ∙ ap (λ (z : ℤ). form_of (get_or (listing 32 z) (get_or choices c 0) [])) same

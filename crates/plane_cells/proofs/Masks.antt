@@ -4,8 +4,8 @@ use mathlib.Core.List.{List, ◌++◌}
 use Prim.Native.Nat.{ℕ}
 use lib.ListN.{drop}
 use Rattle.sequence.specs.Inner.{front}
-use Rattle.plane_masks.specs.Planes.{cellMask, cellMasks}
+use Rattle.plane_masks.specs.Planes.{cell_mask, cell_masks}
 
-pub all-masks : (table masks old : List ℕ) (c cells : ℕ) → masks ≡ front (cellMask table) old c → c ≡ cells → masks ≡ cellMasks cells table ++ drop cells old
-unfolding front cellMasks
-all-masks table masks old c cells e q = e ∙ ap (front (cellMask table) old) q
+pub all_masks : (table masks old : List ℕ) (c cells : ℕ) → masks ≡ front (cell_mask table) old c → c ≡ cells → masks ≡ cell_masks cells table ++ drop cells old
+unfolding front cell_masks
+all_masks table masks old c cells e q = e ∙ ap (front (cell_mask table) old) q

@@ -1,10 +1,10 @@
 // The forms of all cells of a grid, written as planes.
 ghost use Rattle.std.specs.Prelude.{◌≡◌, [], ◌++◌, map, ℕ, ◌+◌, ◌*◌, ◌≤◌, ◌<◌, ◌/◌, ◌%◌, ◌^◌, length, get_or, drop};
-ghost use Rattle.signed_digit.specs.Masks.{plusMask, minusMask};
-ghost use Rattle.plane_masks.specs.Planes.{planeWords};
-ghost use Rattle.plane_masks.specs.Grid.{chosenForms};
+ghost use Rattle.signed_digit.specs.Masks.{plus_mask, minus_mask};
+ghost use Rattle.plane_masks.specs.Planes.{plane_words_of};
+ghost use Rattle.plane_masks.specs.Grid.{chosen_forms};
 ghost use Rattle.plane_masks.specs.Claims.{HasForm};
-ghost use Rattle.plane_words.specs.Inner.{withCell};
+ghost use Rattle.plane_words.specs.Inner.{with_cell};
 
 use form_masks::Form;
 use form_number::form_at;
@@ -15,8 +15,8 @@ fn add_form(form: Form, c: usize, plus: &mut [u64], minus: &mut [u64])
     requires c_bound { (c < 256) × (128 ≤ length plus.old) × (128 ≤ length minus.old) }
     requires by_index { (p : ℕ) → p < 32 → get_or plus.old (4 * p + c / 64) 0 < 2 ^ (c % 64) }
     requires by_index_2 { (p : ℕ) → p < 32 → get_or minus.old (4 * p + c / 64) 0 < 2 ^ (c % 64) }
-    ensures plus { plus.new ≡ withCell form.plus c plus.old }
-    ensures minus { minus.new ≡ withCell form.minus c minus.old }
+    ensures plus { plus.new ≡ with_cell form.plus c plus.old }
+    ensures minus { minus.new ≡ with_cell form.minus c minus.old }
 {
     write_cell(plus, c, form.plus);
     write_cell(minus, c, form.minus);
@@ -32,11 +32,11 @@ fn add_cells(
 )
     requires cells_bound { (cells ≤ 256) × (cells ≤ length coefficients.now) × (cells ≤ length choices.now) }
     requires by_index { (c : ℕ) → c < cells → HasForm coefficients.now choices.now c }
-    requires plus_value { (plus.old ≡ planeWords [] ++ drop 128 plus.old) × (minus.old ≡ planeWords [] ++ drop 128 minus.old) }
+    requires plus_value { (plus.old ≡ plane_words_of [] ++ drop 128 plus.old) × (minus.old ≡ plane_words_of [] ++ drop 128 minus.old) }
     ensures plus { plus.new
-        ≡ planeWords (map plusMask (chosenForms cells coefficients.now choices.now)) ++ drop 128 plus.old }
+        ≡ plane_words_of (map plus_mask (chosen_forms cells coefficients.now choices.now)) ++ drop 128 plus.old }
     ensures minus { minus.new
-        ≡ planeWords (map minusMask (chosenForms cells coefficients.now choices.now)) ++ drop 128 minus.old }
+        ≡ plane_words_of (map minus_mask (chosen_forms cells coefficients.now choices.now)) ++ drop 128 minus.old }
 {
     let mut c: usize = 0;
     while c < cells {
@@ -57,9 +57,9 @@ pub fn write_cells(
     requires by_index { (c : ℕ) → c < cells → HasForm coefficients.now choices.now c }
     requires in_bounds { (128 ≤ length plus.old) × (128 ≤ length minus.old) }
     ensures plus { plus.new
-        ≡ planeWords (map plusMask (chosenForms cells coefficients.now choices.now)) ++ drop 128 plus.old }
+        ≡ plane_words_of (map plus_mask (chosen_forms cells coefficients.now choices.now)) ++ drop 128 plus.old }
     ensures minus { minus.new
-        ≡ planeWords (map minusMask (chosenForms cells coefficients.now choices.now)) ++ drop 128 minus.old }
+        ≡ plane_words_of (map minus_mask (chosen_forms cells coefficients.now choices.now)) ++ drop 128 minus.old }
 {
     clear(plus);
     clear(minus);

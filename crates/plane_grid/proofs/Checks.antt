@@ -2,23 +2,23 @@
 use mathlib.Core.Path.{◌≡◌, ◌∙◌}
 use mathlib.Core.Bool.{Bool, true, false}
 use Prim.Native.Nat.{ℕ, ◌*◌}
-use Rattle.refusal.specs.Answer.{given, refused, refuseIf}
-use Rattle.refusal.proofs.Checks.{check-applies, check-passes}
-use Rattle.plane_masks.specs.Grid.{badSides, shortTable, sizesAnswer}
+use Rattle.refusal.specs.Answer.{given, refused, refuse_if}
+use Rattle.refusal.proofs.Checks.{check_applies, check_passes}
+use Rattle.plane_masks.specs.Grid.{bad_sides_of, short_table_of, sizes_answer}
 
 module _ (height width plus minus first second : ℕ) where
   abbrev short : Bool
-  short = shortTable (height * width) plus minus first second
+  short = short_table_of (height * width) plus minus first second
 
-  pub bad-sides : badSides height width ≡ true → sizesAnswer height width plus minus first second ≡ refused 14 0
-  unfolding sizesAnswer
-  bad-sides e = check-applies (badSides height width) 14 (refuseIf short 3 (given tt)) e
+  pub bad_sides_lem : bad_sides_of height width ≡ true → sizes_answer height width plus minus first second ≡ refused 14 0
+  unfolding sizes_answer
+  bad_sides_lem e = check_applies (bad_sides_of height width) 14 (refuse_if short 3 (given tt)) e
 
-  module _ (good : badSides height width ≡ false) where
-    pub table-short : short ≡ true → sizesAnswer height width plus minus first second ≡ refused 3 0
-    unfolding sizesAnswer
-    table-short e = check-passes (badSides height width) 14 (refuseIf short 3 (given tt)) good ∙ check-applies short 3 (given tt) e
+  module _ (good : bad_sides_of height width ≡ false) where
+    pub table_short : short ≡ true → sizes_answer height width plus minus first second ≡ refused 3 0
+    unfolding sizes_answer
+    table_short e = check_passes (bad_sides_of height width) 14 (refuse_if short 3 (given tt)) good ∙ check_applies short 3 (given tt) e
 
-    pub sizes-fit : short ≡ false → sizesAnswer height width plus minus first second ≡ given tt
-    unfolding sizesAnswer
-    sizes-fit e = check-passes (badSides height width) 14 (refuseIf short 3 (given tt)) good ∙ check-passes short 3 (given tt) e
+    pub sizes_fit : short ≡ false → sizes_answer height width plus minus first second ≡ given tt
+    unfolding sizes_answer
+    sizes_fit e = check_passes (bad_sides_of height width) 14 (refuse_if short 3 (given tt)) good ∙ check_passes short 3 (given tt) e

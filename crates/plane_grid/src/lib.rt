@@ -3,7 +3,7 @@ mod choices;
 mod sizes;
 
 ghost use Rattle.std.specs.Prelude.{◌≡◌};
-ghost use Rattle.plane_masks.specs.Grid.{sizesAnswer};
+ghost use Rattle.plane_masks.specs.Grid.{sizes_answer};
 ghost use Rattle.plane_masks.specs.Written.{PlanesWritten, PlanesRead};
 ghost use Rattle.plane_grid.specs.Answer.{answer_of};
 
@@ -28,7 +28,7 @@ fn check_sizes(
     first: usize,
     second: usize,
 ) -> Converted
-    ensures { answer_of result ≡ sizesAnswer height width plus minus first second }
+    ensures { answer_of result ≡ sizes_answer height width plus minus first second }
 {
     if sizes::bad_sides(height, width) {
         return Converted::Refused(Refusal::GridSides);

@@ -11,35 +11,35 @@ use lib.Bits.{bit_and, bit_or}
 use lib.Count.{count_trailing_zeros, under}
 use lib.Dec.{eqb, ltb}
 use lib.ListN.{get_or}
-use Rattle.refusal.specs.Answer.{placeOr}
+use Rattle.refusal.specs.Answer.{place_or}
 use Rattle.plane_masks.specs.Binary.{bit_at}
-use Rattle.plane_masks.specs.Planes.{planeBit}
-use Rattle.plane_masks.specs.Grid.{anyBelow, overlaps, overlapCell}
+use Rattle.plane_masks.specs.Planes.{plane_bit}
+use Rattle.plane_masks.specs.Grid.{any_below, overlaps, overlap_cell}
 use Rattle.plane_words.specs.Inner.{both_word}
-use Rattle.plane_masks.proofs.Binary.{bit-small, no-bit, bit-zero, bit-suc, and-bit, or-bit}
+use Rattle.plane_masks.proofs.Binary.{bit_small, no_bit, bit_zero, bit_suc, and_bit, or_bit}
 use Rattle.plane_words.proofs.Places.{trailing}
-use Rattle.plane_masks.proofs.Lists.{lowest-cell, no_cell}
+use Rattle.plane_masks.proofs.Lists.{lowest_cell, no_cell}
 
 -- ---- plane by plane
-pub both-start : (plus minus : List ℕ) (j : ℕ) → 0 ≡ both_word 0 plus minus j
+pub both_start : (plus minus : List ℕ) (j : ℕ) → 0 ≡ both_word 0 plus minus j
 unfolding both_word
-both-start plus minus j = refl
+both_start plus minus j = refl
 
-pub both-next : (n x : ℕ) (plus minus : List ℕ) (j : ℕ) → x ≡ both_word n plus minus j
+pub both_next : (n x : ℕ) (plus minus : List ℕ) (j : ℕ) → x ≡ both_word n plus minus j
     → bit_or x (bit_and (get_or plus (4 * n + j) 0) (get_or minus (4 * n + j) 0)) ≡ both_word (n + 1) plus minus j
 unfolding both_word
-both-next n x plus minus j e =
+both_next n x plus minus j e =
     ap (λ (w : ℕ). bit_or w (bit_and (get_or plus (4 * n + j) 0) (get_or minus (4 * n + j) 0))) e ∙ ap (λ (k : ℕ). both_word k plus minus j) (sym (add-one n))
 
 -- ---- a bit that both have, and one that either has
-both-ones : (i j : ℕ) → i < 2 → j < 2 → eqb (min i j) 1 ≡ (eqb i 1 && eqb j 1)
-both-ones zero zero h k = refl
-both-ones zero (suc zero) h k = refl
-both-ones zero (suc (suc j)) h k = absurd (omega arith)
-both-ones (suc zero) zero h k = refl
-both-ones (suc zero) (suc zero) h k = refl
-both-ones (suc zero) (suc (suc j)) h k = absurd (omega arith)
-both-ones (suc (suc i)) j h k = absurd (omega arith)
+both_ones : (i j : ℕ) → i < 2 → j < 2 → eqb (min i j) 1 ≡ (eqb i 1 && eqb j 1)
+both_ones zero zero h k = refl
+both_ones zero (suc zero) h k = refl
+both_ones zero (suc (suc j)) h k = absurd (omega arith)
+both_ones (suc zero) zero h k = refl
+both_ones (suc zero) (suc zero) h k = refl
+both_ones (suc zero) (suc (suc j)) h k = absurd (omega arith)
+both_ones (suc (suc i)) j h k = absurd (omega arith)
 
 some_one : (i j : ℕ) → i < 2 → j < 2 → eqb (max i j) 1 ≡ (eqb i 1 || eqb j 1)
 some_one zero zero h k = refl
@@ -54,31 +54,31 @@ module _ (plus minus : List ℕ) (j b : ℕ) (low : b < 64) where
   abbrev cell : ℕ
   cell = 64 * j + b
 
-  here : (table : List ℕ) (p : ℕ) → bit_at (get_or table (4 * p + j) 0) b ≡ planeBit table p cell
+  here : (table : List ℕ) (p : ℕ) → bit_at (get_or table (4 * p + j) 0) b ≡ plane_bit table p cell
   here table p =
       let q : j ≡ (64 * j + b) / 64 = omega arith in
       let r : b ≡ (64 * j + b) % 64 = omega arith in
       ap₂ (λ (x y : ℕ). bit_at (get_or table (4 * p + x) 0) y) q r
 
-  both_at : (p : ℕ) → eqb (bit_at (bit_and (get_or plus (4 * p + j) 0) (get_or minus (4 * p + j) 0)) b) 1 ≡ (eqb (planeBit plus p cell) 1 && eqb (planeBit minus p cell) 1)
+  both_at : (p : ℕ) → eqb (bit_at (bit_and (get_or plus (4 * p + j) 0) (get_or minus (4 * p + j) 0)) b) 1 ≡ (eqb (plane_bit plus p cell) 1 && eqb (plane_bit minus p cell) 1)
   both_at p =
       let x : ℕ = get_or plus (4 * p + j) 0 in
       let y : ℕ = get_or minus (4 * p + j) 0 in
-      ap (λ (n : ℕ). eqb n 1) (and-bit x y b)
-      ∙ both-ones (bit_at x b) (bit_at y b) (bit-small x b) (bit-small y b)
+      ap (λ (n : ℕ). eqb n 1) (and_bit x y b)
+      ∙ both_ones (bit_at x b) (bit_at y b) (bit_small x b) (bit_small y b)
       ∙ ap₂ (λ (u v : ℕ). eqb u 1 && eqb v 1) (here plus p) (here minus p)
 
-  upto : (n : ℕ) → eqb (bit_at (both_word n plus minus j) b) 1 ≡ anyBelow n (λ (p : ℕ). (eqb (planeBit plus p cell) 1 && eqb (planeBit minus p cell) 1))
+  upto : (n : ℕ) → eqb (bit_at (both_word n plus minus j) b) 1 ≡ any_below n (λ (p : ℕ). (eqb (plane_bit plus p cell) 1 && eqb (plane_bit minus p cell) 1))
   unfolding both_word
-  upto zero = ap (λ (n : ℕ). eqb n 1) (no-bit b)
+  upto zero = ap (λ (n : ℕ). eqb n 1) (no_bit b)
   upto (suc n) =
       let w : ℕ = both_word n plus minus j in
       let z : ℕ = bit_and (get_or plus (4 * n + j) 0) (get_or minus (4 * n + j) 0) in
-      ap (λ (n : ℕ). eqb n 1) (or-bit w z b) ∙ some_one (bit_at w b) (bit_at z b) (bit-small w b) (bit-small z b) ∙ ap₂ (λ (u v : Bool). u || v) (upto n) (both_at n)
+      ap (λ (n : ℕ). eqb n 1) (or_bit w z b) ∙ some_one (bit_at w b) (bit_at z b) (bit_small w b) (bit_small z b) ∙ ap₂ (λ (u v : Bool). u || v) (upto n) (both_at n)
 
-  pub both-bit : eqb (bit_at (both_word 32 plus minus j) b) 1 ≡ overlaps plus minus (64 * j + b)
+  pub both_bit : eqb (bit_at (both_word 32 plus minus j) b) 1 ≡ overlaps plus minus (64 * j + b)
   unfolding overlaps
-  both-bit = upto 32
+  both_bit = upto 32
 
 -- the places below the lowest one
 pub trailing_below : (k x i : ℕ) → i < count_trailing_zeros k x → bit_at x i ≡ 0
@@ -87,8 +87,8 @@ trailing_below zero x i h = absurd (omega arith)
 trailing_below (suc k) x i h = go (x % 2) refl i h (λ (j : ℕ) l. trailing_below k (x / 2) j l)
   where
     go : (d : ℕ) → x % 2 ≡ d → (i : ℕ) → i < under d (count_trailing_zeros k (x / 2)) → ((j : ℕ) → j < count_trailing_zeros k (x / 2) → bit_at (x / 2) j ≡ 0) → bit_at x i ≡ 0
-    go zero e zero h ih = bit-zero x ∙ e
-    go zero e (suc i) h ih = bit-suc x i ∙ ih i (omega arith)
+    go zero e zero h ih = bit_zero x ∙ e
+    go zero e (suc i) h ih = bit_suc x i ∙ ih i (omega arith)
     go (suc d) e i h ih = absurd (omega arith)
 
 -- ---- the search, word by word
@@ -97,12 +97,12 @@ module _ (plus minus : List ℕ) (cells : ℕ) where
   abbrev pub NoneBelow : ℕ → Type 0
   NoneBelow n = (c : ℕ) → c < n → overlaps plus minus c ≡ false
 
-  pub none_found : (n : ℕ) → NoneBelow n → cells ≤ n → cells ≡ placeOr cells (overlapCell cells plus minus)
-  none_found n none h = sym (ap (placeOr cells) (no_cell (overlaps plus minus) cells (λ c l. none c (omega arith))))
+  pub none_found : (n : ℕ) → NoneBelow n → cells ≤ n → cells ≡ place_or cells (overlap_cell cells plus minus)
+  none_found n none h = sym (ap (place_or cells) (no_cell (overlaps plus minus) cells (λ c l. none c (omega arith))))
 
   module _ (j w : ℕ) (is : w ≡ both_word 32 plus minus j) (none : NoneBelow (64 * j)) where
     at : (b : ℕ) → b < 64 → eqb (bit_at w b) 1 ≡ overlaps plus minus (64 * j + b)
-    at b h = ap (λ (x : ℕ). eqb (bit_at x b) 1) is ∙ both-bit plus minus j b h
+    at b h = ap (λ (x : ℕ). eqb (bit_at x b) 1) is ∙ both_bit plus minus j b h
 
     -- where no bit below b is set
     below : (b : ℕ) → b ≤ 64 → ((i : ℕ) → i < b → bit_at w i ≡ 0) → NoneBelow (64 * j + b)
@@ -116,7 +116,7 @@ module _ (plus minus : List ℕ) (cells : ℕ) where
         go false e = let k = ltb-false c (64 * j) e in at_c (c - 64 * j) (omega arith) (omega arith) (omega arith)
 
     pub word_none : w ≡ 0 → NoneBelow (64 * (j + 1))
-    word_none z c h = below 64 (omega arith) (λ (i : ℕ) k. ap (λ (x : ℕ). bit_at x i) z ∙ no-bit i) c (omega arith)
+    word_none z c h = below 64 (omega arith) (λ (i : ℕ) k. ap (λ (x : ℕ). bit_at x i) z ∙ no_bit i) c (omega arith)
 
     module _ (some : w ≢ 0) (fits : w < 2 ^ 64) where
       pub few : count_trailing_zeros 64 w < 64
@@ -125,11 +125,11 @@ module _ (plus minus : List ℕ) (cells : ℕ) where
       none_before : NoneBelow (64 * j + count_trailing_zeros 64 w)
       none_before = below (count_trailing_zeros 64 w) (omega (arith, few)) (λ (i : ℕ) h. trailing_below 64 w i h)
 
-      pub word-found : 64 * j + count_trailing_zeros 64 w < cells → 64 * j + count_trailing_zeros 64 w ≡ placeOr cells (overlapCell cells plus minus)
-      word-found h =
+      pub word_found : 64 * j + count_trailing_zeros 64 w < cells → 64 * j + count_trailing_zeros 64 w ≡ place_or cells (overlap_cell cells plus minus)
+      word_found h =
           let c : ℕ = 64 * j + count_trailing_zeros 64 w in
           let o : overlaps plus minus c ≡ true = sym (at (count_trailing_zeros 64 w) few) ∙ eq-eqb (bit_at w (count_trailing_zeros 64 w)) 1 (trailing 64 w some fits).1 in
-          sym (ap (placeOr cells) (lowest-cell (overlaps plus minus) cells c h o none_before))
+          sym (ap (place_or cells) (lowest_cell (overlaps plus minus) cells c h o none_before))
 
-      pub word-past : cells ≤ 64 * j + count_trailing_zeros 64 w → cells ≡ placeOr cells (overlapCell cells plus minus)
-      word-past h = none_found (64 * j + count_trailing_zeros 64 w) none_before h
+      pub word_past : cells ≤ 64 * j + count_trailing_zeros 64 w → cells ≡ place_or cells (overlap_cell cells plus minus)
+      word_past h = none_found (64 * j + count_trailing_zeros 64 w) none_before h

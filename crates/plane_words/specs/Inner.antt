@@ -9,8 +9,8 @@ unfoldable pub share : ℕ → ℕ → ℕ → ℕ
 share mask c k = cond (eqb (k % 4) (c / 64)) (bit_at mask (k / 4)) 0
 
 -- a table with the mask of cell c added
-unfoldable pub withCell : ℕ → ℕ → List ℕ → List ℕ
-withCell mask c table = up_to 128 (λ (k : ℕ). get_or table k 0 + 2 ^ (c % 64) * share mask c k) ++ drop 128 table
+unfoldable pub with_cell : ℕ → ℕ → List ℕ → List ℕ
+with_cell mask c table = up_to 128 (λ (k : ℕ). get_or table k 0 + 2 ^ (c % 64) * share mask c k) ++ drop 128 table
 
 -- the bits of word j that both tables have in one of the first n planes
 unfoldable pub both_word : ℕ → List ℕ → List ℕ → ℕ → ℕ

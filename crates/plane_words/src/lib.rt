@@ -1,10 +1,10 @@
 // The words of a mask table: one cell at a time written into them and read from them, and the cells of
 // two tables that overlap.
 ghost use Rattle.std.specs.Prelude.{◌≡◌, [], ◌++◌, ◌≢◌, ℕ, ◌+◌, ◌*◌, ◌/◌, ◌%◌, ◌^◌, ◌≤◌, ◌<◌, length, get_or, drop};
-ghost use Rattle.refusal.specs.Answer.{placeOr};
-ghost use Rattle.plane_masks.specs.Planes.{cellMask, planeWords};
-ghost use Rattle.plane_masks.specs.Grid.{overlapCell};
-ghost use Rattle.plane_words.specs.Inner.{withCell, both_word};
+ghost use Rattle.refusal.specs.Answer.{place_or};
+ghost use Rattle.plane_masks.specs.Planes.{cell_mask, plane_words_of};
+ghost use Rattle.plane_masks.specs.Grid.{overlap_cell};
+ghost use Rattle.plane_words.specs.Inner.{with_cell, both_word};
 
 // A place where x has a one.
 fn some_place(x: u32) -> usize
@@ -17,7 +17,7 @@ fn some_place(x: u32) -> usize
 // The mask that a table holds for cell c: from plane 31 down.
 pub fn read_cell(table: &[u64], c: usize) -> u32
     requires { (128 ≤ length table.now) × (c < 256) }
-    ensures { result ≡ cellMask table.now c }
+    ensures { result ≡ cell_mask table.now c }
 {
     let j = c / 64;
     let place = c % 64;
@@ -34,7 +34,7 @@ pub fn read_cell(table: &[u64], c: usize) -> u32
 // The words of no cells.
 pub fn clear(table: &mut [u64])
     requires { 128 ≤ length table.old }
-    ensures { table.new ≡ planeWords [] ++ drop 128 table.old }
+    ensures { table.new ≡ plane_words_of [] ++ drop 128 table.old }
 {
     let mut k: usize = 0;
     while k < 128 {
@@ -48,7 +48,7 @@ pub fn clear(table: &mut [u64])
 pub fn write_cell(table: &mut [u64], c: usize, mask: u32)
     requires in_bounds { (128 ≤ length table.old) × (c < 256) }
     requires by_index { (p : ℕ) → p < 32 → get_or table.old (4 * p + c / 64) 0 < 2 ^ (c % 64) }
-    ensures { table.new ≡ withCell mask c table.old }
+    ensures { table.new ≡ with_cell mask c table.old }
 {
     let j = c / 64;
     let bit: u64 = 1u64 << (c % 64);
@@ -77,7 +77,7 @@ fn overlap_word(plus: &[u64], minus: &[u64], j: usize) -> u64
 // The lowest of the cells that overlaps in any plane, or the number of cells.
 pub fn first_overlap(plus: &[u64], minus: &[u64], cells: usize) -> usize
     requires { (128 ≤ length plus.now) × (128 ≤ length minus.now) × (cells ≤ 256) }
-    ensures { result ≡ placeOr cells (overlapCell cells plus.now minus.now) }
+    ensures { result ≡ place_or cells (overlap_cell cells plus.now minus.now) }
 {
     let mut j: usize = 0;
     while 64 * j < cells {

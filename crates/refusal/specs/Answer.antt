@@ -9,13 +9,13 @@ pub data Answer (A : Type 0) : Type 0 where
   refused : ℕ → ℕ → Answer A
 
 -- the answer that a case of `Refusal` stands for
-abbrev pub turnedDown : {A : Type 0} → Refusal → Answer A
-turnedDown r = refused (number_of r) (place_of r)
+abbrev pub turned_down_of : {A : Type 0} → Refusal → Answer A
+turned_down_of r = refused (number_of r) (place_of r)
 
 -- "Checks run down the table": number where the check applies, at place 0, else what comes after it
-abbrev pub refuseIf : {A : Type 0} → Bool → ℕ → Answer A → Answer A
-refuseIf true number rest = refused number 0
-refuseIf false number rest = rest
+abbrev pub refuse_if : {A : Type 0} → Bool → ℕ → Answer A → Answer A
+refuse_if true number rest = refused number 0
+refuse_if false number rest = rest
 
 -- what comes after an answer that is given; a refusal stays
 abbrev pub and_then : {A B : Type 0} → Answer A → (A → Answer B) → Answer B
@@ -28,23 +28,23 @@ pub data Place : Type 0 where
   at_place : ℕ → Place
 
 -- the same check where its place is not always 0
-abbrev pub refuseAt : {A : Type 0} → Place → ℕ → Answer A → Answer A
-refuseAt nowhere number rest = rest
-refuseAt (at_place k) number rest = refused number k
+abbrev pub refuse_at : {A : Type 0} → Place → ℕ → Answer A → Answer A
+refuse_at nowhere number rest = rest
+refuse_at (at_place k) number rest = refused number k
 
 -- "the lowest place that breaks it", the first element's place being k
-unfoldable pub lowestFrom : {A : Type 0} → ℕ → (A → Bool) → List A → Place
-lowestFrom k breaks [] = nowhere
-lowestFrom k breaks (x ∷ xs) = cond (breaks x) (at_place k) (lowestFrom (suc k) breaks xs)
+unfoldable pub lowest_from : {A : Type 0} → ℕ → (A → Bool) → List A → Place
+lowest_from k breaks [] = nowhere
+lowest_from k breaks (x ∷ xs) = cond (breaks x) (at_place k) (lowest_from (suc k) breaks xs)
 
 -- "Places count from 0"
 abbrev pub lowest : {A : Type 0} → (A → Bool) → List A → Place
-lowest breaks xs = lowestFrom 0 breaks xs
+lowest breaks xs = lowest_from 0 breaks xs
 
 -- a place, or n where there is none
-abbrev pub placeOr : ℕ → Place → ℕ
-placeOr n nowhere = n
-placeOr n (at_place k) = k
+abbrev pub place_or : ℕ → Place → ℕ
+place_or n nowhere = n
+place_or n (at_place k) = k
 
 -- a lent table afterwards: the results, "elements past those that the result fills are untouched"; "unchanged" on a refusal
 abbrev pub filled : {A B : Type 0} → Answer A → List B → List B → List B

@@ -25,10 +25,10 @@ pub record Found : Type 0 where
 abbrev pub due : Said → Lending → Found
 due s l = record { answer = s.answer; outputs = filled s.answer s.outputs l.held; registers = s.registers; beyond = l.beyond }
 
-unfoldable pub dueAll : List Said → List Lending → List Found
-dueAll [] ls = []
-dueAll (s ∷ ss) [] = []
-dueAll (s ∷ ss) (l ∷ ls) = due s l ∷ dueAll ss ls
+unfoldable pub due_all : List Said → List Lending → List Found
+due_all [] ls = []
+due_all (s ∷ ss) [] = []
+due_all (s ∷ ss) (l ∷ ls) = due s l ∷ due_all ss ls
 
 -- ---- a list of calls that were made: what each left
 
@@ -57,7 +57,7 @@ after r s = overwritten s.lending.start s.registers (memory r s.lending)
 
 -- the call answered and left what `run` may answer and leave
 abbrev pub RanFrom : List ℕ → Lending → Answer (Unit {0}) → List ℕ → List ℤ → Type 0
-RanFrom r l a r' o' = Ran l.call.rows l.call.rowCount l.call.taps l.call.tapCount l.call.samples (lent r l) l.held a r' o'
+RanFrom r l a r' o' = Ran l.call.rows l.call.row_count_of l.call.taps l.call.tap_count l.call.samples (lent r l) l.held a r' o'
 
 -- "Each call gets the registers that the last one left .. nobody else writes them meanwhile"
 abbrev pub Trace : List ℕ → List Step → Type 0

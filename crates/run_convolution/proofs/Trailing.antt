@@ -8,7 +8,7 @@ use mir.Syntax.{w64}
 use mir.Val.{to_z}
 use Rattle.sequence.specs.UpTo.{up_to}
 use Rattle.run_convolution.specs.Words.{wrapped}
-use Rattle.run_convolution.specs.Running.{sum_at, next, registersOf, outputsOf}
+use Rattle.run_convolution.specs.Running.{sum_at, next, registers_of, outputs_of}
 
 module _ (g h : List ℤ) (e : (k : ℕ) → get_or g k (pos 0) ≡ get_or h k (pos 0)) where
   same_sum : (x : ℤ) (r : List ℕ) (k : ℕ) → sum_at g x r k ≡ sum_at h x r k
@@ -19,13 +19,13 @@ module _ (g h : List ℤ) (e : (k : ℕ) → get_or g k (pos 0) ≡ get_or h k (
   unfolding next
   same_next x r = ap (λ f. up_to 255 f ++ (0 ∷ drop 256 r)) (fun_ext (λ k. same_sum x r (suc k)))
 
-  pub same-registers : (r : List ℕ) (xs : List ℤ) → registersOf g r xs ≡ registersOf h r xs
-  unfolding registersOf
-  same-registers r [] = refl
-  same-registers r (x ∷ xs) = ap (λ s. registersOf g s xs) (same_next x r) ∙ same-registers (next h x r) xs
+  pub same_registers : (r : List ℕ) (xs : List ℤ) → registers_of g r xs ≡ registers_of h r xs
+  unfolding registers_of
+  same_registers r [] = refl
+  same_registers r (x ∷ xs) = ap (λ s. registers_of g s xs) (same_next x r) ∙ same_registers (next h x r) xs
 
-  pub same-outputs : (r : List ℕ) (xs : List ℤ) → outputsOf g r xs ≡ outputsOf h r xs
-  unfolding outputsOf
-  same-outputs r [] = refl
-  same-outputs r (x ∷ xs) =
-      ap₂ (λ a s. to_z w64 a ∷ outputsOf g s xs) (same_sum x r 0) (same_next x r) ∙ ap (λ s. to_z w64 (sum_at h x r 0) ∷ s) (same-outputs (next h x r) xs)
+  pub same_outputs : (r : List ℕ) (xs : List ℤ) → outputs_of g r xs ≡ outputs_of h r xs
+  unfolding outputs_of
+  same_outputs r [] = refl
+  same_outputs r (x ∷ xs) =
+      ap₂ (λ a s. to_z w64 a ∷ outputs_of g s xs) (same_sum x r 0) (same_next x r) ∙ ap (λ s. to_z w64 (sum_at h x r 0) ∷ s) (same_outputs (next h x r) xs)

@@ -10,19 +10,19 @@ unfoldable pub sum_at : List ℤ → ℤ → List ℕ → ℕ → ℕ
 sum_at h x r k = wrapped (pos (get_or r k 0) +ℤ get_or h k (pos 0) *ℤ x)
 
 -- "For sample x the output is r0 + h0·x", "read as signed"
-abbrev pub outputOf : List ℤ → ℤ → List ℕ → ℤ
-outputOf h x r = to_z w64 (sum_at h x r 0)
+abbrev pub output_of : List ℤ → ℤ → List ℕ → ℤ
+output_of h x r = to_z w64 (sum_at h x r 0)
 
 -- "then each r(k) becomes r(k+1) + h(k+1)·x, and r255 becomes 0"; memory past the 256 registers stays
 unfoldable pub next : List ℤ → ℤ → List ℕ → List ℕ
 next h x r = up_to 255 (λ k. sum_at h x r (suc k)) ++ (0 ∷ drop 256 r)
 
 -- the registers after the samples in order; "No samples: registers unchanged"
-unfoldable pub registersOf : List ℤ → List ℕ → List ℤ → List ℕ
-registersOf h r [] = r
-registersOf h r (x ∷ xs) = registersOf h (next h x r) xs
+unfoldable pub registers_of : List ℤ → List ℕ → List ℤ → List ℕ
+registers_of h r [] = r
+registers_of h r (x ∷ xs) = registers_of h (next h x r) xs
 
 -- the outputs for the samples in order
-unfoldable pub outputsOf : List ℤ → List ℕ → List ℤ → List ℤ
-outputsOf h r [] = []
-outputsOf h r (x ∷ xs) = outputOf h x r ∷ outputsOf h (next h x r) xs
+unfoldable pub outputs_of : List ℤ → List ℕ → List ℤ → List ℤ
+outputs_of h r [] = []
+outputs_of h r (x ∷ xs) = output_of h x r ∷ outputs_of h (next h x r) xs

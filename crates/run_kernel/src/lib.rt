@@ -2,8 +2,8 @@
 // coefficients past the last that is not 0 are left out of the work.
 ghost use Rattle.std.specs.Prelude.{◌≡◌, List, ◌++◌, ℕ, ◌≤◌, length, drop};
 ghost use Rattle.std.proofs.lemmas.List.Edits.{sets};
-ghost use Rattle.run_convolution.specs.Running.{outputsOf, registersOf};
-ghost use Rattle.run_tables.specs.Inner.{coefficientsIn, Padded, OffsetsOf, Raised, ZeroFrom};
+ghost use Rattle.run_convolution.specs.Running.{outputs_of, registers_of};
+ghost use Rattle.run_tables.specs.Inner.{coefficients_in, Padded, OffsetsOf, Raised, ZeroFrom};
 ghost use Rattle.run_kernel.specs.Inner.{fourfold, Passed};
 
 use run_singly::singly;
@@ -19,9 +19,9 @@ fn fours(
 ) -> u64
     requires { ((w ≤ 256) × (length words.old ≡ 260))
         × ((length samples.now ≤ length outputs.old) × ((Padded stored.now) × (OffsetsOf stored.now offsets.now))) }
-    ensures { (r : List ℕ) → 256 ≤ length r → ZeroFrom w (coefficientsIn stored.now) r
+    ensures { (r : List ℕ) → 256 ≤ length r → ZeroFrom w (coefficients_in stored.now) r
         → Raised w offsets.now 0 r words.old
-        → Passed (coefficientsIn stored.now) w offsets.now r samples.now outputs.old
+        → Passed (coefficients_in stored.now) w offsets.now r samples.now outputs.old
         (fourfold (length samples.now)) result words.new outputs.new }
 {
     let mut bias: u64 = 0;
@@ -39,11 +39,11 @@ fn by_fours(h: &[i32; 256], w: usize, samples: &[i16], registers: &mut [u64], ou
     requires { ((length h.now ≡ 256) × ((256 ≤ length registers.old) × (length samples.now ≤ length outputs.old)))
         × ((4 ≤ length samples.now) × ((w ≤ 256) × (ZeroFrom w h.now registers.old))) }
     ensures zero_from { ZeroFrom w h.now registers.new }
-    ensures samples_after { registersOf h.now registers.new (drop (fourfold (length samples.now)) samples.now)
-        ≡ registersOf h.now registers.old samples.now }
+    ensures samples_after { registers_of h.now registers.new (drop (fourfold (length samples.now)) samples.now)
+        ≡ registers_of h.now registers.old samples.now }
     ensures samples_after_2 { sets outputs.new (fourfold (length samples.now))
-        (outputsOf h.now registers.new (drop (fourfold (length samples.now)) samples.now))
-        ≡ sets outputs.old 0 (outputsOf h.now registers.old samples.now) }
+        (outputs_of h.now registers.new (drop (fourfold (length samples.now)) samples.now))
+        ≡ sets outputs.old 0 (outputs_of h.now registers.old samples.now) }
 {
     let mut stored = [0x8000_0000u64; 264];
     run_tables::fill_coefficients(h, w, &mut stored);
@@ -59,8 +59,8 @@ fn by_fours(h: &[i32; 256], w: usize, samples: &[i16], registers: &mut [u64], ou
 // four samples.
 pub fn feed(h: &[i32; 256], samples: &[i16], registers: &mut [u64], outputs: &mut [i64])
     requires { (length h.now ≡ 256) × ((256 ≤ length registers.old) × (length samples.now ≤ length outputs.old)) }
-    ensures registers_after { registers.new ≡ registersOf h.now registers.old samples.now }
-    ensures outputs_after { outputs.new ≡ outputsOf h.now registers.old samples.now
+    ensures registers_after { registers.new ≡ registers_of h.now registers.old samples.now }
+    ensures outputs_after { outputs.new ≡ outputs_of h.now registers.old samples.now
         ++ drop (length samples.now) outputs.old }
 {
     let w = run_tables::used(h, registers);

@@ -3,10 +3,10 @@ ghost use Rattle.std.specs.Prelude.{◌≡◌, List, [], ◌∷◌, ℕ, ◌≤�
 ghost use Rattle.std.proofs.lemmas.List.Edits.{sets};
 ghost use Rattle.std.specs.Int.{w64};
 ghost use Rattle.std.proofs.Common.{to_z};
-ghost use Rattle.run_convolution.specs.Running.{outputsOf};
+ghost use Rattle.run_convolution.specs.Running.{outputs_of};
 ghost use Rattle.run_convolution.specs.Sums.{held};
-ghost use Rattle.run_products.specs.Inner.{coefficientIn, sampleIn, fourSums, biasAfter};
-ghost use Rattle.run_tables.specs.Inner.{coefficientsIn, Padded, OffsetsOf, Raised, after4, ZeroFrom};
+ghost use Rattle.run_products.specs.Inner.{coefficient_in, sample_in, four_sums, bias_after_of};
+ghost use Rattle.run_tables.specs.Inner.{coefficients_in, Padded, OffsetsOf, Raised, after4, ZeroFrom};
 
 use run_moves::{place, slide};
 use run_products::{bias_after, lowered, offset_sample, raised, signed};
@@ -38,10 +38,10 @@ fn output(
     words: &[u64; 260],
 ) -> i64
     requires { (j < 4) × (OffsetsOf stored.now offsets.now) }
-    ensures { (g : ℕ) (r : List ℕ) → bias ≡ biasAfter g y0 y1 y2 y3 → Raised 4 offsets.now g r words.now
-        → result ≡ to_z w64 (fourSums (held r j) (coefficientIn (get_or stored.now (j + 4) 0)) (coefficientIn (get_or stored.now (j + 3) 0))
-        (coefficientIn (get_or stored.now (j + 2) 0)) (coefficientIn (get_or stored.now (j + 1) 0)) (sampleIn y0) (sampleIn y1) (sampleIn y2)
-        (sampleIn y3)) }
+    ensures { (g : ℕ) (r : List ℕ) → bias ≡ bias_after_of g y0 y1 y2 y3 → Raised 4 offsets.now g r words.now
+        → result ≡ to_z w64 (four_sums (held r j) (coefficient_in (get_or stored.now (j + 4) 0)) (coefficient_in (get_or stored.now (j + 3) 0))
+        (coefficient_in (get_or stored.now (j + 2) 0)) (coefficient_in (get_or stored.now (j + 1) 0)) (sample_in y0) (sample_in y1) (sample_in y2)
+        (sample_in y3)) }
 {
     signed(lowered(
         place(stored, j, words[j], y0, y1, y2, y3),
@@ -64,9 +64,9 @@ fn answer(
     i: usize,
 )
     requires { (i + 4 ≤ length outputs.old) × ((Padded stored.now) × (OffsetsOf stored.now offsets.now)) }
-    ensures { (g : ℕ) (r : List ℕ) → bias ≡ biasAfter g y0 y1 y2 y3 → Raised 4 offsets.now g r words.now
+    ensures { (g : ℕ) (r : List ℕ) → bias ≡ bias_after_of g y0 y1 y2 y3 → Raised 4 offsets.now g r words.now
         → outputs.new ≡ sets outputs.old i
-        (outputsOf (coefficientsIn stored.now) r (sampleIn y0 ∷ sampleIn y1 ∷ sampleIn y2 ∷ sampleIn y3 ∷ [])) }
+        (outputs_of (coefficients_in stored.now) r (sample_in y0 ∷ sample_in y1 ∷ sample_in y2 ∷ sample_in y3 ∷ [])) }
 {
     outputs[i] = output(stored, offsets, 0, y0, y1, y2, y3, bias, words);
     outputs[i + 1] = output(stored, offsets, 1, y0, y1, y2, y3, bias, words);
@@ -89,12 +89,12 @@ pub fn of_four(
         × (((i + 4 ≤ length samples.now) × (length samples.now ≤ length outputs.old))
         × ((Padded stored.now) × (OffsetsOf stored.now offsets.now))) }
     ensures words_len { length words.new ≡ 260 }
-    ensures by_index { (r : List ℕ) → ZeroFrom w (coefficientsIn stored.now) r → Raised w offsets.now bias r words.old
-        → (Raised w offsets.now result (after4 (coefficientsIn stored.now) (get_or samples.now i (pos 0))
+    ensures by_index { (r : List ℕ) → ZeroFrom w (coefficients_in stored.now) r → Raised w offsets.now bias r words.old
+        → (Raised w offsets.now result (after4 (coefficients_in stored.now) (get_or samples.now i (pos 0))
         (get_or samples.now (i + 1) (pos 0)) (get_or samples.now (i + 2) (pos 0)) (get_or samples.now (i + 3) (pos 0)) r)
         words.new)
         × (outputs.new ≡ sets outputs.old i
-        (outputsOf (coefficientsIn stored.now) r
+        (outputs_of (coefficients_in stored.now) r
         (get_or samples.now i (pos 0) ∷ get_or samples.now (i + 1) (pos 0) ∷ get_or samples.now (i + 2) (pos 0)
         ∷ get_or samples.now (i + 3) (pos 0) ∷ []))) }
 {

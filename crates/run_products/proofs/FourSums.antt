@@ -1,12 +1,12 @@
 -- Four products in offset binary at once: a sum with an offset and a bias becomes the sum with the products, its offset and its bias. Assumes nothing.
 use Rattle.std.proofs.Common.{◌≡◌, ℕ, ◌+◌, ◌*◌, ◌%◌, ◌^◌, ◌<◌, ℤ, pos, ◌+ℤ◌, ◌*ℤ◌, sym, ap, ◌∙◌, arith}
 use lib.IntN.{sub_ℕ}
-use Rattle.run_convolution.proofs.Words.{wrapped-lt}
-use Rattle.run_products.specs.Inner.{coefficientIn, sampleIn, plus, fourSums, fourProducts, offset_of, offsetBelow, biasAfter, raisedBy}
-use Rattle.run_products.proofs.Products.{cost, mod-left, sum_first, sum-next}
+use Rattle.run_convolution.proofs.Words.{wrapped_lt}
+use Rattle.run_products.specs.Inner.{coefficient_in, sample_in, plus, four_sums, four_products, offset_of, offset_below_of, bias_after_of, raised_by}
+use Rattle.run_products.proofs.Products.{cost, mod_left, sum_first, sum_next}
 
-cost-exact : (a y : ℕ) → a < 2 ^ 32 → y < 2 ^ 16 → cost a y + (2 ^ 15 * a + 2 ^ 31 * y) ≡ 2 ^ 64 + 2 ^ 46
-cost-exact a y h k = omega arith
+cost_exact : (a y : ℕ) → a < 2 ^ 32 → y < 2 ^ 16 → cost a y + (2 ^ 15 * a + 2 ^ 31 * y) ≡ 2 ^ 64 + 2 ^ 46
+cost_exact a y h k = omega arith
 
 -- what the offsets of four products come to, over their costs: 8 times 2^64
 costs : (a0 a1 a2 a3 y0 y1 y2 y3 d0 d1 d2 d3 : ℕ) → d0 + (2 ^ 15 * a0 + 2 ^ 31 * y0) ≡ 2 ^ 64 + 2 ^ 46 → d1 + (2 ^ 15 * a1 + 2 ^ 31 * y1) ≡ 2 ^ 64 + 2 ^ 46
@@ -18,14 +18,14 @@ costs a0 a1 a2 a3 y0 y1 y2 y3 d0 d1 d2 d3 h0 h1 h2 h3 = omega arith
 spread : (v p0 p1 p2 p3 d0 d1 d2 d3 : ℕ) → v + (p0 + p1 + p2 + p3) + (d0 + d1 + d2 + d3) ≡ v + (p0 + d0) + (p1 + d1) + (p2 + d2) + (p3 + d3)
 spread v p0 p1 p2 p3 d0 d1 d2 d3 = omega arith
 
-mod-three : (a b c : ℕ) → (a % 2 ^ 64 + (b % 2 ^ 64 + c % 2 ^ 64)) % 2 ^ 64 ≡ (a + (b + c)) % 2 ^ 64
-mod-three a b c = omega arith
+mod_three : (a b c : ℕ) → (a % 2 ^ 64 + (b % 2 ^ 64 + c % 2 ^ 64)) % 2 ^ 64 ≡ (a + (b + c)) % 2 ^ 64
+mod_three a b c = omega arith
 
 -- the offset four places below
-offsets-four : (v m0 m1 m2 m3 : ℕ)
+offsets_four : (v m0 m1 m2 m3 : ℕ)
     → ((((v + m0) % 2 ^ 64 + m1) % 2 ^ 64 + m2) % 2 ^ 64 + m3) % 2 ^ 64 ≡ (v + (m0 + m1 + m2 + m3)) % 2 ^ 64
-offsets-four v m0 m1 m2 m3 =
-    ap (λ n. (n + m3) % 2 ^ 64) (ap (λ n. (n + m2) % 2 ^ 64) (mod-left (v + m0) m1) ∙ mod-left (v + m0 + m1) m2) ∙ mod-left (v + m0 + m1 + m2) m3
+offsets_four v m0 m1 m2 m3 =
+    ap (λ n. (n + m3) % 2 ^ 64) (ap (λ n. (n + m2) % 2 ^ 64) (mod_left (v + m0) m1) ∙ mod_left (v + m0 + m1) m2) ∙ mod_left (v + m0 + m1 + m2) m3
     ∙ ap (λ n. n % 2 ^ 64) (together v m0 m1 m2 m3)
   where
     together : (v m0 m1 m2 m3 : ℕ) → v + m0 + m1 + m2 + m3 ≡ v + (m0 + m1 + m2 + m3)
@@ -74,9 +74,9 @@ module _ (v a0 a1 a2 a3 y0 y1 y2 y3 : ℕ) (h0 : a0 < 2 ^ 32) (h1 : a1 < 2 ^ 32)
       let u1 = u0 + (a1 * y1 + cost a1 y1) in
       let u2 = u1 + (a2 * y2 + cost a2 y2) in
       let s0 : plus v c0 x0 ≡ u0 % 2 ^ 64 = sum_first a0 y0 h0 g0 v in
-      let s1 : plus (plus v c0 x0) c1 x1 ≡ u1 % 2 ^ 64 = ap (λ n. plus n c1 x1) s0 ∙ sum-next a1 y1 h1 g1 u0 in
-      let s2 : plus (plus (plus v c0 x0) c1 x1) c2 x2 ≡ u2 % 2 ^ 64 = ap (λ n. plus n c2 x2) s1 ∙ sum-next a2 y2 h2 g2 u1 in
-      ap (λ n. plus n c3 x3) s2 ∙ sum-next a3 y3 h3 g3 u2
+      let s1 : plus (plus v c0 x0) c1 x1 ≡ u1 % 2 ^ 64 = ap (λ n. plus n c1 x1) s0 ∙ sum_next a1 y1 h1 g1 u0 in
+      let s2 : plus (plus (plus v c0 x0) c1 x1) c2 x2 ≡ u2 % 2 ^ 64 = ap (λ n. plus n c2 x2) s1 ∙ sum_next a2 y2 h2 g2 u1 in
+      ap (λ n. plus n c3 x3) s2 ∙ sum_next a3 y3 h3 g3 u2
 
   total : (g w : ℕ) → (((v + (w + g)) % 2 ^ 64) + (a0 * y0 + a1 * y1 + a2 * y2 + a3 * y3)) % 2 ^ 64
       ≡ (plus (plus (plus (plus v c0 x0) c1 x1) c2 x2) c3 x3
@@ -87,44 +87,44 @@ module _ (v a0 a1 a2 a3 y0 y1 y2 y3 : ℕ) (h0 : a0 < 2 ^ 32) (h1 : a1 < 2 ^ 32)
       let p = a0 * y0 + a1 * y1 + a2 * y2 + a3 * y3 in
       let d = cost a0 y0 + cost a1 y1 + cost a2 y2 + cost a3 y3 in
       let k : d + m + 2 ^ 31 * (y0 + y1 + y2 + y3) ≡ 2 ^ 67 =
-      costs a0 a1 a2 a3 y0 y1 y2 y3 (cost a0 y0) (cost a1 y1) (cost a2 y2) (cost a3 y3) (cost-exact a0 y0 h0 g0) (cost-exact a1 y1 h1 g1) (cost-exact a2 y2 h2 g2) (cost-exact a3 y3 h3 g3) in
-      mod-left (v + (w + g)) p ∙ turned v p w g d m (2 ^ 31 * (y0 + y1 + y2 + y3)) k
-      ∙ sym (mod-three (v + p + d) (w + m) (g + 2 ^ 31 * (y0 + y1 + y2 + y3)))
+      costs a0 a1 a2 a3 y0 y1 y2 y3 (cost a0 y0) (cost a1 y1) (cost a2 y2) (cost a3 y3) (cost_exact a0 y0 h0 g0) (cost_exact a1 y1 h1 g1) (cost_exact a2 y2 h2 g2) (cost_exact a3 y3 h3 g3) in
+      mod_left (v + (w + g)) p ∙ turned v p w g d m (2 ^ 31 * (y0 + y1 + y2 + y3)) k
+      ∙ sym (mod_three (v + p + d) (w + m) (g + 2 ^ 31 * (y0 + y1 + y2 + y3)))
       ∙ ap (λ n. (n + ((w + m) % 2 ^ 64 + (g + 2 ^ 31 * (y0 + y1 + y2 + y3)) % 2 ^ 64)) % 2 ^ 64)
       (ap (λ n. n % 2 ^ 64) (spread v (a0 * y0) (a1 * y1) (a2 * y2) (a3 * y3) (cost a0 y0) (cost a1 y1) (cost a2 y2) (cost a3 y3)) ∙ sym sums)
 
-mod-lt32 : (c : ℕ) → c % 2 ^ 32 < 2 ^ 32
-mod-lt32 c = omega arith
+mod_lt32 : (c : ℕ) → c % 2 ^ 32 < 2 ^ 32
+mod_lt32 c = omega arith
 
 -- what `four` works out, whatever names its products have
 pub four_is : (n c0 c1 c2 c3 y0 y1 y2 y3 p0 p1 p2 p3 : ℕ)
     → p0 ≡ (c0 % 2 ^ 32) * y0 → p1 ≡ (c1 % 2 ^ 32) * y1 → p2 ≡ (c2 % 2 ^ 32) * y2 → p3 ≡ (c3 % 2 ^ 32) * y3
-    → (n + (p0 + p1 + p2 + p3)) % 2 ^ 64 ≡ fourProducts n c0 c1 c2 c3 y0 y1 y2 y3
-unfolding fourProducts
+    → (n + (p0 + p1 + p2 + p3)) % 2 ^ 64 ≡ four_products n c0 c1 c2 c3 y0 y1 y2 y3
+unfolding four_products
 four_is n c0 c1 c2 c3 y0 y1 y2 y3 p0 p1 p2 p3 e0 e1 e2 e3 = rw (e0, e1, e2, e3)
 
 -- what `four` makes of a raised sum is the sum with four products, raised further
-pub four-raised : (n v g c0 c1 c2 c3 y0 y1 y2 y3 : ℕ) → y0 < 2 ^ 16 → y1 < 2 ^ 16 → y2 < 2 ^ 16 → y3 < 2 ^ 16
-    → fourProducts (raisedBy v g n) c0 c1 c2 c3 y0 y1 y2 y3
-    ≡ raisedBy (offsetBelow (offsetBelow (offsetBelow (offsetBelow v c0) c1) c2) c3) (biasAfter g y0 y1 y2 y3)
-    (fourSums n (coefficientIn c0) (coefficientIn c1) (coefficientIn c2) (coefficientIn c3) (sampleIn y0) (sampleIn y1) (sampleIn y2) (sampleIn y3))
-unfolding fourProducts fourSums
-four-raised n v g c0 c1 c2 c3 y0 y1 y2 y3 g0 g1 g2 g3 =
-    total n (c0 % 2 ^ 32) (c1 % 2 ^ 32) (c2 % 2 ^ 32) (c3 % 2 ^ 32) y0 y1 y2 y3 (mod-lt32 c0) (mod-lt32 c1) (mod-lt32 c2) (mod-lt32 c3) g0 g1 g2 g3 g v
-    ∙ ap (λ l. (fours + (l + biasAfter g y0 y1 y2 y3)) % 2 ^ 64)
-    (sym (offsets-four v (offset_of (c0 % 2 ^ 32)) (offset_of (c1 % 2 ^ 32)) (offset_of (c2 % 2 ^ 32)) (offset_of (c3 % 2 ^ 32))))
+pub four_raised : (n v g c0 c1 c2 c3 y0 y1 y2 y3 : ℕ) → y0 < 2 ^ 16 → y1 < 2 ^ 16 → y2 < 2 ^ 16 → y3 < 2 ^ 16
+    → four_products (raised_by v g n) c0 c1 c2 c3 y0 y1 y2 y3
+    ≡ raised_by (offset_below_of (offset_below_of (offset_below_of (offset_below_of v c0) c1) c2) c3) (bias_after_of g y0 y1 y2 y3)
+    (four_sums n (coefficient_in c0) (coefficient_in c1) (coefficient_in c2) (coefficient_in c3) (sample_in y0) (sample_in y1) (sample_in y2) (sample_in y3))
+unfolding four_products four_sums
+four_raised n v g c0 c1 c2 c3 y0 y1 y2 y3 g0 g1 g2 g3 =
+    total n (c0 % 2 ^ 32) (c1 % 2 ^ 32) (c2 % 2 ^ 32) (c3 % 2 ^ 32) y0 y1 y2 y3 (mod_lt32 c0) (mod_lt32 c1) (mod_lt32 c2) (mod_lt32 c3) g0 g1 g2 g3 g v
+    ∙ ap (λ l. (fours + (l + bias_after_of g y0 y1 y2 y3)) % 2 ^ 64)
+    (sym (offsets_four v (offset_of (c0 % 2 ^ 32)) (offset_of (c1 % 2 ^ 32)) (offset_of (c2 % 2 ^ 32)) (offset_of (c3 % 2 ^ 32))))
   where
     fours : ℕ
-    fours = plus (plus (plus (plus n (coefficientIn c0) (sampleIn y0)) (coefficientIn c1) (sampleIn y1)) (coefficientIn c2) (sampleIn y2)) (coefficientIn c3) (sampleIn y3)
+    fours = plus (plus (plus (plus n (coefficient_in c0) (sample_in y0)) (coefficient_in c1) (sample_in y1)) (coefficient_in c2) (sample_in y2)) (coefficient_in c3) (sample_in y3)
 
 -- four sums are a word
-pub four-word : (n : ℕ) (a b c d x0 x1 x2 x3 : ℤ) → fourSums n a b c d x0 x1 x2 x3 < 2 ^ 64
-unfolding fourSums
-four-word n a b c d x0 x1 x2 x3 = wrapped-lt (pos (plus (plus (plus n a x0) b x1) c x2) +ℤ d *ℤ x3)
+pub four_word : (n : ℕ) (a b c d x0 x1 x2 x3 : ℤ) → four_sums n a b c d x0 x1 x2 x3 < 2 ^ 64
+unfolding four_sums
+four_word n a b c d x0 x1 x2 x3 = wrapped_lt (pos (plus (plus (plus n a x0) b x1) c x2) +ℤ d *ℤ x3)
 
 -- a word is known by what it is raised to
-pub raised-one : (v g m n : ℕ) → m < 2 ^ 64 → n < 2 ^ 64 → raisedBy v g m ≡ raisedBy v g n → m ≡ n
-raised-one v g m n k l e = cancel (v + g) m n k l e
+pub raised_one : (v g m n : ℕ) → m < 2 ^ 64 → n < 2 ^ 64 → raised_by v g m ≡ raised_by v g n → m ≡ n
+raised_one v g m n k l e = cancel (v + g) m n k l e
   where
     cancel : (a m n : ℕ) → m < 2 ^ 64 → n < 2 ^ 64 → (m + a) % 2 ^ 64 ≡ (n + a) % 2 ^ 64 → m ≡ n
     cancel a m n k l e = omega arith

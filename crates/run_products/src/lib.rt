@@ -7,7 +7,7 @@ ghost use Rattle.std.specs.Prelude.{◌≡◌, ◌+◌, ◌*◌, ◌%◌, ◌^�
 ghost use Rattle.std.specs.Int.{w64};
 ghost use Rattle.std.proofs.Common.{to_z};
 ghost use Rattle.run_convolution.specs.Words.{wrapped};
-ghost use Rattle.run_products.specs.Inner.{coefficientIn, sampleIn, fourProducts, offsetBelow, biasAfter, raisedBy};
+ghost use Rattle.run_products.specs.Inner.{coefficient_in, sample_in, four_products, offset_below_of, bias_after_of, raised_by};
 
 // A word read as signed.
 pub fn signed(word: u64) -> i64
@@ -35,7 +35,7 @@ pub fn sum(register: u64, c: i32, x: i16) -> u64
 
 // A coefficient with 2^31 added.
 pub fn offset_coefficient(n: i32) -> u64
-    ensures { coefficientIn result ≡ n }
+    ensures { coefficient_in result ≡ n }
 {
     if n < 0 {
         0x7fff_ffff - (!n) as u64
@@ -46,7 +46,7 @@ pub fn offset_coefficient(n: i32) -> u64
 
 // A sample with 2^15 added.
 pub fn offset_sample(x: i16) -> u16
-    ensures { sampleIn result ≡ x }
+    ensures { sample_in result ≡ x }
 {
     if x < 0 {
         0x7fff - (!x) as u16
@@ -74,7 +74,7 @@ pub fn four(
     y2: u16,
     y3: u16,
 ) -> u64
-    ensures { result ≡ fourProducts register c0 c1 c2 c3 y0 y1 y2 y3 }
+    ensures { result ≡ four_products register c0 c1 c2 c3 y0 y1 y2 y3 }
 {
     let p0 = part(c0, y0);
     let p1 = part(c1, y1);
@@ -89,7 +89,7 @@ const LESS_2_TO_46: u64 = 0xffff_c000_0000_0000;
 
 // The offset of a place, from that of the place after it and the coefficient between them.
 pub fn offset_below(offset: u64, c: u64) -> u64
-    ensures { result ≡ offsetBelow offset c }
+    ensures { result ≡ offset_below_of offset c }
 {
     let by = std::num::wrapping_add_u64(LESS_2_TO_46, 0x8000 * (c % 0x1_0000_0000));
     std::num::wrapping_add_u64(offset, by)
@@ -97,7 +97,7 @@ pub fn offset_below(offset: u64, c: u64) -> u64
 
 // The bias four samples on.
 pub fn bias_after(bias: u64, y0: u16, y1: u16, y2: u16, y3: u16) -> u64
-    ensures { result ≡ biasAfter bias y0 y1 y2 y3 }
+    ensures { result ≡ bias_after_of bias y0 y1 y2 y3 }
 {
     std::num::wrapping_add_u64(
         bias,
@@ -107,14 +107,14 @@ pub fn bias_after(bias: u64, y0: u16, y1: u16, y2: u16, y3: u16) -> u64
 }
 
 pub fn raised(n: u64, offset: u64, bias: u64) -> u64
-    ensures { result ≡ raisedBy offset bias n }
+    ensures { result ≡ raised_by offset bias n }
 {
     std::num::wrapping_add_u64(n, std::num::wrapping_add_u64(offset, bias))
 }
 
 // The word that was raised.
 pub fn lowered(n: u64, offset: u64, bias: u64) -> u64
-    ensures { raisedBy offset bias result ≡ n }
+    ensures { raised_by offset bias result ≡ n }
 {
     std::num::wrapping_sub_u64(n, std::num::wrapping_add_u64(offset, bias))
 }

@@ -8,24 +8,24 @@ use lib.ListN.{length, get_or, drop, set, drop_of_length-le}
 use lib.Seq.{drop-cons, sets}
 use mir.Syntax.{w64}
 use mir.Val.{to_z}
-use Rattle.run_convolution.specs.Running.{sum_at, next, outputsOf, registersOf}
+use Rattle.run_convolution.specs.Running.{sum_at, next, outputs_of, registers_of}
 
 module _ (h xs : List ℤ) (r : List ℕ) (i : ℕ) (l : i < length xs) (new : List ℕ) (e : new ≡ next h (get_or xs i (pos 0)) r) where
-  pub one-registers : registersOf h new (drop (i + 1) xs) ≡ registersOf h r (drop i xs)
-  unfolding registersOf
-  one-registers = rw (add-one i, drop-cons xs i (pos 0) l, e)
+  pub one_registers : registers_of h new (drop (i + 1) xs) ≡ registers_of h r (drop i xs)
+  unfolding registers_of
+  one_registers = rw (add-one i, drop-cons xs i (pos 0) l, e)
 
-  pub one-outputs : (outs : List ℤ) (v : ℤ) → v ≡ to_z w64 (sum_at h (get_or xs i (pos 0)) r 0)
-      → sets (set outs i v) (i + 1) (outputsOf h new (drop (i + 1) xs)) ≡ sets outs i (outputsOf h r (drop i xs))
-  unfolding outputsOf
-  one-outputs outs v q = rw (add-one i, drop-cons xs i (pos 0) l, e, q)
+  pub one_outputs : (outs : List ℤ) (v : ℤ) → v ≡ to_z w64 (sum_at h (get_or xs i (pos 0)) r 0)
+      → sets (set outs i v) (i + 1) (outputs_of h new (drop (i + 1) xs)) ≡ sets outs i (outputs_of h r (drop i xs))
+  unfolding outputs_of
+  one_outputs outs v q = rw (add-one i, drop-cons xs i (pos 0) l, e, q)
 
 -- ---- the end of the samples
 
-pub end-registers : (h xs : List ℤ) (r : List ℕ) (i : ℕ) → length xs ≤ i → registersOf h r (drop i xs) ≡ r
-unfolding registersOf
-end-registers h xs r i l = rw (drop_of_length-le xs l)
+pub end_registers : (h xs : List ℤ) (r : List ℕ) (i : ℕ) → length xs ≤ i → registers_of h r (drop i xs) ≡ r
+unfolding registers_of
+end_registers h xs r i l = rw (drop_of_length-le xs l)
 
-pub end-outputs : (h xs : List ℤ) (r : List ℕ) (i : ℕ) (outs : List ℤ) → length xs ≤ i → sets outs i (outputsOf h r (drop i xs)) ≡ outs
-unfolding outputsOf
-end-outputs h xs r i outs l = rw (drop_of_length-le xs l)
+pub end_outputs : (h xs : List ℤ) (r : List ℕ) (i : ℕ) (outs : List ℤ) → length xs ≤ i → sets outs i (outputs_of h r (drop i xs)) ≡ outs
+unfolding outputs_of
+end_outputs h xs r i outs l = rw (drop_of_length-le xs l)

@@ -1,7 +1,7 @@
 // Samples through 256 coefficients and 256 registers, one by one.
 ghost use Rattle.std.specs.Prelude.{◌≡◌, ◌≤◌, min, length, drop};
 ghost use Rattle.std.proofs.lemmas.List.Edits.{sets};
-ghost use Rattle.run_convolution.specs.Running.{next, outputsOf, registersOf};
+ghost use Rattle.run_convolution.specs.Running.{next, outputs_of, registers_of};
 ghost use Rattle.run_tables.specs.Inner.{ZeroFrom};
 
 use run_products::{signed, sum};
@@ -37,9 +37,9 @@ pub fn singly(
 )
     requires { ((length h.now ≡ 256) × ((start ≤ length samples.now)
         × ((256 ≤ length registers.old) × (length samples.now ≤ length outputs.old)))) × (ZeroFrom w h.now registers.old) }
-    ensures registers_after { registers.new ≡ registersOf h.now registers.old (drop start samples.now) }
+    ensures registers_after { registers.new ≡ registers_of h.now registers.old (drop start samples.now) }
     ensures outputs_after { outputs.new ≡ sets outputs.old start
-        (outputsOf h.now registers.old (drop start samples.now)) }
+        (outputs_of h.now registers.old (drop start samples.now)) }
 {
     let mut i = start;
     while i < samples.len() {

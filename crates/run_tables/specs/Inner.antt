@@ -3,16 +3,16 @@ use Rattle.std.specs.Prelude.{◌≡◌, List, ℕ, ◌+◌, ◌<◌, ◌≤◌,
 use Rattle.sequence.specs.UpTo.{up_to}
 use Rattle.run_convolution.specs.Running.{next}
 use Rattle.run_convolution.specs.Sums.{held}
-use Rattle.run_products.specs.Inner.{coefficientIn, offsetBelow, raisedBy}
+use Rattle.run_products.specs.Inner.{coefficient_in, offset_below_of, raised_by}
 
 -- the 256 coefficients that the table c holds in offset binary, from word 4 on
-unfoldable pub coefficientsIn : List ℕ → List ℤ
-coefficientsIn c = up_to 256 (λ k. coefficientIn (get_or c (k + 4) 0))
+unfoldable pub coefficients_in : List ℕ → List ℤ
+coefficients_in c = up_to 256 (λ k. coefficient_in (get_or c (k + 4) 0))
 
 -- the four words before them and the four after them hold 0
 pub record Padded (c : List ℕ) : Type 0 where
-  pub low : (k : ℕ) → k < 4 → coefficientIn (get_or c k 0) ≡ pos 0
-  pub high : (k : ℕ) → 256 ≤ k → k < 260 → coefficientIn (get_or c (k + 4) 0) ≡ pos 0
+  pub low : (k : ℕ) → k < 4 → coefficient_in (get_or c k 0) ≡ pos 0
+  pub high : (k : ℕ) → 256 ≤ k → k < 260 → coefficient_in (get_or c (k + 4) 0) ≡ pos 0
 
 -- past the first w coefficients the table c holds 0
 abbrev pub StoredZeroFrom : ℕ → List ℕ → Type 0
@@ -20,11 +20,11 @@ StoredZeroFrom w c = (j : ℕ) → w + 4 ≤ j → j < 264 → get_or c j 0 ≡ 
 
 -- v holds the offsets of the coefficients in c; whatever stands at its end
 pub record OffsetsOf (c v : List ℕ) : Type 0 where
-  pub is : (j : ℕ) → j < 264 → get_or v j 0 ≡ offsetBelow (get_or v (j + 1) 0) (get_or c j 0)
+  pub is : (j : ℕ) → j < 264 → get_or v j 0 ≡ offset_below_of (get_or v (j + 1) 0) (get_or c j 0)
 
 -- the first n registers of r, raised by their offsets and a bias
 pub record Raised (n : ℕ) (v : List ℕ) (bias : ℕ) (r words : List ℕ) : Type 0 where
-  pub at : (k : ℕ) → k < n → get_or words k 0 ≡ raisedBy (get_or v (k + 5) 0) bias (held r k)
+  pub at : (k : ℕ) → k < n → get_or words k 0 ≡ raised_by (get_or v (k + 5) 0) bias (held r k)
 
 -- the registers after four samples
 abbrev pub after4 : List ℤ → ℤ → ℤ → ℤ → ℤ → List ℕ → List ℕ

@@ -1,7 +1,7 @@
 // The tables of a running call: its coefficients in offset binary, with four zeros before and after
 // them, and the offsets that samples in offset binary leave in the registers.
 ghost use Rattle.std.specs.Prelude.{◌≡◌, ℕ, ◌^◌, ◌≤◌, pos, length, get_or, replicate};
-ghost use Rattle.run_tables.specs.Inner.{coefficientsIn, Padded, StoredZeroFrom, OffsetsOf};
+ghost use Rattle.run_tables.specs.Inner.{coefficients_in, Padded, StoredZeroFrom, OffsetsOf};
 
 mod width;
 
@@ -11,7 +11,7 @@ pub use width::used;
 // Fills a table that holds zeros in offset binary; from w on, coefficients are 0.
 pub fn fill_coefficients(h: &[i32; 256], w: usize, stored: &mut [u64; 264])
     requires { ((length h.now ≡ 256) × (w ≤ 256)) × ((stored.old ≡ replicate 264 (2 ^ 31)) × ((k : ℕ) → w ≤ k → get_or h.now k (pos 0) ≡ pos 0)) }
-    ensures { (Padded stored.new) × ((coefficientsIn stored.new ≡ h.now) × (StoredZeroFrom w stored.new)) }
+    ensures { (Padded stored.new) × ((coefficients_in stored.new ≡ h.now) × (StoredZeroFrom w stored.new)) }
 {
     let mut k: usize = 0;
     while k < w {

@@ -1,7 +1,7 @@
 -- The first argument of the program. Document 01, "The sheet". Definitions only.
 use Rattle.std.specs.Prelude.{Bool, true, false, not, ◌&&◌, List, ℕ, leb, ltb, length}
-use Rattle.refusal.specs.Answer.{Answer, given, refuseIf}
-use Rattle.text.specs.Numbers.{areDigits, numberFrom}
+use Rattle.refusal.specs.Answer.{Answer, given, refuse_if}
+use Rattle.text.specs.Numbers.{are_digits, number_from}
 
 -- missing, or its bytes
 pub data Argument : Type 0 where
@@ -9,15 +9,15 @@ pub data Argument : Type 0 where
   text : List ℕ → Argument
 
 -- as the program hands it on: whether there is one, and its bytes
-abbrev pub argumentOf : Bool → List ℕ → Argument
-argumentOf false bytes = missing
-argumentOf true bytes = text bytes
+abbrev pub argument_of : Bool → List ℕ → Argument
+argument_of false bytes = missing
+argument_of true bytes = text bytes
 
 -- "the digits of a decimal number up to 31, leading zeros allowed": one digit at least
-unfoldable pub isFraction : List ℕ → Bool
-isFraction bytes = ltb 0 (length bytes) && areDigits bytes && leb (numberFrom 0 bytes) 31
+unfoldable pub is_fraction : List ℕ → Bool
+is_fraction bytes = ltb 0 (length bytes) && are_digits bytes && leb (number_from 0 bytes) 31
 
 -- "F = 15 unless its first argument gives F (anything there but the digits of a decimal number up to 31 .. is refusal 4)"
-unfoldable pub fractionBits : Argument → Answer ℕ
-fractionBits missing = given 15
-fractionBits (text bytes) = refuseIf (not (isFraction bytes)) 4 (given (numberFrom 0 bytes))
+unfoldable pub fraction_bits_of : Argument → Answer ℕ
+fraction_bits_of missing = given 15
+fraction_bits_of (text bytes) = refuse_if (not (is_fraction bytes)) 4 (given (number_from 0 bytes))

@@ -1,20 +1,20 @@
 -- What the program's input and argument are turned down for before a tap is looked at. Document 01, "Turned down". Definitions only.
 use Rattle.std.specs.Prelude.{not, List, ℕ, ◌%◌, eqb, ltb, length}
-use Rattle.refusal.specs.Answer.{Answer, given, refuseIf, turnedDown}
+use Rattle.refusal.specs.Answer.{Answer, given, refuse_if, turned_down_of}
 use Rattle.sheet_input.specs.declared.Fraction.{Fraction}
 use Rattle.sheet_input.specs.declared.Fraction.TheVariants.{Bits, Refused}
-use Rattle.sheet_input.specs.Argument.{Argument, fractionBits}
-use Rattle.sheet_input.specs.Taps.{wholeTaps}
+use Rattle.sheet_input.specs.Argument.{Argument, fraction_bits_of}
+use Rattle.sheet_input.specs.Taps.{whole_taps}
 
 -- F, or the first check that applies: "12 comes after 2, and both 1 and 2 count whole taps"; 12 is "input ends inside a tap"
-unfoldable pub inputAnswer : List ℕ → Argument → Answer ℕ
-inputAnswer input argument =
-    refuseIf (eqb (wholeTaps input) 0) 1
-    (refuseIf (ltb 256 (wholeTaps input)) 2
-    (refuseIf (not (eqb (length input % 8) 0)) 12
-    (fractionBits argument)))
+unfoldable pub input_answer : List ℕ → Argument → Answer ℕ
+input_answer input argument =
+    refuse_if (eqb (whole_taps input) 0) 1
+    (refuse_if (ltb 256 (whole_taps input)) 2
+    (refuse_if (not (eqb (length input % 8) 0)) 12
+    (fraction_bits_of argument)))
 
 -- what each case of `Fraction` says: F, or the table's number and place
 abbrev pub answer_of : Fraction → Answer ℕ
 answer_of (Bits f) = given f
-answer_of (Refused r) = turnedDown r
+answer_of (Refused r) = turned_down_of r

@@ -10,12 +10,12 @@ low_first [] = 0
 low_first (b ∷ bs) = b + 256 * low_first bs
 
 -- tap i: "8 bytes a tap", and "A tap is an IEEE 754 binary64 number"
-unfoldable pub tapAt : List ℕ → ℕ → Float
-tapAt input i = of_bits binary64 (low_first (take 8 (drop (8 * i) input)))
+unfoldable pub tap_at_of : List ℕ → ℕ → Float
+tap_at_of input i = of_bits binary64 (low_first (take 8 (drop (8 * i) input)))
 
-abbrev pub wholeTaps : List ℕ → ℕ
-wholeTaps input = length input / 8
+abbrev pub whole_taps : List ℕ → ℕ
+whole_taps input = length input / 8
 
 -- the whole taps of an input
-abbrev pub tapsOf : List ℕ → List Float
-tapsOf input = up_to (wholeTaps input) (tapAt input)
+abbrev pub taps_of : List ℕ → List Float
+taps_of input = up_to (whole_taps input) (tap_at_of input)

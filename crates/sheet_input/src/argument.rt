@@ -1,6 +1,6 @@
 // F from the first argument.
 ghost use Rattle.std.specs.Prelude.{◌≡◌, ◌-◌, ◌≤◌};
-ghost use Rattle.sheet_input.specs.Argument.{text as bytes, fractionBits};
+ghost use Rattle.sheet_input.specs.Argument.{text as bytes, fraction_bits_of};
 ghost use Rattle.sheet_input.specs.Input.{answer_of};
 
 use crate::Fraction;
@@ -16,7 +16,7 @@ fn digit(b: u8) -> u32
 
 // The number of an argument of any length: what is above 31 stays so with every digit more.
 pub fn bits_of(text: &[u8]) -> Fraction
-    ensures { answer_of result ≡ fractionBits (bytes text.now) }
+    ensures { answer_of result ≡ fraction_bits_of (bytes text.now) }
 {
     if text.len() == 0 {
         return Fraction::Refused(Refusal::FractionBits);

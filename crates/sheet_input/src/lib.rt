@@ -3,8 +3,8 @@ mod argument;
 mod taps;
 
 ghost use Rattle.std.specs.Prelude.{◌≡◌};
-ghost use Rattle.sheet_input.specs.Argument.{argumentOf};
-ghost use Rattle.sheet_input.specs.Input.{inputAnswer, answer_of};
+ghost use Rattle.sheet_input.specs.Argument.{argument_of};
+ghost use Rattle.sheet_input.specs.Input.{input_answer, answer_of};
 
 use refusal::Refusal;
 pub use taps::read_taps;
@@ -17,7 +17,7 @@ pub enum Fraction {
 
 // F, where neither the input's length nor the argument is turned down.
 pub fn fraction_bits(input: &[u8], given: bool, argument: &[u8]) -> Fraction
-    ensures { answer_of result ≡ inputAnswer input.now (argumentOf given argument.now) }
+    ensures { answer_of result ≡ input_answer input.now (argument_of given argument.now) }
 {
     let whole = input.len() / 8;
     if whole == 0 {

@@ -1,7 +1,7 @@
 // Taps from bytes.
 ghost use Rattle.std.specs.Prelude.{◌≡◌, ◌+◌, ◌*◌, ◌^◌, ◌≤◌, ◌<◌, length, take, drop};
 ghost use Rattle.sequence.specs.Inner.{front};
-ghost use Rattle.sheet_input.specs.Taps.{low_first, tapAt, wholeTaps};
+ghost use Rattle.sheet_input.specs.Taps.{low_first, tap_at_of, whole_taps};
 
 // The number of four bytes, low byte first.
 fn four_bytes(input: &[u8], at: usize) -> u64
@@ -16,7 +16,7 @@ fn four_bytes(input: &[u8], at: usize) -> u64
 
 fn tap_at(input: &[u8], i: usize) -> f64
     requires { 8 * i + 8 ≤ length input.now }
-    ensures { result ≡ tapAt input.now i }
+    ensures { result ≡ tap_at_of input.now i }
 {
     let at = 8 * i;
     let low = four_bytes(input, at);
@@ -26,8 +26,8 @@ fn tap_at(input: &[u8], i: usize) -> f64
 
 // The whole taps of the input, at the start of the table.
 pub fn read_taps(input: &[u8], taps: &mut [f64])
-    requires { wholeTaps input.now ≤ length taps.old }
-    ensures { taps.new ≡ front (tapAt input.now) taps.old (wholeTaps input.now) }
+    requires { whole_taps input.now ≤ length taps.old }
+    ensures { taps.new ≡ front (tap_at_of input.now) taps.old (whole_taps input.now) }
 {
     let n = input.len() / 8;
     let mut i: usize = 0;

@@ -1,6 +1,6 @@
 -- What the writer of a network's sheet asks. Definitions only.
 use Rattle.std.specs.Prelude.{◌≡◌, List, ℕ, ◌≤◌, ℤ, length}
-use Rattle.network.specs.Rows.{networkOf}
+use Rattle.network.specs.Rows.{network_of}
 use Rattle.network.specs.Coefficients.{coefficients}
 use Rattle.sheet_nodes.specs.Inner.{RowsIn}
 use Rattle.sheet_taps.specs.Inner.{TapsIn}
@@ -9,5 +9,5 @@ use Rattle.sheet_taps.specs.Inner.{TapsIn}
 pub record NetworkIn (rows : List ℕ) (n : ℕ) (taps : List ℕ) (values : List ℤ) : Type 0 where
   pub some : 1 ≤ n
   pub rows_in : RowsIn rows n
-  pub taps-in : TapsIn taps (length values)
-  pub products : values ≡ coefficients (networkOf rows n taps (length values))
+  pub taps_in : TapsIn taps (length values)
+  pub products : values ≡ coefficients (network_of rows n taps (length values))

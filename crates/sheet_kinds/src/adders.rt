@@ -1,11 +1,11 @@
 // The adders of a filter: those of its rows, and those that join its taps.
 ghost use Rattle.std.specs.Prelude.{◌≡◌, ◌+◌, ◌-◌, ◌^◌, ◌≤◌, ◌<◌, length};
-ghost use Rattle.network.specs.Adders.{nonzeroTaps, joiningAdders};
+ghost use Rattle.network.specs.Adders.{nonzero_taps_of, joining_adders_of};
 
 use word::choose_index;
 
 fn nonzero_taps(coefficients: &[i32]) -> usize
-    ensures { result ≡ nonzeroTaps coefficients.now }
+    ensures { result ≡ nonzero_taps_of coefficients.now }
 {
     let mut count = 0;
     let mut i = 0;
@@ -18,7 +18,7 @@ fn nonzero_taps(coefficients: &[i32]) -> usize
 
 // The first nonzero tap needs none.
 fn joining_adders(coefficients: &[i32]) -> usize
-    ensures { result ≡ joiningAdders coefficients.now }
+    ensures { result ≡ joining_adders_of coefficients.now }
 {
     let taps = nonzero_taps(coefficients);
     if taps == 0 { 0 } else { taps - 1 }
@@ -27,7 +27,7 @@ fn joining_adders(coefficients: &[i32]) -> usize
 // Of n rows and the taps of these coefficients.
 pub fn adders(n: usize, coefficients: &[i32]) -> u32
     requires { (1 ≤ n) × (n + length coefficients.now < 2 ^ 32) }
-    ensures { result ≡ n - 1 + joiningAdders coefficients.now }
+    ensures { result ≡ n - 1 + joining_adders_of coefficients.now }
 {
     let joining = joining_adders(coefficients);
     (n - 1 + joining) as u32

@@ -3,11 +3,11 @@ mod adders;
 
 ghost use Rattle.std.specs.Prelude.{◌+◌, ◌≤◌, length};
 ghost use Rattle.refusal.specs.Table.{number_of, place_of};
-ghost use Rattle.network.specs.Rows.{networkOf};
+ghost use Rattle.network.specs.Rows.{network_of};
 ghost use Rattle.text.specs.Inner.{Put};
-ghost use Rattle.sheet_lines.specs.Lines.{totalLine, refusedLine};
-ghost use Rattle.sheet_lines.specs.Inner.{totalLineBytes, refusedLineBytes, area_bytes};
-ghost use Rattle.sheet_kinds.specs.Text.{networkText, refusedText};
+ghost use Rattle.sheet_lines.specs.Lines.{total_line_of, refused_line_of};
+ghost use Rattle.sheet_lines.specs.Inner.{total_line_bytes, refused_line_bytes, area_bytes};
+ghost use Rattle.sheet_kinds.specs.Text.{network_text, refused_text};
 ghost use Rattle.sheet_kinds.specs.Inner.{NetworkIn};
 
 use refusal::Refusal;
@@ -17,8 +17,8 @@ use sheet_taps::tap_lines;
 use text::{put, put_number};
 
 fn total_line(out: &mut [u8], at: usize, adders: u32) -> usize
-    requires { at + totalLineBytes ≤ length out.old }
-    ensures { Put out.old at (totalLine adders) totalLineBytes out.new result }
+    requires { at + total_line_bytes ≤ length out.old }
+    ensures { Put out.old at (total_line_of adders) total_line_bytes out.new result }
 {
     let a = put(out, at, b"total,");
     let b = put_to_value(out, a, adders);
@@ -26,8 +26,8 @@ fn total_line(out: &mut [u8], at: usize, adders: u32) -> usize
 }
 
 fn refused_line(out: &mut [u8], at: usize, number: u32, place: u32) -> usize
-    requires { at + refusedLineBytes ≤ length out.old }
-    ensures { Put out.old at (refusedLine number place) refusedLineBytes out.new result }
+    requires { at + refused_line_bytes ≤ length out.old }
+    ensures { Put out.old at (refused_line_of number place) refused_line_bytes out.new result }
 {
     let a = put(out, at, b"refused,");
     let b = put_to_value(out, a, number);
@@ -45,7 +45,7 @@ pub fn network_sheet(
 ) -> usize
     requires network_in { NetworkIn rows.now n tap_rows.now coefficients.now }
     requires area_bytes_in_bounds { area_bytes ≤ length out.old }
-    ensures { Put out.old 0 (networkText (networkOf rows.now n tap_rows.now (length coefficients.now)))
+    ensures { Put out.old 0 (network_text (network_of rows.now n tap_rows.now (length coefficients.now)))
         area_bytes out.new result }
 {
     let a = put_header(out, 0);
@@ -57,7 +57,7 @@ pub fn network_sheet(
 
 pub fn refused_sheet(out: &mut [u8], refusal: Refusal) -> usize
     requires { area_bytes ≤ length out.old }
-    ensures { Put out.old 0 (refusedText (number_of refusal) (place_of refusal)) area_bytes out.new result }
+    ensures { Put out.old 0 (refused_text (number_of refusal) (place_of refusal)) area_bytes out.new result }
 {
     let number = refusal::number(refusal);
     let place = refusal::place(refusal);

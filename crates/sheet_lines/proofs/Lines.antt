@@ -9,11 +9,11 @@ use Rattle.network.specs.declared.Row.{Row}
 use Rattle.network.specs.declared.TapRow.{TapRow}
 use Rattle.network.specs.Rows.{none}
 use Rattle.text.specs.Ascii.{ascii}
-use Rattle.text.specs.Numbers.{decimalBy, decimal, integer}
+use Rattle.text.specs.Numbers.{decimal_by, decimal, integer}
 use Rattle.text.specs.Inner.{Put}
 use Rattle.text.proofs.Puts.{then}
-use Rattle.sheet_lines.specs.Lines.{line, columns, nodeLine, laterLine, tapLine, emptyTapLine, productLine, totalLine, refusedLine}
-use Rattle.sheet_lines.specs.Inner.{toSign, toValue, afterValue}
+use Rattle.sheet_lines.specs.Lines.{line, columns, node_line_of, later_line_of, tap_line_text, empty_tap_line_of, product_line_of, total_line_of, refused_line_of}
+use Rattle.sheet_lines.specs.Inner.{to_sign, to_value, after_value}
 
 -- ---- parts of a line
 -- a field after what ends in a comma
@@ -21,54 +21,54 @@ pub comma : (a : List ℕ) {l e f : List ℕ} {at r s m n : ℕ} {b : List ℕ} 
 comma a {l} {e} {f} {at} {r} {s} {m} {n} {b} p q = rw append_snoc at (then p q)
 
 -- the fields up to the sign, and what comes after them
-to-sign-append : (i left shift sign : ℕ) (b : List ℕ) → toSign i left shift sign [] ++ b ≡ toSign i left shift sign b
-to-sign-append i left shift sign b = simp append_assoc
+to_sign_append : (i left shift sign : ℕ) (b : List ℕ) → to_sign i left shift sign [] ++ b ≡ to_sign i left shift sign b
+to_sign_append i left shift sign b = simp append_assoc
 
-pub after-sign : {l e f : List ℕ} {at r s m n : ℕ} {b : List ℕ} (i left shift sign : ℕ) → Put l at (toSign i left shift sign []) m e r → Put e r b n f s
-    → Put l at (toSign i left shift sign b) (m + n) f s
-after-sign {b = b} i left shift sign p q = rw (to-sign-append i left shift sign b) at (then p q)
+pub after_sign : {l e f : List ℕ} {at r s m n : ℕ} {b : List ℕ} (i left shift sign : ℕ) → Put l at (to_sign i left shift sign []) m e r → Put e r b n f s
+    → Put l at (to_sign i left shift sign b) (m + n) f s
+after_sign {b = b} i left shift sign p q = rw (to_sign_append i left shift sign b) at (then p q)
 
 -- the empty fields up to the value, and what comes after them
-to-value-append : (i : ℕ) (b : List ℕ) → toValue i [] ++ b ≡ toValue i b
-to-value-append i b = simp append_assoc
+to_value_append : (i : ℕ) (b : List ℕ) → to_value i [] ++ b ≡ to_value i b
+to_value_append i b = simp append_assoc
 
-pub value_after : {l e f : List ℕ} {at r s m n : ℕ} {b : List ℕ} (i : ℕ) → Put l at (toValue i []) m e r → Put e r b n f s → Put l at (toValue i b) (m + n) f s
-value_after {b = b} i p q = rw (to-value-append i b) at (then p q)
+pub value_after : {l e f : List ℕ} {at r s m n : ℕ} {b : List ℕ} (i : ℕ) → Put l at (to_value i []) m e r → Put e r b n f s → Put l at (to_value i b) (m + n) f s
+value_after {b = b} i p q = rw (to_value_append i b) at (then p q)
 
 -- ---- the kinds of line
-pub node-first : (r : Row) → nodeLine 0 r ≡ ascii "node," ++ toValue 0 (decimal r.value ++ afterValue)
-unfolding nodeLine columns line
-node-first r = refl
+pub node_first : (r : Row) → node_line_of 0 r ≡ ascii "node," ++ to_value 0 (decimal r.value ++ after_value)
+unfolding node_line_of columns line
+node_first r = refl
 
-pub later-parts : (i : ℕ) (r : Row) → laterLine i r ≡ ascii "node," ++ toSign i r.left r.shift r.sign (decimal r.right ++ (44 ∷ (decimal r.value ++ afterValue)))
+pub later_parts : (i : ℕ) (r : Row) → later_line_of i r ≡ ascii "node," ++ to_sign i r.left r.shift r.sign (decimal r.right ++ (44 ∷ (decimal r.value ++ after_value)))
 unfolding columns line
-later-parts i r = refl
+later_parts i r = refl
 
-pub node-later : (i : ℕ) (r : Row) → (i ≡ 0 → ⊥) → nodeLine i r ≡ laterLine i r
-unfolding nodeLine
-node-later zero r h = absurd (h refl)
-node-later (suc k) r h = refl
+pub node_later : (i : ℕ) (r : Row) → (i ≡ 0 → ⊥) → node_line_of i r ≡ later_line_of i r
+unfolding node_line_of
+node_later zero r h = absurd (h refl)
+node_later (suc k) r h = refl
 
-pub tap-none : (i : ℕ) (t : TapRow) (v : ℤ) → t.sign ≡ none → tapLine i t v ≡ emptyTapLine i
-unfolding tapLine
-tap-none i t v h = rw (eq-eqb t.sign none h)
+pub tap_none : (i : ℕ) (t : TapRow) (v : ℤ) → t.sign ≡ none → tap_line_text i t v ≡ empty_tap_line_of i
+unfolding tap_line_text
+tap_none i t v h = rw (eq-eqb t.sign none h)
 
-pub tap-some : (i : ℕ) (t : TapRow) (v : ℤ) → (t.sign ≡ none → ⊥) → tapLine i t v ≡ productLine i t v
-unfolding tapLine
-tap-some i t v h = rw (ne_eqb t.sign none h)
+pub tap_some : (i : ℕ) (t : TapRow) (v : ℤ) → (t.sign ≡ none → ⊥) → tap_line_text i t v ≡ product_line_of i t v
+unfolding tap_line_text
+tap_some i t v h = rw (ne_eqb t.sign none h)
 
-pub empty-parts : (i : ℕ) → emptyTapLine i ≡ ascii "tap," ++ toValue i (48 ∷ afterValue)
-unfolding columns line decimal decimalBy
-empty-parts i = refl
+pub empty_parts : (i : ℕ) → empty_tap_line_of i ≡ ascii "tap," ++ to_value i (48 ∷ after_value)
+unfolding columns line decimal decimal_by
+empty_parts i = refl
 
-pub product-parts : (i : ℕ) (t : TapRow) (v : ℤ) → productLine i t v ≡ ascii "tap," ++ toSign i t.row t.shift t.sign (44 ∷ (integer v ++ afterValue))
+pub product_parts : (i : ℕ) (t : TapRow) (v : ℤ) → product_line_of i t v ≡ ascii "tap," ++ to_sign i t.row t.shift t.sign (44 ∷ (integer v ++ after_value))
 unfolding columns line
-product-parts i t v = refl
+product_parts i t v = refl
 
-pub total-parts : (total : ℕ) → totalLine total ≡ ascii "total," ++ toValue total afterValue
-unfolding totalLine columns line
-total-parts total = refl
+pub total_parts : (total : ℕ) → total_line_of total ≡ ascii "total," ++ to_value total after_value
+unfolding total_line_of columns line
+total_parts total = refl
 
-pub refused-parts : (number place : ℕ) → refusedLine number place ≡ ascii "refused," ++ toValue number (decimal place ++ afterValue)
-unfolding refusedLine columns line
-refused-parts number place = refl
+pub refused_parts : (number place : ℕ) → refused_line_of number place ≡ ascii "refused," ++ to_value number (decimal place ++ after_value)
+unfolding refused_line_of columns line
+refused_parts number place = refl

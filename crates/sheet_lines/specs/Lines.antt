@@ -23,34 +23,34 @@ abbrev pub empty : List ℕ
 empty = []
 
 -- a sign, which is stored as its character
-abbrev pub signField : ℕ → List ℕ
-signField sign = sign ∷ []
+abbrev pub sign_field : ℕ → List ℕ
+sign_field sign = sign ∷ []
 
 -- a later row, "a row or tap number under number"
-abbrev pub laterLine : ℕ → Row → List ℕ
-laterLine i r = columns (ascii "node") (decimal i) (decimal r.left) (decimal r.shift) (signField r.sign) (decimal r.right) (decimal r.value)
+abbrev pub later_line_of : ℕ → Row → List ℕ
+later_line_of i r = columns (ascii "node") (decimal i) (decimal r.left) (decimal r.shift) (sign_field r.sign) (decimal r.right) (decimal r.value)
 
 -- row i: "Fields with nothing to hold are empty: for row 0 all but number and value"
-unfoldable pub nodeLine : ℕ → Row → List ℕ
-nodeLine zero r = columns (ascii "node") (decimal 0) empty empty empty empty (decimal r.value)
-nodeLine (suc i) r = laterLine (suc i) r
+unfoldable pub node_line_of : ℕ → Row → List ℕ
+node_line_of zero r = columns (ascii "node") (decimal 0) empty empty empty empty (decimal r.value)
+node_line_of (suc i) r = later_line_of (suc i) r
 
 -- "and so for an empty tap, whose value is 0"
-abbrev pub emptyTapLine : ℕ → List ℕ
-emptyTapLine i = columns (ascii "tap") (decimal i) empty empty empty empty (decimal 0)
+abbrev pub empty_tap_line_of : ℕ → List ℕ
+empty_tap_line_of i = columns (ascii "tap") (decimal i) empty empty empty empty (decimal 0)
 
 -- "a tap's row stands under left"
-abbrev pub productLine : ℕ → TapRow → ℤ → List ℕ
-productLine i t value = columns (ascii "tap") (decimal i) (decimal t.row) (decimal t.shift) (signField t.sign) empty (integer value)
+abbrev pub product_line_of : ℕ → TapRow → ℤ → List ℕ
+product_line_of i t value = columns (ascii "tap") (decimal i) (decimal t.row) (decimal t.shift) (sign_field t.sign) empty (integer value)
 
 -- tap i, whose coefficient is `value`
-unfoldable pub tapLine : ℕ → TapRow → ℤ → List ℕ
-tapLine i t value = cond (eqb t.sign none) (emptyTapLine i) (productLine i t value)
+unfoldable pub tap_line_text : ℕ → TapRow → ℤ → List ℕ
+tap_line_text i t value = cond (eqb t.sign none) (empty_tap_line_of i) (product_line_of i t value)
 
 -- "the total line with the total under number"
-unfoldable pub totalLine : ℕ → List ℕ
-totalLine total = columns (ascii "total") (decimal total) empty empty empty empty empty
+unfoldable pub total_line_of : ℕ → List ℕ
+total_line_of total = columns (ascii "total") (decimal total) empty empty empty empty empty
 
 -- "`refused,N,,,,,P`", "N the refusal number and P the place"
-unfoldable pub refusedLine : ℕ → ℕ → List ℕ
-refusedLine number place = columns (ascii "refused") (decimal number) empty empty empty empty (decimal place)
+unfoldable pub refused_line_of : ℕ → ℕ → List ℕ
+refused_line_of number place = columns (ascii "refused") (decimal number) empty empty empty empty (decimal place)

@@ -3,8 +3,8 @@ ghost use Rattle.std.specs.Prelude.{◌+◌, ◌*◌, ◌≤◌, ◌<◌, length
 ghost use Rattle.network.specs.Rows.{rows_of};
 ghost use Rattle.text.specs.Lines.{lines_from};
 ghost use Rattle.text.specs.Inner.{Put};
-ghost use Rattle.sheet_lines.specs.Lines.{laterLine, nodeLine};
-ghost use Rattle.sheet_lines.specs.Inner.{nodeLineBytes};
+ghost use Rattle.sheet_lines.specs.Lines.{later_line_of, node_line_of};
+ghost use Rattle.sheet_lines.specs.Inner.{node_line_bytes};
 ghost use Rattle.sheet_nodes.specs.Inner.{RowsIn};
 
 use network::Row;
@@ -12,8 +12,8 @@ use sheet_lines::{put_end, put_field, put_to_sign, put_to_value};
 use text::{put, put_number};
 
 fn first_line(out: &mut [u8], at: usize, row: Row) -> usize
-    requires { at + nodeLineBytes ≤ length out.old }
-    ensures { Put out.old at (nodeLine 0 row) nodeLineBytes out.new result }
+    requires { at + node_line_bytes ≤ length out.old }
+    ensures { Put out.old at (node_line_of 0 row) node_line_bytes out.new result }
 {
     let a = put(out, at, b"node,");
     let b = put_to_value(out, a, 0);
@@ -23,8 +23,8 @@ fn first_line(out: &mut [u8], at: usize, row: Row) -> usize
 
 fn later_line(out: &mut [u8], at: usize, i: u32, row: Row) -> usize
     requires sign_bound { row.sign < 256 }
-    requires node_line_bytes_in_bounds { at + nodeLineBytes ≤ length out.old }
-    ensures { Put out.old at (laterLine i row) nodeLineBytes out.new result }
+    requires node_line_bytes_in_bounds { at + node_line_bytes ≤ length out.old }
+    ensures { Put out.old at (later_line_of i row) node_line_bytes out.new result }
 {
     let a = put(out, at, b"node,");
     let b = put_to_sign(out, a, i, row.left, row.shift, row.sign);
@@ -35,8 +35,8 @@ fn later_line(out: &mut [u8], at: usize, i: u32, row: Row) -> usize
 
 fn node_line(out: &mut [u8], at: usize, i: u32, row: Row) -> usize
     requires sign_bound { row.sign < 256 }
-    requires node_line_bytes_in_bounds { at + nodeLineBytes ≤ length out.old }
-    ensures { Put out.old at (nodeLine i row) nodeLineBytes out.new result }
+    requires node_line_bytes_in_bounds { at + node_line_bytes ≤ length out.old }
+    ensures { Put out.old at (node_line_of i row) node_line_bytes out.new result }
 {
     if i == 0 {
         return first_line(out, at, row);
@@ -47,8 +47,8 @@ fn node_line(out: &mut [u8], at: usize, i: u32, row: Row) -> usize
 // The first n rows, by number.
 pub fn node_lines(out: &mut [u8], at: usize, rows: &[u32], n: usize) -> usize
     requires rows_in { RowsIn rows.now n }
-    requires n_in_bounds { at + nodeLineBytes * n ≤ length out.old }
-    ensures { Put out.old at (lines_from nodeLine 0 (rows_of rows.now n)) (nodeLineBytes * n) out.new result }
+    requires n_in_bounds { at + node_line_bytes * n ≤ length out.old }
+    ensures { Put out.old at (lines_from node_line_of 0 (rows_of rows.now n)) (node_line_bytes * n) out.new result }
 {
     let mut to = at;
     let mut i: usize = 0;

@@ -3,10 +3,10 @@ ghost use Rattle.std.specs.Prelude.{◌≤◌, length};
 ghost use Rattle.build_steps.specs.TapRows.{built};
 ghost use Rattle.text.specs.Inner.{Put};
 ghost use Rattle.sheet_lines.specs.Inner.{area_bytes};
-ghost use Rattle.sheet_kinds.specs.Text.{networkText};
-ghost use Rattle.sheet_input.specs.Argument.{argumentOf};
-ghost use Rattle.sheet_input.specs.Taps.{wholeTaps, tapsOf};
-ghost use Rattle.sheet_text.specs.Sheet.{choices, tapsAnswer, text_of, SheetWritten};
+ghost use Rattle.sheet_kinds.specs.Text.{network_text};
+ghost use Rattle.sheet_input.specs.Argument.{argument_of};
+ghost use Rattle.sheet_input.specs.Taps.{whole_taps, taps_of};
+ghost use Rattle.sheet_text.specs.Sheet.{choices, taps_answer, text_of, SheetWritten};
 ghost use Rattle.sheet_text.specs.Inner.{Coefficients};
 
 use build_network::Built;
@@ -17,7 +17,7 @@ use tap_set::RoundedTaps;
 // The sheet of coefficients, all choices 0. Nothing is turned down here.
 fn coefficient_sheet(out: &mut [u8], coefficients: &[i32]) -> usize
     requires { Coefficients coefficients.now × (area_bytes ≤ length out.old) }
-    ensures { Put out.old 0 (networkText (built coefficients.now choices)) area_bytes out.new result }
+    ensures { Put out.old 0 (network_text (built coefficients.now choices)) area_bytes out.new result }
 {
     let choices = [0u32; 256];
     let mut rows = [0u32; network::ROW_TABLE];
@@ -31,8 +31,8 @@ fn coefficient_sheet(out: &mut [u8], coefficients: &[i32]) -> usize
 
 // The sheet of the whole taps of the input.
 fn tap_sheet(out: &mut [u8], input: &[u8], fraction_bits: u32) -> usize
-    requires { (wholeTaps input.now ≤ 256) × (area_bytes ≤ length out.old) }
-    ensures { Put out.old 0 (text_of (tapsAnswer fraction_bits (tapsOf input.now))) area_bytes out.new result }
+    requires { (whole_taps input.now ≤ 256) × (area_bytes ≤ length out.old) }
+    ensures { Put out.old 0 (text_of (taps_answer fraction_bits (taps_of input.now))) area_bytes out.new result }
 {
     let n = input.len() / 8;
     let mut taps = [0.0f64; 256];
@@ -48,7 +48,7 @@ fn tap_sheet(out: &mut [u8], input: &[u8], fraction_bits: u32) -> usize
 // The sheet of an input and the program's first argument, at the start of the area, and its length.
 // Whether there is an argument is said by `given`.
 pub fn sheet(out: &mut [u8; AREA], input: &[u8], given: bool, argument: &[u8]) -> usize
-    ensures { SheetWritten input.now (argumentOf given argument.now) out.old result out.new }
+    ensures { SheetWritten input.now (argument_of given argument.now) out.old result out.new }
 {
     let fraction = sheet_input::fraction_bits(input, given, argument);
     match fraction {

@@ -1,39 +1,39 @@
 -- The claims of specs/Claims.antt, proved.
-use Rattle.word.proofs.Bounds.{coefficient-magnitude}
+use Rattle.word.proofs.Bounds.{coefficient_magnitude}
 use Rattle.signed_digit.specs.Claims.{DigitClaims}
 use Rattle.signed_digit.proofs.Same.{same_digits, digits_same}
-use Rattle.signed_digit.proofs.Masks.{masks-bits, masks-disjoint, masks-string, masks-weight, fromMasks-plus, fromMasks-minus}
-use Rattle.signed_digit.proofs.Value.{value-masks}
-use Rattle.signed_digit.proofs.Order.{never-opposite, comparable}
-use Rattle.signed_digit.proofs.Listing.{listing-is, listing-unique, listing-first, canonical-form}
-use Rattle.signed_digit.proofs.Coefficients.{canonical-32, bound_32, at-most-1597}
-use Rattle.signed_digit.proofs.Demand.{listing-complete}
-use Rattle.signed_digit.proofs.Written.{minimal-forms-written, minimal-forms-refused, form-count-held}
-use Rattle.signed_digit.proofs.Reduction.{reduction, reduction-only, zero-irreducible}
+use Rattle.signed_digit.proofs.Masks.{masks_bits, masks_disjoint, masks_string, masks_weight, from_masks_plus, from_masks_minus}
+use Rattle.signed_digit.proofs.Value.{value_masks}
+use Rattle.signed_digit.proofs.Order.{never_opposite, comparable}
+use Rattle.signed_digit.proofs.Listing.{listing_is, listing_unique, listing_first, canonical_form}
+use Rattle.signed_digit.proofs.Coefficients.{canonical_32, bound_32, at_most_1597}
+use Rattle.signed_digit.proofs.Demand.{listing_complete}
+use Rattle.signed_digit.proofs.Written.{minimal_forms_written, minimal_forms_refused, form_count_held}
+use Rattle.signed_digit.proofs.Reduction.{reduction, reduction_only, zero_irreducible}
 
-pub digit-claims : DigitClaims
-digit-claims = record {
+pub digit_claims : DigitClaims
+digit_claims = record {
   same_digits = λ s t. (same_digits s t, digits_same s t);
-  masks-bits = masks-bits;
-  masks-disjoint = masks-disjoint;
-  masks-string = masks-string;
-  string-masks = λ p x y h k e. (fromMasks-plus p x y h, fromMasks-minus p x y k e);
-  value-masks = value-masks;
-  masks-weight = masks-weight;
-  canonical-form = canonical-form;
-  canonical-32 = λ n c. canonical-32 n (coefficient-magnitude n c);
-  listing-is = listing-is;
-  listing-unique = listing-unique;
-  listing-complete = listing-complete;
-  never-opposite = never-opposite;
+  masks_bits = masks_bits;
+  masks_disjoint = masks_disjoint;
+  masks_string = masks_string;
+  string_masks = λ p x y h k e. (from_masks_plus p x y h, from_masks_minus p x y k e);
+  value_masks = value_masks;
+  masks_weight = masks_weight;
+  canonical_form = canonical_form;
+  canonical_32 = λ n c. canonical_32 n (coefficient_magnitude n c);
+  listing_is = listing_is;
+  listing_unique = listing_unique;
+  listing_complete = listing_complete;
+  never_opposite = never_opposite;
   comparable = comparable;
-  listing-first = listing-first;
-  bound = λ n c. bound_32 n (coefficient-magnitude n c);
-  at-most-1597 = λ n c. at-most-1597 n (coefficient-magnitude n c);
-  minimal-forms-written = minimal-forms-written;
-  minimal-forms-refused = minimal-forms-refused;
-  form-count-held = form-count-held;
+  listing_first = listing_first;
+  bound = λ n c. bound_32 n (coefficient_magnitude n c);
+  at_most_1597 = λ n c. at_most_1597 n (coefficient_magnitude n c);
+  minimal_forms_written = minimal_forms_written;
+  minimal_forms_refused = minimal_forms_refused;
+  form_count_held = form_count_held;
   reduction = reduction;
-  reduction-only = reduction-only;
-  zero-irreducible = zero-irreducible;
+  reduction_only = reduction_only;
+  zero_irreducible = zero_irreducible;
 }

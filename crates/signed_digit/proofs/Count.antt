@@ -10,7 +10,7 @@ use lib.ListN.{length}
 use Rattle.signed_digit.specs.String.{DigitString}
 use Rattle.signed_digit.specs.Same.{stripped, Same}
 use Rattle.signed_digit.specs.Listing.{Once, StandsIn}
-use Rattle.signed_digit.proofs.Pairs.{to-later}
+use Rattle.signed_digit.proofs.Pairs.{to_later}
 
 -- a list with one member taken out
 record Without (f : DigitString) (m : List DigitString) : Type 0 where
@@ -32,12 +32,12 @@ without f (x ∷ m) h = go (Memᴰ.cases_cons h) (without f m)
           others = λ g k. ⊎_elim (λ q. inr (Memᴰ.head q)) (λ q. ⊎_elim inl (λ r. inr (Memᴰ.tail r)) (w.others g q)) (Memᴰ.cases_cons k);
         }
 
-pub length-at-most : (l m : List DigitString) → Once l → ((s : DigitString) → Memᴰ s l → StandsIn s m) → length l ≤ length m
-length-at-most [] m o h = omega arith
-length-at-most (x ∷ l) m o h =
+pub length_at_most : (l m : List DigitString) → Once l → ((s : DigitString) → Memᴰ s l → StandsIn s m) → length l ≤ length m
+length_at_most [] m o h = omega arith
+length_at_most (x ∷ l) m o h =
     let a = h x (Memᴰ.head refl) in
     let w = without a.0 m a.1 in
-    omega (arith, length-at-most l w.rest (Pairwise.of_cons o) (λ s k. go w s a.2 (to-later o s k) (h s (Memᴰ.tail k))))
+    omega (arith, length_at_most l w.rest (Pairwise.of_cons o) (λ s k. go w s a.2 (to_later o s k) (h s (Memᴰ.tail k))))
   where
     go : {f : DigitString} (w : Without f m) (s : DigitString) → Same f x → (Same x s → ⊥) → StandsIn s m → StandsIn s w.rest
     go w s e d b = ⊎_elim (λ q. absurd (d (sym e ∙ ap stripped (sym q) ∙ b.2))) (λ n. (b.0, n, b.2)) (w.others b.0 b.1)
@@ -45,4 +45,4 @@ length-at-most (x ∷ l) m o h =
 pub same_length : (P : DigitString → Type 0) (l m : List DigitString) → Once l → Once m
     → ((s : DigitString) → StandsIn s l ↔ P s) → ((s : DigitString) → StandsIn s m ↔ P s) → length l ≡ length m
 same_length P l m o u f g =
-    omega (arith, length-at-most l m o (λ s k. (g s).1 ((f s).0 (s, k, refl))), length-at-most m l u (λ s k. (f s).1 ((g s).0 (s, k, refl))))
+    omega (arith, length_at_most l m o (λ s k. (g s).1 ((f s).0 (s, k, refl))), length_at_most m l u (λ s k. (f s).1 ((g s).0 (s, k, refl))))

@@ -8,10 +8,10 @@ pub data Digit : Type 0 where
   deriving Discrete as Digit-discrete
 
 -- the whole number that a digit is
-abbrev pub digitValue : Digit → ℤ
-digitValue one = pos 1
-digitValue nought = pos 0
-digitValue minus_one = neg_ℤ (pos 1)
+abbrev pub digit_value : Digit → ℤ
+digit_value one = pos 1
+digit_value nought = pos 0
+digit_value minus_one = neg_ℤ (pos 1)
 
 -- 1 for a nonzero digit, 0 for the digit 0
 abbrev pub nonzero : Digit → ℕ

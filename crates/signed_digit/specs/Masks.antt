@@ -8,35 +8,35 @@ abbrev pub mask : (Digit → ℕ) → DigitString → ℕ
 mask f [] = 0
 mask f (d ∷ s) = f d + 2 * mask f s
 
-abbrev pub plusBit : Digit → ℕ
-plusBit one = 1
-plusBit nought = 0
-plusBit minus_one = 0
+abbrev pub plus_bit : Digit → ℕ
+plus_bit one = 1
+plus_bit nought = 0
+plus_bit minus_one = 0
 
-abbrev pub minusBit : Digit → ℕ
-minusBit one = 0
-minusBit nought = 0
-minusBit minus_one = 1
+abbrev pub minus_bit : Digit → ℕ
+minus_bit one = 0
+minus_bit nought = 0
+minus_bit minus_one = 1
 
 -- the places holding 1
-abbrev pub plusMask : DigitString → ℕ
-plusMask s = mask plusBit s
+abbrev pub plus_mask : DigitString → ℕ
+plus_mask s = mask plus_bit s
 
 -- the places holding -1
-abbrev pub minusMask : DigitString → ℕ
-minusMask s = mask minusBit s
+abbrev pub minus_mask : DigitString → ℕ
+minus_mask s = mask minus_bit s
 
 -- whether a mask holds a place
 abbrev pub holds : ℕ → ℕ → Bool
 holds mask place = eqb (mask / 2 ^ place % 2) 1
 
 -- the digit of a place, by its bits in the two masks
-abbrev pub digitOf : ℕ → ℕ → Digit
-digitOf zero zero = nought
-digitOf zero (suc y) = minus_one
-digitOf (suc x) y = one
+abbrev pub digit_of : ℕ → ℕ → Digit
+digit_of zero zero = nought
+digit_of zero (suc y) = minus_one
+digit_of (suc x) y = one
 
 -- the string of p places with these two masks
-abbrev pub fromMasks : ℕ → ℕ → ℕ → DigitString
-fromMasks zero x y = []
-fromMasks (suc p) x y = digitOf (x % 2) (y % 2) ∷ fromMasks p (x / 2) (y / 2)
+abbrev pub from_masks : ℕ → ℕ → ℕ → DigitString
+from_masks zero x y = []
+from_masks (suc p) x y = digit_of (x % 2) (y % 2) ∷ from_masks p (x / 2) (y / 2)

@@ -5,14 +5,14 @@ pub data Sign : Type 0 where
   positive : Sign
   negative : Sign
 
-abbrev pub signValue : Sign → ℤ
-signValue positive = pos 1
-signValue negative = neg_ℤ (pos 1)
+abbrev pub sign_value : Sign → ℤ
+sign_value positive = pos 1
+sign_value negative = neg_ℤ (pos 1)
 
 -- the odd part is a natural number, and being odd it is positive
 pub record Reduction (n : ℤ) : Type 0 where
   pub sign : Sign
-  pub oddPart : ℕ
+  pub odd_part : ℕ
   pub shift : ℕ
-  pub odd : oddPart % 2 ≡ 1
-  pub product : n ≡ signValue sign *ℤ pos oddPart *ℤ pos (2 ^ shift)
+  pub odd : odd_part % 2 ≡ 1
+  pub product : n ≡ sign_value sign *ℤ pos odd_part *ℤ pos (2 ^ shift)

@@ -6,5 +6,5 @@ abbrev pub DigitString : Type 0
 DigitString = List Digit
 
 -- the digit at place i: 0 at every place that the list does not reach
-abbrev pub digitAt : DigitString → ℕ → Digit
-digitAt s i = get_or s i nought
+abbrev pub digit_at : DigitString → ℕ → Digit
+digit_at s i = get_or s i nought

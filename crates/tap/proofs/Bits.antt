@@ -9,34 +9,34 @@ use lib.Ieee.Compare.{differs_from_itself}
 use lib.Ieee.Bits.{of_bits-to_bits}
 use Rattle.tap.specs.Rounding.{finite}
 
-pub is-nan : (x : Float) → ne x x ≡ true → x ≡ nan
-is-nan x p = differs_from_itself x (subst T (sym p) tt)
+pub is_nan_lem : (x : Float) → ne x x ≡ true → x ≡ nan
+is_nan_lem x p = differs_from_itself x (subst T (sym p) tt)
 
-pub not-nan : (x : Float) → ne x x ≡ false → T (not (is_nan x))
+pub not_nan : (x : Float) → ne x x ≡ false → T (not (is_nan x))
 unfolding ne eq is_nan
-not-nan nan p = subst T p tt
-not-nan (inf s) p = tt
-not-nan (fin s m e) p = tt
+not_nan nan p = subst T p tt
+not_nan (inf s) p = tt
+not_nan (fin s m e) p = tt
 
-odd-finite : (d : ℕ) (s : Bool) (q k l : ℕ) → finite (odd d s q k l) ≡ true
+odd_finite : (d : ℕ) (s : Bool) (q k l : ℕ) → finite (odd d s q k l) ≡ true
 unfolding odd
-odd-finite d s zero k l = refl
-odd-finite d s (suc q) k l = refl
+odd_finite d s zero k l = refl
+odd_finite d s (suc q) k l = refl
 
 pick : (b d s : Bool) (y : Float) → finite y ≡ true → finite (cond b (cond d (inf s) nan) y) ≡ not b
 pick true true s y h = refl
 pick true false s y h = refl
 pick false d s y h = h
 
-fields-finite : (s : Bool) (x t : ℕ) → finite (of_fields binary64 s x t) ≡ not (eqb x 2047)
+fields_finite : (s : Bool) (x t : ℕ) → finite (of_fields binary64 s x t) ≡ not (eqb x 2047)
 unfolding of_fields
-fields-finite s zero t = odd-finite 53 s t 0 1074
-fields-finite s (suc x) t = pick (eqb (suc x) 2047) (eqb t 0) s _ (odd-finite 53 s (2 ^ 52 + t) x 1074)
+fields_finite s zero t = odd_finite 53 s t 0 1074
+fields_finite s (suc x) t = pick (eqb (suc x) 2047) (eqb t 0) s _ (odd_finite 53 s (2 ^ 52 + t) x 1074)
 
-pub bits-finite : (x : Float) → T (fits binary64 x) → not (eqb (to_bits binary64 x / 2 ^ 52 % 2048) 2047) ≡ finite x
+pub bits_finite : (x : Float) → T (fits binary64 x) → not (eqb (to_bits binary64 x / 2 ^ 52 % 2048) 2047) ≡ finite x
 unfolding of_bits
-bits-finite x h =
+bits_finite x h =
     let b = to_bits binary64 x in
     ap (λ (k : ℕ). not (eqb k 2047)) (sym (field b 11 52))
-    ∙ sym (fields-finite (leb (top binary64) b) (b % top binary64 / hid binary64) (b % hid binary64))
+    ∙ sym (fields_finite (leb (top binary64) b) (b % top binary64 / hid binary64) (b % hid binary64))
     ∙ ap finite (of_bits-to_bits binary64 x h)

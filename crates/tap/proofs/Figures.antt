@@ -1,22 +1,22 @@
 -- The figures of specs/Figures.antt, by computation. Assumes nothing.
 use mathlib.Core.Path.{refl}
 use lib.Ieee.{of_bits, round}
-use Rattle.tap.specs.Rounding.{roundedTap}
+use Rattle.tap.specs.Rounding.{rounded_tap}
 use Rattle.tap.specs.Figures.{TapFigures}
 
-pub tap-figures : TapFigures
-unfolding roundedTap of_bits round
-tap-figures = record {
-  five-eighths = record { answer = refl };
-  as-near = refl;
-  minus-five-eighths = record { answer = refl };
+pub tap_figures : TapFigures
+unfolding rounded_tap of_bits round
+tap_figures = record {
+  five_eighths = record { answer = refl };
+  as_near = refl;
+  minus_five_eighths = record { answer = refl };
   half = record { answer = refl };
-  half-to-zero = record { answer = refl };
-  minus-half-to-zero = record { answer = refl };
+  half_to_zero = record { answer = refl };
+  minus_half_to_zero = record { answer = refl };
   three_halves = record { answer = refl };
-  minus-three-halves = record { answer = refl };
+  minus_three_halves = record { answer = refl };
   below_half = record { answer = refl };
-  least-and-a-quarter = record { answer = refl };
-  least-and-a-half = record { answer = refl };
-  most-and-a-half = record { answer = refl };
+  least_and_a_quarter = record { answer = refl };
+  least_and_a_half = record { answer = refl };
+  most_and_a_half = record { answer = refl };
 }

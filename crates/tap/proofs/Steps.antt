@@ -30,9 +30,9 @@ as_fields : (b : ℕ) → of_bits binary64 b ≡ of_fields binary64 (leb (2 ^ 63
 unfolding of_bits
 as_fields b = refl
 
-of-power : (k : ℕ) → k ≤ 31 → of_fields binary64 false (suc (1022 + k)) 0 ≡ fin false 1 (pos k)
+of_power : (k : ℕ) → k ≤ 31 → of_fields binary64 false (suc (1022 + k)) 0 ≡ fin false 1 (pos k)
 unfolding of_fields odd
-of-power k h =
+of_power k h =
     ap (λ (b : Bool). cond b (inf false) (fin false 1 (minus (1022 + k + 52) 1074))) (ne_eqb (suc (1022 + k)) 2047 (other k h))
     ∙ ap (λ (b : Bool). fin false 1 (cond b (pos (1022 + k + 52 - 1074)) (negsuc (1074 - suc (1022 + k + 52))))) (le-leb 1074 (1022 + k + 52) (high k))
     ∙ ap (λ (n : ℕ). fin false 1 (pos n)) (left k)
@@ -46,32 +46,32 @@ of-power k h =
     left : (k : ℕ) → 1022 + k + 52 - 1074 ≡ k
     left k = omega arith
 
-pub power-is : (k : ℕ) → k ≤ 31 → of_bits binary64 (bits k) ≡ fin false 1 (pos k)
-power-is k h =
+pub power_is : (k : ℕ) → k ≤ 31 → of_bits binary64 (bits k) ≡ fin false 1 (pos k)
+power_is k h =
     let f = fields k h in
     as_fields (bits k)
     ∙ ap (λ (s : Bool). of_fields binary64 s (bits k % 2 ^ 63 / 2 ^ 52) (bits k % 2 ^ 52)) f.0
     ∙ ap (λ (x : ℕ). of_fields binary64 false x (bits k % 2 ^ 52)) f.1
     ∙ ap (λ (t : ℕ). of_fields binary64 false (suc (1022 + k)) t) f.2
-    ∙ of-power k h
+    ∙ of_power k h
 
-pub power-number : (k : ℕ) → k ≤ 31 → T (not (nan_bits binary64 (bits k)))
+pub power_number : (k : ℕ) → k ≤ 31 → T (not (nan_bits binary64 (bits k)))
 unfolding nan_bits
-power-number k h =
+power_number k h =
     let f = fields k h in
-    subst (λ (t : ℕ). T (not (eqb (bits k % 2 ^ 63 / 2 ^ 52) 2047 && not (eqb t 0)))) (sym f.2) (no-digits (eqb (bits k % 2 ^ 63 / 2 ^ 52) 2047))
+    subst (λ (t : ℕ). T (not (eqb (bits k % 2 ^ 63 / 2 ^ 52) 2047 && not (eqb t 0)))) (sym f.2) (no_digits (eqb (bits k % 2 ^ 63 / 2 ^ 52) 2047))
   where
-    no-digits : (b : Bool) → T (not (b && false))
-    no-digits true = tt
-    no-digits false = tt
+    no_digits : (b : Bool) → T (not (b && false))
+    no_digits true = tt
+    no_digits false = tt
 
 -- ---- part
-parted-is : (x : Float) (z : ℤ) → parted x z ≡ cond (eq x (of_int binary64 z)) (exact z) (rounded z (sub binary64 x (of_int binary64 z)))
+parted_is : (x : Float) (z : ℤ) → parted x z ≡ cond (eq x (of_int binary64 z)) (exact z) (rounded z (sub binary64 x (of_int binary64 z)))
 unfolding parted
-parted-is x z = refl
+parted_is x z = refl
 
-pub parted-yes : (x : Float) (z : ℤ) → eq x (of_int binary64 z) ≡ true → exact z ≡ parted x z
-parted-yes x z h = sym (parted-is x z ∙ ap (λ (b : Bool). cond b (exact z) (rounded z (sub binary64 x (of_int binary64 z)))) h)
+pub parted_yes : (x : Float) (z : ℤ) → eq x (of_int binary64 z) ≡ true → exact z ≡ parted x z
+parted_yes x z h = sym (parted_is x z ∙ ap (λ (b : Bool). cond b (exact z) (rounded z (sub binary64 x (of_int binary64 z)))) h)
 
-pub parted-no : (x : Float) (z : ℤ) → eq x (of_int binary64 z) ≡ false → rounded z (sub binary64 x (of_int binary64 z)) ≡ parted x z
-parted-no x z h = sym (parted-is x z ∙ ap (λ (b : Bool). cond b (exact z) (rounded z (sub binary64 x (of_int binary64 z)))) h)
+pub parted_no : (x : Float) (z : ℤ) → eq x (of_int binary64 z) ≡ false → rounded z (sub binary64 x (of_int binary64 z)) ≡ parted x z
+parted_no x z h = sym (parted_is x z ∙ ap (λ (b : Bool). cond b (exact z) (rounded z (sub binary64 x (of_int binary64 z)))) h)

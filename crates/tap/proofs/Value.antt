@@ -15,7 +15,7 @@ use lib.Ieee.Exact.{HasValue, round_exact}
 use lib.Ieee.Order.{round_mono}
 use lib.Ieee.Positive.{above_of_le}
 use lib.Arith.{le→nltb}
-use Rattle.tap.specs.Rounding.{absOf}
+use Rattle.tap.specs.Rounding.{abs_of}
 
 -- ---- what fitting binary64 says of m and e
 pow_le_back : (a l : ℕ) → 2 ^ a ≤ 2 ^ l → a ≤ l
@@ -44,10 +44,10 @@ place (negsuc a) h = (
 )
 
 -- ---- the product with 2 ^ k is one rounding
-pub scaled-is : (s : Bool) (m : ℕ) (e : ℤ) (k : ℕ) → mul binary64 (fin s m e) (fin false 1 (pos k)) ≡ round binary64 s (m * up e * 2 ^ k) (down e)
+pub scaled_is : (s : Bool) (m : ℕ) (e : ℤ) (k : ℕ) → mul binary64 (fin s m e) (fin false 1 (pos k)) ≡ round binary64 s (m * up e * 2 ^ k) (down e)
 unfolding mul
-scaled-is true m e k = ap (λ (x : ℕ). round binary64 true (m * up e * x) (down e * 1)) (one-mul (2 ^ k)) ∙ ap (λ (x : ℕ). round binary64 true (m * up e * 2 ^ k) x) (mul-one (down e))
-scaled-is false m e k = ap (λ (x : ℕ). round binary64 false (m * up e * x) (down e * 1)) (one-mul (2 ^ k)) ∙ ap (λ (x : ℕ). round binary64 false (m * up e * 2 ^ k) x) (mul-one (down e))
+scaled_is true m e k = ap (λ (x : ℕ). round binary64 true (m * up e * x) (down e * 1)) (one-mul (2 ^ k)) ∙ ap (λ (x : ℕ). round binary64 true (m * up e * 2 ^ k) x) (mul-one (down e))
+scaled_is false m e k = ap (λ (x : ℕ). round binary64 false (m * up e * x) (down e * 1)) (one-mul (2 ^ k)) ∙ ap (λ (x : ℕ). round binary64 false (m * up e * 2 ^ k) x) (mul-one (down e))
 
 -- and it changes nothing, below 2 ^ 33
 pub scaled_exact : (s : Bool) (m : ℕ) (e : ℤ) (k : ℕ) → T (fits binary64 (fin s m e)) → m * up e * 2 ^ k < 2 ^ 33 * down e
@@ -63,7 +63,7 @@ scaled_exact s m e k t h =
     ∙ ap (λ (x : ℕ). x * down e) (mul_assoc m (2 ^ j) (2 ^ k) ∙ ap (λ (x : ℕ). m * x) (sym (pow-add 2 j k))) in
     let w : m * 2 ^ (j + k) < 2 ^ 33 * 2 ^ 1074 =
     lt_of_mul-lt-mul_right (down e) (lt_of_le_of_lt (le_of_eq (sym v)) (lt_of_lt_of_le (mul-lt-mul_of_pos_right h (pow_pos 1074)) (le_of_eq (mul_right_comm (2 ^ 33) (down e) (2 ^ 1074))))) in
-    subst (λ (x : Float). HasValue x s a (down e)) (sym (scaled-is s m e k))
+    subst (λ (x : Float). HasValue x s a (down e)) (sym (scaled_is s m e k))
     (round_exact binary64 s a (down e) m (j + k) (down_pos e) (held s m e t).0 (lt_of_lt_of_le w (lit≤ tt)) v)
 
 -- ---- at 2 ^ 32 and above
@@ -78,48 +78,48 @@ or-false : (a b : ℕ) → T (leb (suc a) b) ⊎ T (eqb a b) → a ≤ b
 or-false a b (inl t) = le_of_lt (ltb→lt a b t)
 or-false a b (inr t) = le_of_eq (eqb→eq a b t)
 
-not-under : (y : Float) → T (le (two_to 32) y) → lt y (two_to 32) ≡ false
+not_under : (y : Float) → T (le (two_to 32) y) → lt y (two_to 32) ≡ false
 unfolding le lt
-not-under nan t = refl
-not-under (inf true) t = absurd t
-not-under (inf false) t = refl
-not-under (fin true n g) t = absurd (above_of_le (two_to 32) (fin true n g) tt (unfold le in t))
-not-under (fin false n g) t = is_false (ltb (n * up g * 1) (1 * 2 ^ 32 * down g)) (le→nltb (n * up g * 1) (1 * 2 ^ 32 * down g) (at_most (1 * 2 ^ 32 * down g) (n * up g * 1) t))
+not_under nan t = refl
+not_under (inf true) t = absurd t
+not_under (inf false) t = refl
+not_under (fin true n g) t = absurd (above_of_le (two_to 32) (fin true n g) tt (unfold le in t))
+not_under (fin false n g) t = is_false (ltb (n * up g * 1) (1 * 2 ^ 32 * down g)) (le→nltb (n * up g * 1) (1 * 2 ^ 32 * down g) (at_most (1 * 2 ^ 32 * down g) (n * up g * 1) t))
   where
-    open-or : (a b : Bool) → T (a || (b && true)) → T a ⊎ T b
-    open-or true b t = inl tt
-    open-or false true t = inr tt
-    open-or false false t = absurd t
+    open_or : (a b : Bool) → T (a || (b && true)) → T a ⊎ T b
+    open_or true b t = inl tt
+    open_or false true t = inr tt
+    open_or false false t = absurd t
 
     at_most : (a b : ℕ) → T (ltb a b || (eqb a b && true)) → a ≤ b
-    at_most a b t = or-false a b (open-or (ltb a b) (eqb a b) t)
+    at_most a b t = or-false a b (open_or (ltb a b) (eqb a b) t)
 
 pub over : (a d : ℕ) → 0 < d → 2 ^ 32 * d ≤ a → lt (round binary64 false a d) (two_to 32) ≡ false
 over a d D h =
-    not-under (round binary64 false a d)
+    not_under (round binary64 false a d)
     (subst (λ (z : Float). T (le z (round binary64 false a d))) two32 (round_mono binary64 (2 ^ 32) 1 a d (zero-lt-suc 0) D (le_trans h (le_of_eq (sym (mul-one a))))))
 
 -- ---- rounding keeps the sign, and its size does not turn on it
-odd-abs : (d : ℕ) (s : Bool) (q k l : ℕ) → absOf (odd d s q k l) ≡ odd d false q k l
+odd_abs : (d : ℕ) (s : Bool) (q k l : ℕ) → abs_of (odd d s q k l) ≡ odd d false q k l
 unfolding odd
-odd-abs d s zero k l = refl
-odd-abs d s (suc q) k l = refl
+odd_abs d s zero k l = refl
+odd_abs d s (suc q) k l = refl
 
-units-abs : (s : Bool) (q k : ℕ) → absOf (units binary64 s q k) ≡ units binary64 false q k
+units_abs : (s : Bool) (q k : ℕ) → abs_of (units binary64 s q k) ≡ units binary64 false q k
 unfolding units
-units-abs s q k = go (ltb (q * 2 ^ k) (2 ^ 2098)) (odd-abs 54 s q k 1074)
+units_abs s q k = go (ltb (q * 2 ^ k) (2 ^ 2098)) (odd_abs 54 s q k 1074)
   where
-    go : (b : Bool) → absOf (odd 54 s q k 1074) ≡ odd 54 false q k 1074 → absOf (cond b (odd 54 s q k 1074) (inf s)) ≡ cond b (odd 54 false q k 1074) (inf false)
+    go : (b : Bool) → abs_of (odd 54 s q k 1074) ≡ odd 54 false q k 1074 → abs_of (cond b (odd 54 s q k 1074) (inf s)) ≡ cond b (odd 54 false q k 1074) (inf false)
     go true h = h
     go false h = refl
 
-pub round-abs : (s : Bool) (a b : ℕ) → absOf (round binary64 s a b) ≡ round binary64 false a b
+pub round_abs : (s : Bool) (a b : ℕ) → abs_of (round binary64 s a b) ≡ round binary64 false a b
 unfolding round
-round-abs s a b =
+round_abs s a b =
     let n = a * 2 ^ 1074 in
     let k = size (n / b) - 53 in
     let u = b * 2 ^ k in
-    units-abs s (nearest (n / u) (compare (n % u * 2) u)) k
+    units_abs s (nearest (n / u) (compare (n % u * 2) u)) k
 
 -- ---- +0
 abbrev pub nought : Float

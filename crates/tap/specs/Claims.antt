@@ -43,36 +43,36 @@ AtMostHalf (fin t p g) = p * up g * 2 ≤ down g
 pub record ExactLeftover (F : ℕ) (tap : Float) (N : ℤ) (l : Float) : Type 0 where
   pub exactly : Exactly l (numerator F tap -ℤ N *ℤ pos (denominator tap)) (denominator tap)
   pub held : T (fits binary64 l)
-  pub is-finite : finite l ≡ true
+  pub is_finite_lem : finite l ≡ true
   pub nonzero : eq l (fin false 0 (pos 0)) ≡ false
-  pub at-most-half : AtMostHalf l
+  pub at_most_half : AtMostHalf l
 
 -- "Turned down": which answer a tap gets, by F, the tap and its nearest whole number N
 pub record TapRefusals (F : ℕ) (tap : Float) (a : Answer TapResult) : Type 0 where
   -- "4, place 0: F above 31"
-  pub fraction-bits : a ≡ refused 4 0 ↔ 31 < F
+  pub fraction_bits : a ≡ refused 4 0 ↔ 31 < F
   -- "5, tap: tap infinite or not-a-number"
   pub not_finite : F ≤ 31 → a ≡ refused 5 0 ↔ finite tap ≡ false
   -- "6, tap: N outside the bounds"
-  pub out-of-bounds : F ≤ 31 → finite tap ≡ true → (N : ℤ) → NearestEven F tap N → a ≡ refused 6 0 ↔ (Coefficient N → ⊥)
+  pub out_of_bounds : F ≤ 31 → finite tap ≡ true → (N : ℤ) → NearestEven F tap N → a ≡ refused 6 0 ↔ (Coefficient N → ⊥)
   -- "a number is returned in no other circumstances"
   pub accepted : F ≤ 31 → finite tap ≡ true → (N : ℤ) → NearestEven F tap N → Coefficient N → (r : TapResult) × (a ≡ given r) × (whole_of r ≡ N)
 
 pub record TapClaims : Type 0 where
   -- "The coefficient N is the whole number nearest to tap × 2^F", "ties-to-even"
-  pub nearest-even : (F : ℕ) (tap : Float) (r : TapResult) → TapRounded F tap (given r) → NearestEven F tap (whole_of r)
+  pub nearest_even : (F : ℕ) (tap : Float) (r : TapResult) → TapRounded F tap (given r) → NearestEven F tap (whole_of r)
   -- no other whole number is
-  pub nearest-only : (F : ℕ) (tap : Float) (r : TapResult) (M : ℤ) → TapRounded F tap (given r) → NearestEven F tap M → M ≡ whole_of r
+  pub nearest_only : (F : ℕ) (tap : Float) (r : TapResult) (M : ℤ) → TapRounded F tap (given r) → NearestEven F tap M → M ≡ whole_of r
   -- every finite tap has one
-  pub some-nearest : (F : ℕ) (tap : Float) → finite tap ≡ true → (N : ℤ) × NearestEven F tap N
+  pub some_nearest : (F : ℕ) (tap : Float) → finite tap ≡ true → (N : ℤ) × NearestEven F tap N
   -- "A rounded tap comes back either as exact, with N": tap × 2^F is N
-  pub exact-whole : (F : ℕ) (tap : Float) (N : ℤ) → TapRounded F tap (given (exact N)) → numerator F tap ≡ N *ℤ pos (denominator tap)
+  pub exact_whole : (F : ℕ) (tap : Float) (N : ℤ) → TapRounded F tap (given (exact N)) → numerator F tap ≡ N *ℤ pos (denominator tap)
   -- "or as rounded, with N and its leftover", for a tap that is a binary64 number: nothing is rounded away, and the leftover is not 0
-  pub exact-leftover : (F : ℕ) (tap : Float) (N : ℤ) (l : Float) → T (fits binary64 tap) → TapRounded F tap (given (rounded N l)) → ExactLeftover F tap N l
+  pub exact_leftover : (F : ℕ) (tap : Float) (N : ℤ) (l : Float) → T (fits binary64 tap) → TapRounded F tap (given (rounded N l)) → ExactLeftover F tap N l
   -- "A tap of -0 is exact, N = 0"
-  pub minus-zero : (F : ℕ) (a : Answer TapResult) → F ≤ 31 → TapRounded F (fin true 0 (pos 0)) a → a ≡ given (exact (pos 0))
+  pub minus_zero : (F : ℕ) (a : Answer TapResult) → F ≤ 31 → TapRounded F (fin true 0 (pos 0)) a → a ≡ given (exact (pos 0))
   -- demand 1: no result is infinite or not-a-number
-  pub left-finite : (F : ℕ) (tap : Float) (r : TapResult) → TapRounded F tap (given r) → finite (left_of r) ≡ true
-  pub never-nan : (F : ℕ) (tap : Float) (r : TapResult) → TapRounded F tap (given r) → is_nan (left_of r) ≡ false
+  pub left_finite : (F : ℕ) (tap : Float) (r : TapResult) → TapRounded F tap (given r) → finite (left_of r) ≡ true
+  pub never_nan : (F : ℕ) (tap : Float) (r : TapResult) → TapRounded F tap (given r) → is_nan (left_of r) ≡ false
   -- the rows 4, 5 and 6 of the table
   pub refusals : (F : ℕ) (tap : Float) (a : Answer TapResult) → TapRounded F tap a → TapRefusals F tap a

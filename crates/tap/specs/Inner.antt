@@ -2,23 +2,23 @@
 use Rattle.std.specs.Prelude.{◌*◌, Bool, true, false, cond, ℤ, pos, Float}
 use Rattle.std.specs.Float.{nan, inf, fin, binary64}
 use Rattle.std.specs.Float.Ieee.{up, down, eq, sub, of_int}
-use Rattle.word.specs.Bounds.{withinBounds}
+use Rattle.word.specs.Bounds.{within_bounds}
 use Rattle.refusal.specs.Answer.{Answer, given, refused}
-use Rattle.tap.specs.Rounding.{TapResult, exact, rounded, nearestWhole, signed, whole_of, left_of}
+use Rattle.tap.specs.Rounding.{TapResult, exact, rounded, nearest_whole, signed, whole_of, left_of}
 
 -- the whole number nearest to a finite x
-unfoldable pub nearestOf : Float → ℤ
-unfolding nearestWhole
-nearestOf nan = pos 0
-nearestOf (inf s) = pos 0
-nearestOf (fin s m e) = signed s (nearestWhole (m * up e) (down e))
+unfoldable pub nearest_of : Float → ℤ
+unfolding nearest_whole
+nearest_of nan = pos 0
+nearest_of (inf s) = pos 0
+nearest_of (fin s m e) = signed s (nearest_whole (m * up e) (down e))
 
 -- whether x is finite and that number is within the bounds
-unfoldable pub roundsWithin : Float → Bool
-unfolding nearestOf
-roundsWithin nan = false
-roundsWithin (inf s) = false
-roundsWithin (fin s m e) = withinBounds (nearestOf (fin s m e))
+unfoldable pub rounds_within_of : Float → Bool
+unfolding nearest_of
+rounds_within_of nan = false
+rounds_within_of (inf s) = false
+rounds_within_of (fin s m e) = within_bounds (nearest_of (fin s m e))
 
 -- x as the whole number z and the rest
 unfoldable pub parted : Float → ℤ → TapResult
@@ -31,11 +31,11 @@ is_refused (given a) = false
 is_refused (refused number place) = true
 
 -- the whole number of a rounded tap, and 0 where it is refused
-abbrev pub wholeIn : Answer TapResult → ℤ
-wholeIn (given c) = whole_of c
-wholeIn (refused number place) = pos 0
+abbrev pub whole_in : Answer TapResult → ℤ
+whole_in (given c) = whole_of c
+whole_in (refused number place) = pos 0
 
 -- the leftover of a rounded tap, and +0 where it is refused
-abbrev pub leftIn : Answer TapResult → Float
-leftIn (given c) = left_of c
-leftIn (refused number place) = fin false 0 (pos 0)
+abbrev pub left_in : Answer TapResult → Float
+left_in (given c) = left_of c
+left_in (refused number place) = fin false 0 (pos 0)

@@ -4,8 +4,8 @@ use Rattle.std.specs.Prelude.{◌≡◌, Bool, true, false, not, cond, ℤ, pos,
 use Prim.Native.Nat.{ℕ, ◌+◌, ◌-◌, ◌*◌, ◌/◌, ◌%◌, ◌^◌, compare, Ordering}
 use Rattle.std.specs.Float.{nan, inf, fin, binary64}
 use Rattle.std.specs.Float.Ieee.{up, down, round}
-use Rattle.word.specs.Bounds.{withinBounds}
-use Rattle.refusal.specs.Answer.{Answer, given, turnedDown, refuseIf}
+use Rattle.word.specs.Bounds.{within_bounds}
+use Rattle.refusal.specs.Answer.{Answer, given, turned_down_of, refuse_if}
 use Rattle.tap.specs.declared.RoundedTap.{RoundedTap}
 use Rattle.tap.specs.declared.RoundedTap.TheVariants.{Exact, Rounded, Refused}
 
@@ -15,16 +15,16 @@ unfoldable pub half_of : ℕ → ℕ
 half_of q = q + q % 2
 
 -- q or the next number up, by how twice the remainder compares with the divisor
-unfoldable pub toNearest : ℕ → Ordering → ℕ
+unfoldable pub to_nearest : ℕ → Ordering → ℕ
 unfolding half_of
-toNearest q Ordering.lt = q
-toNearest q Ordering.eq = half_of q
-toNearest q Ordering.gt = q + 1
+to_nearest q Ordering.lt = q
+to_nearest q Ordering.eq = half_of q
+to_nearest q Ordering.gt = q + 1
 
 -- "the whole number nearest to" a / d, for d above 0
-unfoldable pub nearestWhole : ℕ → ℕ → ℕ
-unfolding toNearest
-nearestWhole a d = toNearest (a / d) (compare (a % d * 2) d)
+unfoldable pub nearest_whole : ℕ → ℕ → ℕ
+unfolding to_nearest
+nearest_whole a d = to_nearest (a / d) (compare (a % d * 2) d)
 
 -- ±n
 abbrev pub signed : Bool → ℕ → ℤ
@@ -52,17 +52,17 @@ finite (fin s m e) = true
 
 -- the size of N, "the whole number nearest to tap × 2^F"; only a finite tap has one
 unfoldable pub size_of : ℕ → Float → ℕ
-unfolding nearestWhole
+unfolding nearest_whole
 size_of F nan = 0
 size_of F (inf s) = 0
-size_of F (fin s m e) = nearestWhole (m * up e * 2 ^ F) (down e)
+size_of F (fin s m e) = nearest_whole (m * up e * 2 ^ F) (down e)
 
 -- "N outside the bounds"
 unfoldable pub outside : ℕ → Float → Bool
 unfolding size_of
 outside F nan = false
 outside F (inf s) = false
-outside F (fin s m e) = not (withinBounds (signed s (size_of F (fin s m e))))
+outside F (fin s m e) = not (within_bounds (signed s (size_of F (fin s m e))))
 
 -- what a finite tap with N within the bounds comes back as
 unfoldable pub result_of : ℕ → Float → TapResult
@@ -72,16 +72,16 @@ result_of F (inf s) = exact (pos 0)
 result_of F (fin s m e) = split s (m * up e * 2 ^ F) (down e) (size_of F (fin s m e))
 
 -- one tap, with the checks 4, 5 and 6 of the table "Turned down"
-unfoldable pub roundedTap : ℕ → Float → Answer TapResult
+unfoldable pub rounded_tap : ℕ → Float → Answer TapResult
 unfolding outside result_of
-roundedTap F tap =
-    refuseIf (ltb 31 F) 4 (refuseIf (not (finite tap)) 5 (refuseIf (outside F tap) 6 (given (result_of F tap))))
+rounded_tap F tap =
+    refuse_if (ltb 31 F) 4 (refuse_if (not (finite tap)) 5 (refuse_if (outside F tap) 6 (given (result_of F tap))))
 
 -- x without its sign
-abbrev pub absOf : Float → Float
-absOf nan = nan
-absOf (inf s) = inf false
-absOf (fin s m e) = fin false m e
+abbrev pub abs_of : Float → Float
+abs_of nan = nan
+abs_of (inf s) = inf false
+abs_of (fin s m e) = fin false m e
 
 -- N, and the leftover: +0 where the tap is exact
 abbrev pub whole_of : TapResult → ℤ
@@ -96,8 +96,8 @@ left_of (rounded n l) = l
 abbrev pub answer_of : RoundedTap → Answer TapResult
 answer_of (Exact n) = given (exact n)
 answer_of (Rounded n l) = given (rounded n l)
-answer_of (Refused r) = turnedDown r
+answer_of (Refused r) = turned_down_of r
 
 -- rounding a tap with F fraction bits answers a: the contract of `round_tap`, and what every claim about it speaks of
 pub record TapRounded (F : ℕ) (tap : Float) (a : Answer TapResult) : Type 0 where
-  pub answer : a ≡ roundedTap F tap
+  pub answer : a ≡ rounded_tap F tap

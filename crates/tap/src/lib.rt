@@ -8,7 +8,7 @@ ghost use Rattle.std.specs.Float.Ieee as Ieee;
 ghost use Rattle.std.specs.Float.{fin, binary64};
 ghost use Rattle.refusal.specs.Answer.{given};
 ghost use Rattle.tap.specs.Rounding.{answer_of, TapRounded};
-ghost use Rattle.tap.specs.Inner.{nearestOf, roundsWithin, parted};
+ghost use Rattle.tap.specs.Inner.{nearest_of, rounds_within_of, parted};
 
 use refusal::Refusal;
 pub use result::{coefficient, is_refused, leftover};
@@ -33,7 +33,7 @@ fn scaled(x: f64, f: u32) -> f64
 // Whether the whole number nearest to x is a coefficient. The halves at the ends go to the even number:
 // 2^31 - 1/2 to 2^31, and -2^31 - 1/2 to -2^31.
 fn rounds_within(x: f64) -> bool
-    ensures { result ≡ roundsWithin x }
+    ensures { result ≡ rounds_within_of x }
 {
     if x < 2147483647.5 {
         x >= -2147483648.5
@@ -45,16 +45,16 @@ fn rounds_within(x: f64) -> bool
 // The whole number nearest to x, and of two that are as near the even one. From 2^52 to 2^53 a float
 // has no digits for a fraction; the number added, 2^52 + 2^51, is in the middle, and even.
 fn nearest_even(x: f64) -> f64
-    requires { roundsWithin x ≡ true }
-    ensures { result ≡ Ieee.of_int binary64 (nearestOf x) }
+    requires { rounds_within_of x ≡ true }
+    ensures { result ≡ Ieee.of_int binary64 (nearest_of x) }
 {
     (x + 6755399441055744.0) - 6755399441055744.0
 }
 
 // The same, no longer a float.
 fn nearest(x: f64) -> i32
-    requires { roundsWithin x ≡ true }
-    ensures { result ≡ nearestOf x }
+    requires { rounds_within_of x ≡ true }
+    ensures { result ≡ nearest_of x }
 {
     nearest_even(x) as i32
 }

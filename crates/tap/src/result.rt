@@ -1,7 +1,7 @@
 // What a rounded tap holds.
 ghost use Rattle.std.specs.Prelude.{◌≡◌};
 ghost use Rattle.tap.specs.Rounding.{answer_of};
-ghost use Rattle.tap.specs.Inner.{is_refused, wholeIn, leftIn};
+ghost use Rattle.tap.specs.Inner.{is_refused, whole_in, left_in};
 
 use crate::RoundedTap;
 
@@ -18,7 +18,7 @@ pub fn is_refused(tap: RoundedTap) -> bool
 
 // Its whole number, or 0 where it is refused.
 pub fn coefficient(tap: RoundedTap) -> i32
-    ensures { result ≡ wholeIn (answer_of tap) }
+    ensures { result ≡ whole_in (answer_of tap) }
 {
     match tap {
         RoundedTap::Exact(n) => n,
@@ -29,7 +29,7 @@ pub fn coefficient(tap: RoundedTap) -> i32
 
 // What it left over, or +0 where it is exact or refused.
 pub fn leftover(tap: RoundedTap) -> f64
-    ensures { result ≡ leftIn (answer_of tap) }
+    ensures { result ≡ left_in (answer_of tap) }
 {
     match tap {
         RoundedTap::Exact(_) => 0.0,

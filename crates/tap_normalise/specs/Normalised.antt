@@ -4,13 +4,13 @@ use Rattle.std.specs.Float.{nan, inf, fin, binary64}
 use Rattle.std.specs.Float.Ieee.{add, div}
 
 -- xs added to t in order, "each addition rounded once"
-unfoldable pub sumFrom : Float → List Float → Float
-sumFrom t [] = t
-sumFrom t (x ∷ xs) = sumFrom (add binary64 t x) xs
+unfoldable pub sum_from : Float → List Float → Float
+sum_from t [] = t
+sum_from t (x ∷ xs) = sum_from (add binary64 t x) xs
 
 -- "the taps are summed in order from +0"
 abbrev pub sum_of : List Float → Float
-sum_of taps = sumFrom (fin false 0 (pos 0)) taps
+sum_of taps = sum_from (fin false 0 (pos 0)) taps
 
 -- "sum is zero, infinite or not-a-number"
 abbrev pub unusable : Float → Bool

@@ -1,12 +1,12 @@
 // Normalised mode: the sum of the taps, and their quotients by it.
 ghost use Rattle.std.specs.Prelude.{◌≡◌, not, ◌++◌, ◌≤◌, length, drop, Float};
-ghost use Rattle.refusal.specs.Answer.{lowest, placeOr};
+ghost use Rattle.refusal.specs.Answer.{lowest, place_or};
 ghost use Rattle.tap.specs.Rounding.{finite};
 ghost use Rattle.tap_normalise.specs.Normalised.{sum_of, unusable, quotients};
 
 // The place of the first number that is not finite, or the length.
 pub fn first_not_finite(xs: &[f64]) -> usize
-    ensures { result ≡ placeOr (length xs.now) (lowest (λ (x : Float). not (finite x)) xs.now) }
+    ensures { result ≡ place_or (length xs.now) (lowest (λ (x : Float). not (finite x)) xs.now) }
 {
     let mut i = 0;
     while i < xs.len() {

@@ -11,9 +11,9 @@ use lib.Ieee.{Float, nan, inf, fin, up, down, lt}
 use lib.Ieee.Fits.{down_pos}
 use lib.Ieee.Positive.{through}
 use borrow.Author.Tests.{ltb-true, ltb-false, lt-ltb, le-ltb}
-use Rattle.tap.specs.Rounding.{finite, absOf}
-use Rattle.tap_set.specs.Set.{largerOf}
-use Rattle.tap_set.proofs.Sizes.{larger-is}
+use Rattle.tap.specs.Rounding.{finite, abs_of}
+use Rattle.tap_set.specs.Set.{larger_of}
+use Rattle.tap_set.proofs.Sizes.{larger_is}
 
 -- the magnitude of a finite number, as a fraction
 abbrev top : Float → ℕ
@@ -26,10 +26,10 @@ bottom nan = 1
 bottom (inf s) = 1
 bottom (fin s m e) = down e
 
-bottom-pos : (x : Float) → 0 < bottom x
-bottom-pos nan = zero-lt-suc 0
-bottom-pos (inf s) = zero-lt-suc 0
-bottom-pos (fin s m e) = down_pos e
+bottom_pos : (x : Float) → 0 < bottom x
+bottom_pos nan = zero-lt-suc 0
+bottom_pos (inf s) = zero-lt-suc 0
+bottom_pos (fin s m e) = down_pos e
 
 pub record Smaller (x y : Float) : Type 0 where
   pub below : top x * bottom y < top y * bottom x
@@ -37,7 +37,7 @@ pub record Smaller (x y : Float) : Type 0 where
 pub record AtMost (x y : Float) : Type 0 where
   pub up_to : top x * bottom y ≤ top y * bottom x
 
-pub compared : (x y : Float) → finite x ≡ true → finite y ≡ true → lt (absOf x) (absOf y) ≡ ltb (top x * bottom y) (top y * bottom x)
+pub compared : (x y : Float) → finite x ≡ true → finite y ≡ true → lt (abs_of x) (abs_of y) ≡ ltb (top x * bottom y) (top y * bottom x)
 unfolding lt
 compared nan y h k = absurd (false≢true h)
 compared (inf s) y h k = absurd (false≢true h)
@@ -53,25 +53,25 @@ up_from : (x y : Float) → Smaller x y → AtMost x y
 up_from x y h = record { up_to = le_of_lt h.below }
 
 along : (x y z : Float) → AtMost x y → AtMost y z → AtMost x z
-along x y z h k = record { up_to = through (top x) (top y) (top z) (bottom x) (bottom y) (bottom z) (bottom-pos y) h.up_to k.up_to }
+along x y z h k = record { up_to = through (top x) (top y) (top z) (bottom x) (bottom y) (bottom z) (bottom_pos y) h.up_to k.up_to }
 
 less_then : (x y z : Float) → Smaller x y → AtMost y z → Smaller x z
 less_then x y z h k = record {
   below = lt_of_not-le (λ (g : top z * bottom x ≤ top x * bottom z). lt_irrefl (top x * bottom y)
-      (lt_of_lt_of_le h.below (through (top y) (top z) (top x) (bottom y) (bottom z) (bottom x) (bottom-pos z) k.up_to g)));
+      (lt_of_lt_of_le h.below (through (top y) (top z) (top x) (bottom y) (bottom z) (bottom x) (bottom_pos z) k.up_to g)));
 }
 
 then_less : (x y z : Float) → AtMost x y → Smaller y z → Smaller x z
 then_less x y z h k = record {
   below = lt_of_not-le (λ (g : top z * bottom x ≤ top x * bottom z). lt_irrefl (top y * bottom z)
-      (lt_of_lt_of_le k.below (through (top z) (top x) (top y) (bottom z) (bottom x) (bottom y) (bottom-pos x) g h.up_to)));
+      (lt_of_lt_of_le k.below (through (top z) (top x) (top y) (bottom z) (bottom x) (bottom y) (bottom_pos x) g h.up_to)));
 }
 
 -- ---- handed on from number to number
 module _ (f : Float → Float) where
   unfoldable pub best : Float → List Float → Float
   best l [] = l
-  best l (x ∷ xs) = best (largerOf l (f x)) xs
+  best l (x ∷ xs) = best (larger_of l (f x)) xs
 
   abbrev pub AllFinite : List Float → Type 0
   AllFinite [] = Unit {0}
@@ -87,7 +87,7 @@ module _ (f : Float → Float) where
   pub record Best (l : Float) (xs : List Float) (b : Float) : Type 0 where
     pub number : finite b ≡ true
     pub start : AtMost l b
-    pub none-larger : (i : ℕ) → i < length xs → AtMost (f (get_or xs i nan)) b
+    pub none_larger : (i : ℕ) → i < length xs → AtMost (f (get_or xs i nan)) b
     pub which : (b ≡ l) ⊎ First l xs b
 
   -- one number more, at the front: b is the best of the rest from y on, and y is l or the number
@@ -95,13 +95,13 @@ module _ (f : Float → Float) where
   grown l x xs b s w = record {
     number = w.number;
     start = along l (f x) b (up_from l (f x) s) w.start;
-    none-larger = each;
+    none_larger = each;
     which = inr (pick w.which);
   }
     where
       each : (i : ℕ) → i < suc (length xs) → AtMost (f (get_or (x ∷ xs) i nan)) b
       each zero h = w.start
-      each (suc i) h = w.none-larger i (le_of_suc-le-suc h)
+      each (suc i) h = w.none_larger i (le_of_suc-le-suc h)
 
       pick : (b ≡ f x) ⊎ First (f x) xs b → First l (x ∷ xs) b
       pick (inl e) = record {
@@ -124,11 +124,11 @@ module _ (f : Float → Float) where
           before (suc j) h = v.earlier j (le_of_suc-le-suc h)
 
   stayed : (l : Float) (x : Float) (xs : List Float) (b : Float) → AtMost (f x) l → Best l xs b → Best l (x ∷ xs) b
-  stayed l x xs b s w = record { number = w.number; start = w.start; none-larger = each; which = pick w.which }
+  stayed l x xs b s w = record { number = w.number; start = w.start; none_larger = each; which = pick w.which }
     where
       each : (i : ℕ) → i < suc (length xs) → AtMost (f (get_or (x ∷ xs) i nan)) b
       each zero h = along (f x) l b s w.start
-      each (suc i) h = w.none-larger i (le_of_suc-le-suc h)
+      each (suc i) h = w.none_larger i (le_of_suc-le-suc h)
 
       pick : (b ≡ l) ⊎ First l xs b → (b ≡ l) ⊎ First l (x ∷ xs) b
       pick (inl e) = inl e
@@ -138,22 +138,22 @@ module _ (f : Float → Float) where
           before zero h = then_less (f x) l b s v.above
           before (suc j) h = v.earlier j (le_of_suc-le-suc h)
 
-  pub best-is : (l : Float) (xs : List Float) → finite l ≡ true → AllFinite xs → Best l xs (best l xs)
+  pub best_is : (l : Float) (xs : List Float) → finite l ≡ true → AllFinite xs → Best l xs (best l xs)
   unfolding best
-  best-is l [] h a = record { number = h; start = same l; none-larger = λ i k. absurd (not-suc-le-zero k); which = inl refl }
-  best-is l (x ∷ xs) h a = go (lt (absOf l) (absOf (f x))) refl (best-is (f x) xs a.0 a.1) (best-is l xs h a.1)
+  best_is l [] h a = record { number = h; start = same l; none_larger = λ i k. absurd (not-suc-le-zero k); which = inl refl }
+  best_is l (x ∷ xs) h a = go (lt (abs_of l) (abs_of (f x))) refl (best_is (f x) xs a.0 a.1) (best_is l xs h a.1)
     where
-      go : (b : Bool) → lt (absOf l) (absOf (f x)) ≡ b → Best (f x) xs (best (f x) xs) → Best l xs (best l xs) → Best l (x ∷ xs) (best (largerOf l (f x)) xs)
+      go : (b : Bool) → lt (abs_of l) (abs_of (f x)) ≡ b → Best (f x) xs (best (f x) xs) → Best l xs (best l xs) → Best l (x ∷ xs) (best (larger_of l (f x)) xs)
       go true e v w =
-          subst (λ (y : Float). Best l (x ∷ xs) (best y xs)) (sym (larger-is l (f x) ∙ ap (λ (t : Bool). cond t (f x) l) e))
+          subst (λ (y : Float). Best l (x ∷ xs) (best y xs)) (sym (larger_is l (f x) ∙ ap (λ (t : Bool). cond t (f x) l) e))
           (grown l x xs (best (f x) xs) (record { below = ltb-true _ _ (sym (compared l (f x) h a.0) ∙ e) }) v)
       go false e v w =
-          subst (λ (y : Float). Best l (x ∷ xs) (best y xs)) (sym (larger-is l (f x) ∙ ap (λ (t : Bool). cond t (f x) l) e))
+          subst (λ (y : Float). Best l (x ∷ xs) (best y xs)) (sym (larger_is l (f x) ∙ ap (λ (t : Bool). cond t (f x) l) e))
           (stayed l x xs (best l xs) (record { up_to = ltb-false _ _ (sym (compared l (f x) h a.0) ∙ e) }) w)
 
 -- ---- as the test has it
-pub smaller-test : (x y : Float) → finite x ≡ true → finite y ≡ true → Smaller x y → lt (absOf x) (absOf y) ≡ true
-smaller-test x y h k s = compared x y h k ∙ lt-ltb (top x * bottom y) (top y * bottom x) s.below
+pub smaller_test : (x y : Float) → finite x ≡ true → finite y ≡ true → Smaller x y → lt (abs_of x) (abs_of y) ≡ true
+smaller_test x y h k s = compared x y h k ∙ lt-ltb (top x * bottom y) (top y * bottom x) s.below
 
-pub at-most-test : (x y : Float) → finite x ≡ true → finite y ≡ true → AtMost y x → lt (absOf x) (absOf y) ≡ false
-at-most-test x y h k s = compared x y h k ∙ le-ltb (top x * bottom y) (top y * bottom x) s.up_to
+pub at_most_test : (x y : Float) → finite x ≡ true → finite y ≡ true → AtMost y x → lt (abs_of x) (abs_of y) ≡ false
+at_most_test x y h k s = compared x y h k ∙ le-ltb (top x * bottom y) (top y * bottom x) s.up_to

@@ -1,11 +1,11 @@
 // A set of binary64 taps rounded to whole coefficients, as they are or normalised.
 ghost use Rattle.std.specs.Prelude.{◌≡◌, true, false, not, ◌≤◌, length, Float};
-ghost use Rattle.refusal.specs.Answer.{refused, refuseAt, lowest, filled};
+ghost use Rattle.refusal.specs.Answer.{refused, refuse_at, lowest, filled};
 ghost use Rattle.tap.specs.Rounding as Tap;
-ghost use Rattle.tap.specs.Inner.{leftIn};
+ghost use Rattle.tap.specs.Inner.{left_in};
 ghost use Rattle.tap_normalise.specs.Normalised.{used};
-ghost use Rattle.tap_set.specs.Set.{largerOf, coefficientsOf, answer_of, TapsRounded};
-ghost use Rattle.tap_set.specs.Inner.{magnitudeOf, withLeftover, Front, acceptedOf, tried, finiteRule, checked, settled};
+ghost use Rattle.tap_set.specs.Set.{larger_of, coefficients_of, answer_of, TapsRounded};
+ghost use Rattle.tap_set.specs.Inner.{magnitude_of, with_leftover, Front, accepted_of, tried, finite_rule, checked, settled};
 
 use refusal::Refusal;
 use tap::RoundedTap;
@@ -25,21 +25,21 @@ pub enum RoundedTaps {
 
 // x without its sign, but that -0 keeps it.
 fn magnitude(x: f64) -> f64
-    ensures { result ≡ magnitudeOf x }
+    ensures { result ≡ magnitude_of x }
 {
     if x < 0.0 { -x } else { x }
 }
 
 // Of two leftovers the larger in magnitude, and the first where they are as large.
 fn larger(x: f64, y: f64) -> f64
-    ensures { result ≡ largerOf x y }
+    ensures { result ≡ larger_of x y }
 {
     if magnitude(x) < magnitude(y) { y } else { x }
 }
 
 // The report with one tap more.
 fn with_tap(report: Report, tap: RoundedTap) -> Report
-    ensures { result ≡ withLeftover report (leftIn (Tap.answer_of tap)) }
+    ensures { result ≡ with_leftover report (left_in (Tap.answer_of tap)) }
 {
     Report {
         divisor: report.divisor,
@@ -52,7 +52,7 @@ fn with_tap(report: Report, tap: RoundedTap) -> Report
 fn round_all(xs: &[f64], f: u32, divisor: f64, buffer: &mut [i32]) -> RoundedTaps
     requires { (length xs.now ≤ 256) × (256 ≤ length buffer.old) }
     ensures result_value { answer_of result ≡ tried f divisor xs.now }
-    ensures front { Front (answer_of result) (coefficientsOf f xs.now) buffer.old buffer.new }
+    ensures front { Front (answer_of result) (coefficients_of f xs.now) buffer.old buffer.new }
 {
     let mut report = Report {
         divisor,
@@ -73,7 +73,7 @@ fn round_all(xs: &[f64], f: u32, divisor: f64, buffer: &mut [i32]) -> RoundedTap
 
 // The refusal of a number that is not finite: a quotient's, or a tap's.
 fn not_finite(normalised: bool, place: u32) -> RoundedTaps
-    ensures { answer_of result ≡ refused (finiteRule normalised) place }
+    ensures { answer_of result ≡ refused (finite_rule normalised) place }
 {
     if normalised {
         RoundedTaps::Refused(Refusal::NotNormalisable(place))
@@ -84,7 +84,7 @@ fn not_finite(normalised: bool, place: u32) -> RoundedTaps
 
 // How many of n coefficients are written: all where they are accepted, else none.
 fn accepted(answer: RoundedTaps, n: usize) -> usize
-    ensures { result ≡ acceptedOf (answer_of answer) n }
+    ensures { result ≡ accepted_of (answer_of answer) n }
 {
     match answer {
         RoundedTaps::Given(_) => n,
@@ -104,7 +104,7 @@ fn settle(
     requires { (f ≤ 31) × (length xs.now ≤ 256) × (length xs.now ≤ length coefficients.old) }
     ensures result_value { answer_of result ≡ checked normalised f divisor xs.now }
     ensures coefficients_after { coefficients.new
-        ≡ filled (checked normalised f divisor xs.now) (coefficientsOf f xs.now) coefficients.old }
+        ≡ filled (checked normalised f divisor xs.now) (coefficients_of f xs.now) coefficients.old }
 {
     let mut buffer = [0i32; 256];
     let answer = round_all(xs, f, divisor, &mut buffer);
@@ -125,7 +125,7 @@ fn settle(
 // The refusal of taps whose sum is not usable: a tap that is not finite comes before the sum.
 fn no_sum(taps: &[f64]) -> RoundedTaps
     requires { length taps.now ≤ 256 }
-    ensures { answer_of result ≡ refuseAt (lowest (λ (x : Float). not (Tap.finite x)) taps.now) 5 (refused 7 0) }
+    ensures { answer_of result ≡ refuse_at (lowest (λ (x : Float). not (Tap.finite x)) taps.now) 5 (refused 7 0) }
 {
     let place = tap_normalise::first_not_finite(taps);
     if place < taps.len() {
@@ -141,7 +141,7 @@ fn round_quotients(taps: &[f64], f: u32, coefficients: &mut [i32]) -> RoundedTap
     requires { (f ≤ 31) × (length taps.now ≤ 256) × (length taps.now ≤ length coefficients.old) }
     ensures result_value { answer_of result ≡ settled f true taps.now }
     ensures coefficients_after { coefficients.new
-        ≡ filled (settled f true taps.now) (coefficientsOf f (used true taps.now)) coefficients.old }
+        ≡ filled (settled f true taps.now) (coefficients_of f (used true taps.now)) coefficients.old }
 {
     let sum = tap_normalise::total(taps);
     if !tap_normalise::is_usable(sum) {

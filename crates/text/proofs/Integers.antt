@@ -10,7 +10,7 @@ use lib.IntN.{ℤ, pos, negsuc, nat_abs}
 use lib.ListN.{length}
 use lib.Signed.{lt_z}
 use Rattle.text.specs.Numbers.{decimal, integer}
-use Rattle.text.proofs.Decimals.{decimal-le}
+use Rattle.text.proofs.Decimals.{decimal_le}
 
 pub negative : (z : ℤ) → lt_z z (pos 0) ≡ true → integer z ≡ 45 ∷ decimal (nat_abs z)
 unfolding integer
@@ -23,7 +23,7 @@ not_negative (pos k) p = refl
 not_negative (negsuc k) p = absurd (subst T p tt)
 
 -- k digits and a sign
-pub integer-le : (k : ℕ) (z : ℤ) → 1 ≤ k → nat_abs z < 10 ^ k → length (integer z) ≤ suc k
+pub integer_le : (k : ℕ) (z : ℤ) → 1 ≤ k → nat_abs z < 10 ^ k → length (integer z) ≤ suc k
 unfolding integer
-integer-le k (pos n) h l = omega (arith, decimal-le k n h l)
-integer-le k (negsuc n) h l = omega (arith, decimal-le k (suc n) h l)
+integer_le k (pos n) h l = omega (arith, decimal_le k n h l)
+integer_le k (negsuc n) h l = omega (arith, decimal_le k (suc n) h l)

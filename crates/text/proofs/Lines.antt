@@ -7,9 +7,9 @@ use native.Mathlib.Omega.{arith}
 use native.Mathlib.Numerals.{add-one}
 use lib.ListN.{length, get_or, length-append}
 use Rattle.sequence.specs.UpTo.{up_to}
-use Rattle.sequence.proofs.UpTo.{length-upTo}
-use Rattle.word.proofs.Order.{lt-or-le}
-use Rattle.text.specs.Lines.{lines_from, numberedFrom}
+use Rattle.sequence.proofs.UpTo.{length_up_to}
+use Rattle.word.proofs.Order.{lt_or_le}
+use Rattle.text.specs.Lines.{lines_from, numbered_from}
 use Rattle.text.specs.Inner.{Put, PutAll}
 
 -- ---- the lines of a list
@@ -26,7 +26,7 @@ module _ {A : Type 0} (line_of : ℕ → A → List ℕ) where
   pub lines_next : (f : ℕ → A) (n : ℕ) → lines_from line_of 0 (up_to (n + 1) f) ≡ lines_from line_of 0 (up_to n f) ++ line_of n (f n)
   unfolding up_to
   lines_next f n =
-      let e : 0 + length (up_to n f) ≡ n = omega (arith, length-upTo n f) in
+      let e : 0 + length (up_to n f) ≡ n = omega (arith, length_up_to n f) in
       ap (λ (k : ℕ). lines_from line_of 0 (up_to k f)) (add-one n) ∙ lines_more 0 (up_to n f) (f n) ∙ ap (λ (k : ℕ). lines_from line_of 0 (up_to n f) ++ line_of k (f n)) e
 
 -- before the first line
@@ -35,14 +35,14 @@ unfolding up_to lines_from
 nothing_put line_of f l at = record { next = omega arith; text = refl; within = omega arith }
 
 -- lines of at most k bytes
-pub lines-within : {A : Type 0} (line_of : ℕ → A → List ℕ) (none : A) (k i : ℕ) (xs : List A) → ((j : ℕ) → j < length xs → length (line_of (i + j) (get_or xs j none)) ≤ k)
+pub lines_within : {A : Type 0} (line_of : ℕ → A → List ℕ) (none : A) (k i : ℕ) (xs : List A) → ((j : ℕ) → j < length xs → length (line_of (i + j) (get_or xs j none)) ≤ k)
     → length (lines_from line_of i xs) ≤ k * length xs
 unfolding lines_from
-lines-within line_of none k i [] h = omega arith
-lines-within line_of none k i (x ∷ xs) h =
+lines_within line_of none k i [] h = omega arith
+lines_within line_of none k i (x ∷ xs) h =
     let e : i + 0 ≡ i = omega arith in
     let first = rw e at (h 0 (omega arith)) in
-    let rest = lines-within line_of none k (suc i) xs (λ j l. later j (h (suc j) (omega arith))) in
+    let rest = lines_within line_of none k (suc i) xs (λ j l. later j (h (suc j) (omega arith))) in
     let c : k * suc (length xs) ≡ k + k * length xs = omega arith in
     omega (arith, first, length-append (line_of i x) (lines_from line_of (suc i) xs))
   where
@@ -51,34 +51,34 @@ lines-within line_of none k i (x ∷ xs) h =
 
 -- ---- the texts of numbers
 module _ (text_of : ℕ → List ℕ) where
-  numbered_more : (i n : ℕ) → numberedFrom text_of i (suc n) ≡ numberedFrom text_of i n ++ text_of (i + n)
-  unfolding numberedFrom
+  numbered_more : (i n : ℕ) → numbered_from text_of i (suc n) ≡ numbered_from text_of i n ++ text_of (i + n)
+  unfolding numbered_from
   numbered_more i zero = let e : i + 0 ≡ i = omega arith in rw e (append-nil (text_of i))
   numbered_more i (suc n) =
       let e : suc i + n ≡ i + suc n = omega arith in
-      ap (λ (l : List ℕ). text_of i ++ l) (numbered_more (suc i) n ∙ ap (λ (k : ℕ). numberedFrom text_of (suc i) n ++ text_of k) e)
-      ∙ sym (append_assoc (text_of i) (numberedFrom text_of (suc i) n) (text_of (i + suc n)))
+      ap (λ (l : List ℕ). text_of i ++ l) (numbered_more (suc i) n ∙ ap (λ (k : ℕ). numbered_from text_of (suc i) n ++ text_of k) e)
+      ∙ sym (append_assoc (text_of i) (numbered_from text_of (suc i) n) (text_of (i + suc n)))
 
   -- one number more
-  pub numbered_next : (n : ℕ) → numberedFrom text_of 0 (n + 1) ≡ numberedFrom text_of 0 n ++ text_of n
+  pub numbered_next : (n : ℕ) → numbered_from text_of 0 (n + 1) ≡ numbered_from text_of 0 n ++ text_of n
   numbered_next n =
       let e : 0 + n ≡ n = omega arith in
-      ap (numberedFrom text_of 0) (add-one n) ∙ numbered_more 0 n ∙ ap (λ (k : ℕ). numberedFrom text_of 0 n ++ text_of k) e
+      ap (numbered_from text_of 0) (add-one n) ∙ numbered_more 0 n ∙ ap (λ (k : ℕ). numbered_from text_of 0 n ++ text_of k) e
 
   -- before the first number
-  pub none-put : (l : List ℕ) (at : ℕ) → PutAll l at (numberedFrom text_of 0 0) l at
-  unfolding numberedFrom
-  none-put l at = record { next = omega arith; text = refl; within = omega arith }
+  pub none_put : (l : List ℕ) (at : ℕ) → PutAll l at (numbered_from text_of 0 0) l at
+  unfolding numbered_from
+  none_put l at = record { next = omega arith; text = refl; within = omega arith }
 
 -- ---- room for one more: of texts that grow piece by piece, the first i and the next piece are no longer than the first n, i being below n
 module _ (grown : ℕ → List ℕ) (piece : ℕ → List ℕ) (next : (n : ℕ) → grown (n + 1) ≡ grown n ++ piece n) where
-  pub length-next : (n : ℕ) → length (grown (n + 1)) ≡ length (grown n) + length (piece n)
-  length-next n = ap length (next n) ∙ length-append (grown n) (piece n)
+  pub length_next : (n : ℕ) → length (grown (n + 1)) ≡ length (grown n) + length (piece n)
+  length_next n = ap length (next n) ∙ length-append (grown n) (piece n)
 
   pub room_next : (i n : ℕ) → i < n → length (grown i) + length (piece i) ≤ length (grown n)
   room_next i zero h = absurd (omega arith)
   room_next i (suc n) h =
-      let e : length (grown (suc n)) ≡ length (grown n) + length (piece n) = ap (λ (k : ℕ). length (grown k)) (sym (add-one n)) ∙ length-next n in
+      let e : length (grown (suc n)) ≡ length (grown n) + length (piece n) = ap (λ (k : ℕ). length (grown k)) (sym (add-one n)) ∙ length_next n in
       ⊎_elim (λ a. omega (arith, room_next i n a))
       (λ (b : n ≤ i). let k : i ≡ n = omega (arith, b, h) in rw k (omega (arith, e)))
-      (lt-or-le i n)
+      (lt_or_le i n)

@@ -7,78 +7,78 @@ use mathlib.Core.Logic.{⊎_elim}
 use Prim.Native.Nat.{ℕ, zero, suc, ◌+◌, ◌-◌, ◌*◌, ◌/◌, ◌%◌, ◌^◌, ◌≤◌, ◌<◌}
 use native.Mathlib.Omega.{arith}
 use lib.ListN.{length, length-append}
-use Rattle.word.proofs.Order.{lt-or-le}
-use Rattle.text.specs.Numbers.{decimalBy, decimal, isDigit, areDigits, numberFrom}
+use Rattle.word.proofs.Order.{lt_or_le}
+use Rattle.text.specs.Numbers.{decimal_by, decimal, is_digit, are_digits, number_from}
 use Rattle.text.specs.Claims.{NumberClaims}
-use Rattle.text.proofs.Decimals.{pow-suc, ten-pos, decimal-le}
+use Rattle.text.proofs.Decimals.{pow-suc, ten_pos, decimal_le}
 
-number-snoc : (xs : List ℕ) (a d : ℕ) → numberFrom a (xs ++ (d ∷ [])) ≡ 10 * numberFrom a xs + (d - 48)
-unfolding numberFrom
-number-snoc [] a d = refl
-number-snoc (x ∷ xs) a d = number-snoc xs (10 * a + (x - 48)) d
+number_snoc : (xs : List ℕ) (a d : ℕ) → number_from a (xs ++ (d ∷ [])) ≡ 10 * number_from a xs + (d - 48)
+unfolding number_from
+number_snoc [] a d = refl
+number_snoc (x ∷ xs) a d = number_snoc xs (10 * a + (x - 48)) d
 
-back_by : (f n : ℕ) → n ≤ f → numberFrom 0 (decimalBy f n) ≡ n
-unfolding decimalBy numberFrom
+back_by : (f n : ℕ) → n ≤ f → number_from 0 (decimal_by f n) ≡ n
+unfolding decimal_by number_from
 back_by zero n h = omega arith
 back_by (suc f) n h =
     ⊎_elim (λ a. rw (lt-ltb n 10 a) (omega arith))
-    (λ a. rw (le-ltb n 10 a) (number-snoc (decimalBy f (n / 10)) 0 (48 + n % 10) ∙ ends n (back_by f (n / 10) (omega arith))))
-    (lt-or-le n 10)
+    (λ a. rw (le-ltb n 10 a) (number_snoc (decimal_by f (n / 10)) 0 (48 + n % 10) ∙ ends n (back_by f (n / 10) (omega arith))))
+    (lt_or_le n 10)
   where
     ends : (n : ℕ) {x : ℕ} → x ≡ n / 10 → 10 * x + (48 + n % 10 - 48) ≡ n
     ends n e = omega (arith, e)
 
 -- the digits' number is n
-pub decimal-back : (n : ℕ) → numberFrom 0 (decimal n) ≡ n
+pub decimal_back : (n : ℕ) → number_from 0 (decimal n) ≡ n
 unfolding decimal
-decimal-back n = back_by n n (omega arith)
+decimal_back n = back_by n n (omega arith)
 
 -- every byte is an ASCII digit
-one-digit : (d : ℕ) → 48 ≤ d → d ≤ 57 → areDigits (d ∷ []) ≡ true
-unfolding areDigits
-one-digit d h k = rw (le-leb 48 d h, le-leb d 57 k)
+one_digit : (d : ℕ) → 48 ≤ d → d ≤ 57 → are_digits (d ∷ []) ≡ true
+unfolding are_digits
+one_digit d h k = rw (le-leb 48 d h, le-leb d 57 k)
 
-digits-snoc : (xs ys : List ℕ) → areDigits xs ≡ true → areDigits ys ≡ true → areDigits (xs ++ ys) ≡ true
-unfolding areDigits
-digits-snoc [] ys h k = k
-digits-snoc (x ∷ xs) ys h k = go (isDigit x) h (λ e. digits-snoc xs ys e k)
+digits_snoc : (xs ys : List ℕ) → are_digits xs ≡ true → are_digits ys ≡ true → are_digits (xs ++ ys) ≡ true
+unfolding are_digits
+digits_snoc [] ys h k = k
+digits_snoc (x ∷ xs) ys h k = go (is_digit x) h (λ e. digits_snoc xs ys e k)
   where
-    go : (b : Bool) → (b && areDigits xs) ≡ true → (areDigits xs ≡ true → areDigits (xs ++ ys) ≡ true) → (b && areDigits (xs ++ ys)) ≡ true
+    go : (b : Bool) → (b && are_digits xs) ≡ true → (are_digits xs ≡ true → are_digits (xs ++ ys) ≡ true) → (b && are_digits (xs ++ ys)) ≡ true
     go true e f = f e
     go false e f = absurd (false≢true e)
 
-all-by : (f n : ℕ) → n ≤ f → areDigits (decimalBy f n) ≡ true
-unfolding decimalBy
-all-by zero n h = one-digit (48 + n) (omega arith) (omega arith)
-all-by (suc f) n h =
-    ⊎_elim (λ a. rw (lt-ltb n 10 a) (one-digit (48 + n) (omega arith) (omega arith)))
-    (λ a. rw (le-ltb n 10 a) (digits-snoc (decimalBy f (n / 10)) ((48 + n % 10) ∷ []) (all-by f (n / 10) (omega arith)) (one-digit (48 + n % 10) (omega arith) (omega arith))))
-    (lt-or-le n 10)
+all_by : (f n : ℕ) → n ≤ f → are_digits (decimal_by f n) ≡ true
+unfolding decimal_by
+all_by zero n h = one_digit (48 + n) (omega arith) (omega arith)
+all_by (suc f) n h =
+    ⊎_elim (λ a. rw (lt-ltb n 10 a) (one_digit (48 + n) (omega arith) (omega arith)))
+    (λ a. rw (le-ltb n 10 a) (digits_snoc (decimal_by f (n / 10)) ((48 + n % 10) ∷ []) (all_by f (n / 10) (omega arith)) (one_digit (48 + n % 10) (omega arith) (omega arith))))
+    (lt_or_le n 10)
 
-pub decimal-digits : (n : ℕ) → areDigits (decimal n) ≡ true
+pub decimal_digits : (n : ℕ) → are_digits (decimal n) ≡ true
 unfolding decimal
-decimal-digits n = all-by n n (omega arith)
+decimal_digits n = all_by n n (omega arith)
 
-some : (f n : ℕ) → 0 < length (decimalBy f n)
-unfolding decimalBy
+some : (f n : ℕ) → 0 < length (decimal_by f n)
+unfolding decimal_by
 some zero n = omega arith
 some (suc f) n =
     ⊎_elim (λ a. rw (lt-ltb n 10 a) (omega arith))
     (λ a. rw (le-ltb n 10 a) (simp length-append (omega arith)))
-    (lt-or-le n 10)
+    (lt_or_le n 10)
 
-long-by : (f k n : ℕ) → n ≤ f → 10 ^ k ≤ n → k < length (decimalBy f n)
-unfolding decimalBy
-long-by f zero n h g = some f n
-long-by zero (suc k) n h g = absurd (omega (arith, ten-pos k, pow-suc k))
-long-by (suc f) (suc k) n h g =
-    let t : 10 ≤ n = omega (arith, ten-pos k, pow-suc k) in
-    rw (le-ltb n 10 t) (simp length-append (omega (arith, long-by f k (n / 10) (omega arith) (omega (arith, pow-suc k)))))
+long_by : (f k n : ℕ) → n ≤ f → 10 ^ k ≤ n → k < length (decimal_by f n)
+unfolding decimal_by
+long_by f zero n h g = some f n
+long_by zero (suc k) n h g = absurd (omega (arith, ten_pos k, pow-suc k))
+long_by (suc f) (suc k) n h g =
+    let t : 10 ≤ n = omega (arith, ten_pos k, pow-suc k) in
+    rw (le-ltb n 10 t) (simp length-append (omega (arith, long_by f k (n / 10) (omega arith) (omega (arith, pow-suc k)))))
 
--- none is idle: a number from 10^k on has more than k digits, and one below 10^k at most k (`decimal-le` in proofs/Decimals.antt)
-pub decimal-long : (k n : ℕ) → 10 ^ k ≤ n → k < length (decimal n)
+-- none is idle: a number from 10^k on has more than k digits, and one below 10^k at most k (`decimal_le` in proofs/Decimals.antt)
+pub decimal_long : (k n : ℕ) → 10 ^ k ≤ n → k < length (decimal n)
 unfolding decimal
-decimal-long k n g = long-by n k n (omega arith) g
+decimal_long k n g = long_by n k n (omega arith) g
 
-pub number-claims : NumberClaims
-number-claims = record { back = decimal-back; digits = decimal-digits; enough = decimal-long; no_more = decimal-le }
+pub number_claims : NumberClaims
+number_claims = record { back = decimal_back; digits = decimal_digits; enough = decimal_long; no_more = decimal_le }

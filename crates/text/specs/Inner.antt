@@ -17,8 +17,8 @@ abbrev pub pair_of : ℕ → List ℕ
 pair_of n = (48 + n / 10) ∷ (48 + n % 10) ∷ []
 
 -- the most digits of a number of 32 bits, and the most bytes of a signed one
-abbrev pub numberBytes : ℕ
-numberBytes = 10
+abbrev pub number_bytes : ℕ
+number_bytes = 10
 
-abbrev pub integerBytes : ℕ
-integerBytes = 1 + numberBytes
+abbrev pub integer_bytes : ℕ
+integer_bytes = 1 + number_bytes

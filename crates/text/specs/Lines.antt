@@ -7,6 +7,6 @@ lines_from line_of i [] = []
 lines_from line_of i (x ∷ xs) = line_of i x ++ lines_from line_of (suc i) xs
 
 -- the texts of n numbers, the first being i
-unfoldable pub numberedFrom : (ℕ → List ℕ) → ℕ → ℕ → List ℕ
-numberedFrom text_of i zero = []
-numberedFrom text_of i (suc n) = text_of i ++ numberedFrom text_of (suc i) n
+unfoldable pub numbered_from : (ℕ → List ℕ) → ℕ → ℕ → List ℕ
+numbered_from text_of i zero = []
+numbered_from text_of i (suc n) = text_of i ++ numbered_from text_of (suc i) n

@@ -2,7 +2,7 @@
 // past them.
 ghost use Rattle.std.specs.Prelude.{◌≡◌, ◌∷◌, [], ◌++◌, ◌+◌, ◌≤◌, ◌<◌, length};
 ghost use Rattle.text.specs.Numbers.{decimal, integer};
-ghost use Rattle.text.specs.Inner.{Put, PutAll, pair_of, numberBytes, integerBytes};
+ghost use Rattle.text.specs.Inner.{Put, PutAll, pair_of, number_bytes, integer_bytes};
 
 pub fn put(out: &mut [u8], at: usize, text: &[u8]) -> usize
     requires { at + length text.now ≤ length out.old }
@@ -26,7 +26,7 @@ pub fn put_byte(out: &mut [u8], at: usize, b: u8) -> usize
 
 // The number of decimal digits that n has.
 pub fn digits(n: u32) -> usize
-    ensures { (result ≡ length (decimal n)) × (result ≤ numberBytes) }
+    ensures { (result ≡ length (decimal n)) × (result ≤ number_bytes) }
 {
     if n < 10000 {
         return 1 + (n > 9) as usize + (n > 99) as usize + (n > 999) as usize;
@@ -84,16 +84,16 @@ pub fn put_with(out: &mut [u8], at: usize, text: &[u8], n: u32) -> usize
 
 // n in decimal.
 pub fn put_number(out: &mut [u8], at: usize, n: u32) -> usize
-    requires { at + numberBytes ≤ length out.old }
-    ensures { Put out.old at (decimal n) numberBytes out.new result }
+    requires { at + number_bytes ≤ length out.old }
+    ensures { Put out.old at (decimal n) number_bytes out.new result }
 {
     put_decimal(out, at, n)
 }
 
 // n in decimal, after `-` where it is negative.
 pub fn put_integer(out: &mut [u8], at: usize, n: i32) -> usize
-    requires { at + integerBytes ≤ length out.old }
-    ensures { Put out.old at (integer n) integerBytes out.new result }
+    requires { at + integer_bytes ≤ length out.old }
+    ensures { Put out.old at (integer n) integer_bytes out.new result }
 {
     let size = word::magnitude(n);
     if n < 0 {

@@ -1,29 +1,29 @@
--- `meaning-claims`: the claims of specs/Claims.antt. Assumes nothing.
+-- `meaning_claims`: the claims of specs/Claims.antt. Assumes nothing.
 use mathlib.Core.Path.{◌≡◌, refl, sym, ap, subst, ◌∙◌}
 use mathlib.Core.Bool.{Bool, true, false, cond, not, ◌&&◌, true≢false}
 use mathlib.Core.List.{List, [], ◌∷◌}
 use Prim.Native.Nat.{ℕ}
 use lib.IntN.{ℤ}
-use Rattle.verilog.specs.Reading.{Reading, reads, nothing, whenRead}
+use Rattle.verilog.specs.Reading.{Reading, reads, nothing, when_read}
 use Rattle.verilog.specs.Syntax.{Module, same, module_of}
-use Rattle.verilog.specs.Sound.{amongst, distinct, within, anyKeyword, allClosed, calledIn, leftIn, targets, netsOf, ordered, sound}
+use Rattle.verilog.specs.Sound.{amongst, distinct, within, any_keyword, all_closed, called_in, left_in, targets, nets_of, ordered, sound}
 use Rattle.verilog.specs.Meaning.{meaning, Settled, evaluated}
 use Rattle.verilog.specs.Claims.{MeaningClaims}
-use Rattle.verilog.proofs.Same.{same-equal}
-use Rattle.verilog.proofs.Order.{both, evaluated-settles}
+use Rattle.verilog.proofs.Same.{same_equal}
+use Rattle.verilog.proofs.Order.{both, evaluated_settles}
 
 -- a text that has a meaning is a sound module
-abbrev isRead : {A : Type 0} → Reading A → Bool
-isRead (reads a) = true
-isRead nothing = false
+abbrev is_read : {A : Type 0} → Reading A → Bool
+is_read (reads a) = true
+is_read nothing = false
 
-sound-if : (k m : Module) (b : Bool) → sound k ≡ b → cond b (reads k) nothing ≡ reads m → sound m ≡ true
-sound-if k m true e q = let r : k ≡ m = cc in subst (λ (w : Module). sound w ≡ true) r e
-sound-if k m false e q = absurd (true≢false (sym (ap isRead q)))
+sound_if : (k m : Module) (b : Bool) → sound k ≡ b → cond b (reads k) nothing ≡ reads m → sound m ≡ true
+sound_if k m true e q = let r : k ≡ m = cc in subst (λ (w : Module). sound w ≡ true) r e
+sound_if k m false e q = absurd (true≢false (sym (ap is_read q)))
 
-sound-read : (o : Reading Module) (m : Module) → whenRead o (λ w. cond (sound w) (reads w) nothing) ≡ reads m → sound m ≡ true
-sound-read (reads k) m q = sound-if k m (sound k) refl q
-sound-read nothing m q = absurd (true≢false (sym (ap isRead q)))
+sound_read : (o : Reading Module) (m : Module) → when_read o (λ w. cond (sound w) (reads w) nothing) ≡ reads m → sound m ≡ true
+sound_read (reads k) m q = sound_if k m (sound k) refl q
+sound_read nothing m q = absurd (true≢false (sym (ap is_read q)))
 
 -- what is not among the names is not among those that all are
 outside : (s : List ℕ) (ls names : List (List ℕ)) → within ls names ≡ true → amongst s names ≡ false → amongst s ls ≡ false
@@ -32,7 +32,7 @@ outside s (t ∷ ts) names w k = go (amongst t names) refl w (same t s) refl (λ
   where
     go : (a : Bool) → amongst t names ≡ a → cond a (within ts names) false ≡ true → (b : Bool) → same t s ≡ b → (within ts names ≡ true → amongst s ts ≡ false)
         → amongst s (t ∷ ts) ≡ false
-    go true e u true q f = absurd (true≢false (sym e ∙ ap (λ (z : List ℕ). amongst z names) (same-equal t s q) ∙ k))
+    go true e u true q f = absurd (true≢false (sym e ∙ ap (λ (z : List ℕ). amongst z names) (same_equal t s q) ∙ k))
     go true e u false q f = rw q (f u)
     go false e u b q f = absurd (true≢false (sym u))
 
@@ -51,20 +51,20 @@ chosen a b c d e f q =
     ((both a b third.0).1, third.1, last.1)
 
 module _ (m : Module) where
-  abbrev inputName : List ℕ
-  inputName = m.input.called
+  abbrev input_name : List ℕ
+  input_name = m.input.called
 
-  sound-parts : sound m ≡ true → (amongst inputName (leftIn m.assigns) ≡ false) × (ordered m.assigns ≡ true)
+  sound_parts : sound m ≡ true → (amongst input_name (left_in m.assigns) ≡ false) × (ordered m.assigns ≡ true)
   unfolding sound
-  sound-parts e =
-      let nets = calledIn (netsOf m) in
-      let its = calledIn (targets m) in
-      let lefts = leftIn m.assigns in
-      let w = chosen (not (anyKeyword (m.called ∷ nets))) (distinct nets) (within lefts its) (within its lefts) (allClosed nets m.assigns) (ordered m.assigns) e in
-      (outside inputName lefts its w.1 (apart (amongst inputName its) (distinct its) w.0), w.2)
+  sound_parts e =
+      let nets = called_in (nets_of m) in
+      let its = called_in (targets m) in
+      let lefts = left_in m.assigns in
+      let w = chosen (not (any_keyword (m.called ∷ nets))) (distinct nets) (within lefts its) (within its lefts) (all_closed nets m.assigns) (ordered m.assigns) e in
+      (outside input_name lefts its w.1 (apart (amongst input_name its) (distinct its) w.0), w.2)
 
 in_order : (text : List ℕ) (m : Module) → meaning text ≡ reads m → (x : ℤ) → Settled m x (evaluated m x)
-in_order text m e x = let p = sound-parts m (sound-read (module_of text) m e) in evaluated-settles m x p.1 p.0
+in_order text m e x = let p = sound_parts m (sound_read (module_of text) m e) in evaluated_settles m x p.1 p.0
 
-pub meaning-claims : MeaningClaims
-meaning-claims = record { in_order = in_order }
+pub meaning_claims : MeaningClaims
+meaning_claims = record { in_order = in_order }

@@ -1,45 +1,45 @@
--- The texts of specs/Samples.antt, by computation: `rules-at-work`. Assumes nothing.
+-- The texts of specs/Samples.antt, by computation: `rules_at_work`. Assumes nothing.
 use mathlib.Core.Path.{refl}
 use Rattle.verilog.specs.Tokens.{scan, class_of}
 use Rattle.verilog.specs.Expressions.{run}
-use Rattle.verilog.specs.Syntax.{cut_at, outputNets, body_of, module_of}
-use Rattle.verilog.specs.Sound.{closed, usesNone, ordered, sound}
+use Rattle.verilog.specs.Syntax.{cut_at, output_nets, body_of, module_of}
+use Rattle.verilog.specs.Sound.{closed, uses_none, ordered, sound}
 use Rattle.verilog.specs.Values.{width_of, signed_of, value_at}
-use Rattle.verilog.specs.Meaning.{assigned, inOrder}
+use Rattle.verilog.specs.Meaning.{assigned, in_order_of}
 use Rattle.verilog.specs.Samples.{RulesAtWork}
 
-pub rules-at-work : RulesAtWork
-unfolding scan class_of run cut_at outputNets body_of module_of closed usesNone ordered sound width_of signed_of value_at assigned inOrder
-rules-at-work = record {
-  sum-in-a-shift = refl;
-  minus-before-shift = refl;
-  minus-before-sum = refl;
-  from-the-left = refl;
-  sums-from-the-left = refl;
-  shifts-from-the-left = refl;
-  in-parentheses = refl;
-  minus-at-64 = refl;
+pub rules_at_work : RulesAtWork
+unfolding scan class_of run cut_at output_nets body_of module_of closed uses_none ordered sound width_of signed_of value_at assigned in_order_of
+rules_at_work = record {
+  sum_in_a_shift = refl;
+  minus_before_shift = refl;
+  minus_before_sum = refl;
+  from_the_left = refl;
+  sums_from_the_left = refl;
+  shifts_from_the_left = refl;
+  in_parentheses = refl;
+  minus_at_64 = refl;
   low_bits = refl;
-  wider-operand = refl;
-  own-width = refl;
-  no-narrower-number = refl;
-  numbers-of-32-bits = refl;
-  signed-number = refl;
-  unsigned-sum = refl;
-  unsigned-minus = refl;
-  unsigned-difference = refl;
-  unsigned-amount = refl;
+  wider_operand = refl;
+  own_width = refl;
+  no_narrower_number = refl;
+  numbers_of_32_bits = refl;
+  signed_number = refl;
+  unsigned_sum = refl;
+  unsigned_minus = refl;
+  unsigned_difference = refl;
+  unsigned_amount = refl;
   own_sign = refl;
   no_end = refl;
-  unknown-name = refl;
-  second-assign = refl;
-  input-assigned = refl;
+  unknown_name = refl;
+  second_assign = refl;
+  input_assigned = refl;
   own_value = refl;
-  declared-twice = refl;
-  no-assign = refl;
-  keyword-name = refl;
-  large-number = refl;
-  wide-range = refl;
-  carriage-return = refl;
-  other-operator = refl;
+  declared_twice = refl;
+  no_assign = refl;
+  keyword_name = refl;
+  large_number = refl;
+  wide_range = refl;
+  carriage_return = refl;
+  other_operator = refl;
 }

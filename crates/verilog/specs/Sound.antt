@@ -39,9 +39,9 @@ keywords =
     ∷ ascii "trireg" ∷ ascii "unsigned" ∷ ascii "use" ∷ ascii "uwire" ∷ ascii "vectored" ∷ ascii "wait" ∷ ascii "wand" ∷ ascii "weak0"
     ∷ ascii "weak1" ∷ ascii "while" ∷ ascii "wire" ∷ ascii "wor" ∷ ascii "xnor" ∷ ascii "xor" ∷ []
 
-abbrev pub anyKeyword : List (List ℕ) → Bool
-anyKeyword [] = false
-anyKeyword (s ∷ ss) = cond (amongst s keywords) true (anyKeyword ss)
+abbrev pub any_keyword : List (List ℕ) → Bool
+any_keyword [] = false
+any_keyword (s ∷ ss) = cond (amongst s keywords) true (any_keyword ss)
 
 -- the names of an expression are declared, and its numbers are below 2^31: the standard says that an unsized number has at least 32 bits, and 32 are taken here
 unfoldable pub closed : List (List ℕ) → Expression → Bool
@@ -52,46 +52,46 @@ closed names (sum e f) = closed names e && closed names f
 closed names (difference e f) = closed names e && closed names f
 closed names (shifted e f) = closed names e && closed names f
 
-abbrev pub allClosed : List (List ℕ) → List Assign → Bool
-allClosed names [] = true
-allClosed names (a ∷ bs) = cond (closed names a.right) (allClosed names bs) false
+abbrev pub all_closed : List (List ℕ) → List Assign → Bool
+all_closed names [] = true
+all_closed names (a ∷ bs) = cond (closed names a.right) (all_closed names bs) false
 
-abbrev pub calledIn : List Net → List (List ℕ)
-calledIn ns = map (λ (n : Net). n.called) ns
+abbrev pub called_in : List Net → List (List ℕ)
+called_in ns = map (λ (n : Net). n.called) ns
 
-abbrev pub leftIn : List Assign → List (List ℕ)
-leftIn bs = map (λ (a : Assign). a.left) bs
+abbrev pub left_in : List Assign → List (List ℕ)
+left_in bs = map (λ (a : Assign). a.left) bs
 
 -- an expression uses none of these names
-unfoldable pub usesNone : List (List ℕ) → Expression → Bool
-usesNone names (net s) = not (amongst s names)
-usesNone names (literal n) = true
-usesNone names (negated e) = usesNone names e
-usesNone names (sum e f) = usesNone names e && usesNone names f
-usesNone names (difference e f) = usesNone names e && usesNone names f
-usesNone names (shifted e f) = usesNone names e && usesNone names f
+unfoldable pub uses_none : List (List ℕ) → Expression → Bool
+uses_none names (net s) = not (amongst s names)
+uses_none names (literal n) = true
+uses_none names (negated e) = uses_none names e
+uses_none names (sum e f) = uses_none names e && uses_none names f
+uses_none names (difference e f) = uses_none names e && uses_none names f
+uses_none names (shifted e f) = uses_none names e && uses_none names f
 
 -- no assign uses what it assigns itself, or what a later one does, and no later one assigns the same: a net has one driver and does not depend on itself, so no bit is
 -- unknown. The standard asks for no order; texts in another one are outside of the subset
 unfoldable pub ordered : List Assign → Bool
-unfolding usesNone
+unfolding uses_none
 ordered [] = true
-ordered (a ∷ bs) = usesNone (a.left ∷ leftIn bs) a.right && not (amongst a.left (leftIn bs)) && ordered bs
+ordered (a ∷ bs) = uses_none (a.left ∷ left_in bs) a.right && not (amongst a.left (left_in bs)) && ordered bs
 
 -- outputs and wires: what is assigned
 abbrev pub targets : Module → List Net
 targets m = m.outputs ++ m.wires
 
-abbrev pub netsOf : Module → List Net
-netsOf m = m.input ∷ targets m
+abbrev pub nets_of : Module → List Net
+nets_of m = m.input ∷ targets m
 
 -- nets have names of their own, which are no keywords; every output and wire is assigned once, and nothing else is; only declared names are used, and only what the
 -- assigns before have assigned
 unfoldable pub sound : Module → Bool
 sound m =
-    not (anyKeyword (m.called ∷ calledIn (netsOf m)))
-    && distinct (calledIn (netsOf m))
-    && within (leftIn m.assigns) (calledIn (targets m))
-    && within (calledIn (targets m)) (leftIn m.assigns)
-    && allClosed (calledIn (netsOf m)) m.assigns
+    not (any_keyword (m.called ∷ called_in (nets_of m)))
+    && distinct (called_in (nets_of m))
+    && within (left_in m.assigns) (called_in (targets m))
+    && within (called_in (targets m)) (left_in m.assigns)
+    && all_closed (called_in (nets_of m)) m.assigns
     && ordered m.assigns

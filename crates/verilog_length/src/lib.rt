@@ -1,12 +1,12 @@
 // How many bytes the text of a network has, counted before any is written. The numbers of rows and taps,
 // which count up from 0, are counted by themselves, and all else beside them.
 ghost use Rattle.std.specs.Prelude.{◌≡◌, ◌*◌, ◌-◌, ◌≤◌, length};
-ghost use Rattle.network.specs.Rows.{rows_of, tapRowsOf, networkOf, rowTable, tapTable};
+ghost use Rattle.network.specs.Rows.{rows_of, tap_rows_of, network_of, row_table, tap_table};
 ghost use Rattle.text.specs.Numbers.{decimal};
-ghost use Rattle.text.specs.Lines.{lines_from, numberedFrom};
-ghost use Rattle.text.specs.Inner.{numberBytes};
-ghost use Rattle.verilog_text.specs.Text.{rowAssign, tapAssign, verilogText};
-ghost use Rattle.verilog_length.specs.Inner.{Beside, BesideAll, rowBytes, tapBytes};
+ghost use Rattle.text.specs.Lines.{lines_from, numbered_from};
+ghost use Rattle.text.specs.Inner.{number_bytes};
+ghost use Rattle.verilog_text.specs.Text.{row_assign, tap_assign, verilog_text_of};
+ghost use Rattle.verilog_length.specs.Inner.{Beside, BesideAll, row_bytes_of, tap_bytes_of};
 
 use network::{Row, TapRow};
 use text::digits;
@@ -24,14 +24,14 @@ fn past(n: usize, least: usize) -> usize
 // The digits of the numbers below n: all have one, those past 10 a second, and so on.
 fn digits_below(n: usize) -> usize
     requires { n ≤ 4096 }
-    ensures { (result ≡ length (numberedFrom decimal 0 n)) × (result ≤ numberBytes * n) }
+    ensures { (result ≡ length (numbered_from decimal 0 n)) × (result ≤ number_bytes * n) }
 {
     n + past(n, 10) + past(n, 100) + past(n, 1000)
 }
 
 // The assign of row i, beside i.
 fn row_bytes(i: u32, row: Row) -> usize
-    ensures { Beside (rowAssign i row) i rowBytes result }
+    ensures { Beside (row_assign i row) i row_bytes_of result }
 {
     if i == 0 {
         return 14;
@@ -41,8 +41,8 @@ fn row_bytes(i: u32, row: Row) -> usize
 
 // The assigns of the first n rows, beside their numbers.
 fn rows_bytes(rows: &[u32], n: usize) -> usize
-    requires { (rowTable ≤ length rows.now) × (n ≤ 4096) }
-    ensures { BesideAll (lines_from rowAssign 0 (rows_of rows.now n)) n (rowBytes * n) result }
+    requires { (row_table ≤ length rows.now) × (n ≤ 4096) }
+    ensures { BesideAll (lines_from row_assign 0 (rows_of rows.now n)) n (row_bytes_of * n) result }
 {
     let mut count: usize = 0;
     let mut i: usize = 0;
@@ -55,7 +55,7 @@ fn rows_bytes(rows: &[u32], n: usize) -> usize
 
 // The assign of tap k, beside k.
 fn tap_bytes(k: u32, tap: TapRow) -> usize
-    ensures { Beside (tapAssign k tap) k tapBytes result }
+    ensures { Beside (tap_assign k tap) k tap_bytes_of result }
 {
     if tap.sign == network::PLUS {
         return 19 + digits(tap.row) + digits(tap.shift);
@@ -68,8 +68,8 @@ fn tap_bytes(k: u32, tap: TapRow) -> usize
 
 // The assigns of the first m taps, beside their numbers.
 fn taps_bytes(taps: &[u32], m: usize) -> usize
-    requires { (tapTable ≤ length taps.now) × (m ≤ 256) }
-    ensures { BesideAll (lines_from tapAssign 0 (tapRowsOf taps.now m)) m (tapBytes * m) result }
+    requires { (tap_table ≤ length taps.now) × (m ≤ 256) }
+    ensures { BesideAll (lines_from tap_assign 0 (tap_rows_of taps.now m)) m (tap_bytes_of * m) result }
 {
     let mut count: usize = 0;
     let mut k: usize = 0;
@@ -83,8 +83,8 @@ fn taps_bytes(taps: &[u32], m: usize) -> usize
 // The whole text. Beside ports and wires the module line has 40 bytes and the last line 10; a port has
 // 24 beside its number, a wire 22.
 pub fn text_bytes(rows: &[u32], n: usize, taps: &[u32], m: usize) -> usize
-    requires { (rowTable ≤ length rows.now) × (n ≤ 4096) × (tapTable ≤ length taps.now) × (m ≤ 256) }
-    ensures { result ≡ length (verilogText (networkOf rows.now n taps.now m)) }
+    requires { (row_table ≤ length rows.now) × (n ≤ 4096) × (tap_table ≤ length taps.now) × (m ≤ 256) }
+    ensures { result ≡ length (verilog_text_of (network_of rows.now n taps.now m)) }
 {
     let ports = 24 * m + 2 * digits_below(m);
     let wires = 22 * n + 2 * digits_below(n);

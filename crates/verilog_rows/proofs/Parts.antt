@@ -5,16 +5,16 @@ use mathlib.Core.List.{append_assoc}
 use Prim.Native.Nat.{ℕ}
 use Rattle.network.specs.declared.Row.{Row}
 use Rattle.network.specs.Rows.{plus, minus}
-use Rattle.verilog_text.specs.Text.{rowAssign}
-use Rattle.verilog_text.proofs.Lengths.{row-later}
-use Rattle.verilog_rows.specs.Inner.{shiftedFirst, rightFirst}
+use Rattle.verilog_text.specs.Text.{row_assign}
+use Rattle.verilog_text.proofs.Lengths.{row_later}
+use Rattle.verilog_rows.specs.Inner.{shifted_first, right_first}
 
 module _ (i : ℕ) (r : Row) (later : i ≡ 0 → ⊥) where
-  pub row-plus : r.sign ≡ plus → rowAssign i r ≡ shiftedFirst i r
-  row-plus e = row-later i r later ∙ rw (eq-eqb r.sign plus e, e) (simp append_assoc)
+  pub row_plus : r.sign ≡ plus → row_assign i r ≡ shifted_first i r
+  row_plus e = row_later i r later ∙ rw (eq-eqb r.sign plus e, e) (simp append_assoc)
 
-  pub row-minus : r.sign ≡ minus → rowAssign i r ≡ shiftedFirst i r
-  row-minus e = row-later i r later ∙ rw e (simp append_assoc)
+  pub row_minus : r.sign ≡ minus → row_assign i r ≡ shifted_first i r
+  row_minus e = row_later i r later ∙ rw e (simp append_assoc)
 
-  pub row-reversed : (r.sign ≡ plus → ⊥) → (r.sign ≡ minus → ⊥) → rowAssign i r ≡ rightFirst i r
-  row-reversed f g = row-later i r later ∙ rw (ne_eqb r.sign plus f, ne_eqb r.sign minus g) (simp append_assoc)
+  pub row_reversed : (r.sign ≡ plus → ⊥) → (r.sign ≡ minus → ⊥) → row_assign i r ≡ right_first i r
+  row_reversed f g = row_later i r later ∙ rw (ne_eqb r.sign plus f, ne_eqb r.sign minus g) (simp append_assoc)

@@ -9,14 +9,14 @@ abbrev pub operand : ℕ → ℕ → List ℕ
 operand sign right = ascii ") " ++ ((sign ∷ []) ++ (ascii " n" ++ decimal right))
 
 -- a row whose shifted row comes first, and one whose right row does
-abbrev pub shiftedFirst : ℕ → Row → List ℕ
-shiftedFirst i r =
+abbrev pub shifted_first : ℕ → Row → List ℕ
+shifted_first i r =
     (ascii "assign n" ++ decimal i) ++ ((ascii " = (n" ++ decimal r.left) ++ ((ascii " <<< " ++ decimal r.shift) ++ (operand r.sign r.right ++ ascii ";\n")))
 
-abbrev pub rightFirst : ℕ → Row → List ℕ
-rightFirst i r =
+abbrev pub right_first : ℕ → Row → List ℕ
+right_first i r =
     (ascii "assign n" ++ decimal i) ++ ((ascii " = n" ++ decimal r.right) ++ ((ascii " - (n" ++ decimal r.left) ++ ((ascii " <<< " ++ decimal r.shift) ++ ascii ");\n")))
 
 -- the bytes of either
-abbrev pub laterBytes : ℕ → Row → ℕ
-laterBytes i r = 25 + (length (decimal i) + (length (decimal r.left) + (length (decimal r.shift) + length (decimal r.right))))
+abbrev pub later_bytes : ℕ → Row → ℕ
+later_bytes i r = 25 + (length (decimal i) + (length (decimal r.left) + (length (decimal r.shift) + length (decimal r.right))))

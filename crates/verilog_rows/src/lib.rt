@@ -1,12 +1,12 @@
 // The wires and the assigns of rows, written into an area that may have room for just these bytes: each
 // function puts them at index `at`, and answers the index past them.
 ghost use Rattle.std.specs.Prelude.{◌≡◌, ◌+◌, ◌≤◌, ◌<◌, length};
-ghost use Rattle.network.specs.Rows.{rows_of, rowTable};
+ghost use Rattle.network.specs.Rows.{rows_of, row_table};
 ghost use Rattle.text.specs.Numbers.{decimal};
-ghost use Rattle.text.specs.Lines.{lines_from, numberedFrom};
+ghost use Rattle.text.specs.Lines.{lines_from, numbered_from};
 ghost use Rattle.text.specs.Inner.{PutAll};
-ghost use Rattle.verilog_text.specs.Text.{wireLine, rowAssign};
-ghost use Rattle.verilog_rows.specs.Inner.{operand, shiftedFirst, rightFirst, laterBytes};
+ghost use Rattle.verilog_text.specs.Text.{wire_line, row_assign};
+ghost use Rattle.verilog_rows.specs.Inner.{operand, shifted_first, right_first, later_bytes};
 
 use network::Row;
 use text::{put, put_byte, put_with};
@@ -24,8 +24,8 @@ fn put_operand(out: &mut [u8], at: usize, sign: u32, right: u32) -> usize
 
 // A row of sign `+` or `-`, whose shifted row comes first.
 fn put_shifted_first(out: &mut [u8], at: usize, i: u32, row: Row) -> usize
-    requires { (row.sign < 256) × (at + laterBytes i row ≤ length out.old) }
-    ensures { PutAll out.old at (shiftedFirst i row) out.new result }
+    requires { (row.sign < 256) × (at + later_bytes i row ≤ length out.old) }
+    ensures { PutAll out.old at (shifted_first i row) out.new result }
 {
     let a = put_with(out, at, b"assign n", i);
     let b = put_with(out, a, b" = (n", row.left);
@@ -36,8 +36,8 @@ fn put_shifted_first(out: &mut [u8], at: usize, i: u32, row: Row) -> usize
 
 // An `r` row, whose right row comes first.
 fn put_right_first(out: &mut [u8], at: usize, i: u32, row: Row) -> usize
-    requires { at + laterBytes i row ≤ length out.old }
-    ensures { PutAll out.old at (rightFirst i row) out.new result }
+    requires { at + later_bytes i row ≤ length out.old }
+    ensures { PutAll out.old at (right_first i row) out.new result }
 {
     let a = put_with(out, at, b"assign n", i);
     let b = put_with(out, a, b" = n", row.right);
@@ -47,8 +47,8 @@ fn put_right_first(out: &mut [u8], at: usize, i: u32, row: Row) -> usize
 }
 
 fn put_row_line(out: &mut [u8], at: usize, i: u32, row: Row) -> usize
-    requires { at + length (rowAssign i row) ≤ length out.old }
-    ensures { PutAll out.old at (rowAssign i row) out.new result }
+    requires { at + length (row_assign i row) ≤ length out.old }
+    ensures { PutAll out.old at (row_assign i row) out.new result }
 {
     if i == 0 {
         return put(out, at, b"assign n0 = x;\n");
@@ -64,8 +64,8 @@ fn put_row_line(out: &mut [u8], at: usize, i: u32, row: Row) -> usize
 
 // The wires of n rows.
 pub fn put_wires(out: &mut [u8], at: usize, n: usize) -> usize
-    requires { (n ≤ 4096) × (at + length (numberedFrom wireLine 0 n) ≤ length out.old) }
-    ensures { PutAll out.old at (numberedFrom wireLine 0 n) out.new result }
+    requires { (n ≤ 4096) × (at + length (numbered_from wire_line 0 n) ≤ length out.old) }
+    ensures { PutAll out.old at (numbered_from wire_line 0 n) out.new result }
 {
     let mut to = at;
     let mut row: usize = 0;
@@ -79,9 +79,9 @@ pub fn put_wires(out: &mut [u8], at: usize, n: usize) -> usize
 
 // The assigns of the first n rows, by number.
 pub fn put_row_lines(out: &mut [u8], at: usize, rows: &[u32], n: usize) -> usize
-    requires row_table_in_bounds { (rowTable ≤ length rows.now) × (n ≤ 4096) }
-    requires n_in_bounds { at + length (lines_from rowAssign 0 (rows_of rows.now n)) ≤ length out.old }
-    ensures { PutAll out.old at (lines_from rowAssign 0 (rows_of rows.now n)) out.new result }
+    requires row_table_in_bounds { (row_table ≤ length rows.now) × (n ≤ 4096) }
+    requires n_in_bounds { at + length (lines_from row_assign 0 (rows_of rows.now n)) ≤ length out.old }
+    ensures { PutAll out.old at (lines_from row_assign 0 (rows_of rows.now n)) out.new result }
 {
     let mut to = at;
     let mut i: usize = 0;

@@ -4,11 +4,11 @@ use Rattle.network.specs.declared.TapRow.{TapRow}
 use Rattle.text.specs.Numbers.{decimal}
 
 -- the bytes of a tap of sign `+`, of one of sign `-`, of an empty one
-abbrev pub productBytes : ℕ → TapRow → ℕ
-productBytes k t = 19 + (length (decimal k) + (length (decimal t.row) + length (decimal t.shift)))
+abbrev pub product_bytes : ℕ → TapRow → ℕ
+product_bytes k t = 19 + (length (decimal k) + (length (decimal t.row) + length (decimal t.shift)))
 
-abbrev pub negativeBytes : ℕ → TapRow → ℕ
-negativeBytes k t = 22 + (length (decimal k) + (length (decimal t.row) + length (decimal t.shift)))
+abbrev pub negative_bytes : ℕ → TapRow → ℕ
+negative_bytes k t = 22 + (length (decimal k) + (length (decimal t.row) + length (decimal t.shift)))
 
-abbrev pub emptyBytes : ℕ → ℕ
-emptyBytes k = 14 + length (decimal k)
+abbrev pub empty_bytes : ℕ → ℕ
+empty_bytes k = 14 + length (decimal k)

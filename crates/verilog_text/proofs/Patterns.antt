@@ -9,24 +9,24 @@ use lib.Dec.{leb}
 use lib.IntN.{ℤ, pos, negsuc, neg_ℤ, ◌-ℤ◌}
 use mir.Syntax.{w16}
 use mir.Val.{SFits}
-use Rattle.network.specs.Evaluation.{shiftedUp}
+use Rattle.network.specs.Evaluation.{shifted_up}
 use Rattle.run_convolution.specs.Words.{wrapped}
-use Rattle.run_convolution.proofs.Words.{wrapped-add, wrapped-lt}
-use Rattle.verilog.specs.Values.{extended, patternOf}
+use Rattle.run_convolution.proofs.Words.{wrapped_add, wrapped_lt}
+use Rattle.verilog.specs.Values.{extended, pattern_of}
 
-pub wrapped-negative : (z : ℤ) → (18446744073709551616 - wrapped z) % 18446744073709551616 ≡ wrapped (neg_ℤ z)
-wrapped-negative (pos zero) = refl
-wrapped-negative (pos (suc n)) = omega arith
-wrapped-negative (negsuc n) = omega arith
+pub wrapped_negative : (z : ℤ) → (18446744073709551616 - wrapped z) % 18446744073709551616 ≡ wrapped (neg_ℤ z)
+wrapped_negative (pos zero) = refl
+wrapped_negative (pos (suc n)) = omega arith
+wrapped_negative (negsuc n) = omega arith
 
-pub wrapped-difference : (a b : ℤ) → (wrapped a + (18446744073709551616 - wrapped b)) % 18446744073709551616 ≡ wrapped (a -ℤ b)
-wrapped-difference a b = omega (arith, wrapped-add a (neg_ℤ b), wrapped-negative b)
+pub wrapped_difference : (a b : ℤ) → (wrapped a + (18446744073709551616 - wrapped b)) % 18446744073709551616 ≡ wrapped (a -ℤ b)
+wrapped_difference a b = omega (arith, wrapped_add a (neg_ℤ b), wrapped_negative b)
 
-pub wrapped-shift : (s : ℕ) (z : ℤ) → wrapped z * 2 ^ s % 18446744073709551616 ≡ wrapped (shiftedUp s z)
-wrapped-shift zero z = omega (arith, wrapped-lt z)
-wrapped-shift (suc s) z =
+pub wrapped_shift : (s : ℕ) (z : ℤ) → wrapped z * 2 ^ s % 18446744073709551616 ≡ wrapped (shifted_up s z)
+wrapped_shift zero z = omega (arith, wrapped_lt z)
+wrapped_shift (suc s) z =
     let e : wrapped z * 2 ^ suc s ≡ wrapped z * 2 ^ s + wrapped z * 2 ^ s = ap (λ (n : ℕ). wrapped z * n) (two-pow-succ s) ∙ mul-add (wrapped z) (2 ^ s) (2 ^ s) in
-    ap (λ (n : ℕ). n % 18446744073709551616) e ∙ omega (arith, wrapped-shift s z, wrapped-add (shiftedUp s z) (shiftedUp s z))
+    ap (λ (n : ℕ). n % 18446744073709551616) e ∙ omega (arith, wrapped_shift s z, wrapped_add (shifted_up s z) (shifted_up s z))
 
 -- 64 bits as 64 bits
 pub same_width : (v : ℕ) → extended true 64 64 v ≡ v
@@ -37,10 +37,10 @@ same_width v = go (leb 18446744073709551616 (2 * v))
     go false = refl
 
 -- a sample as 64 bits
-pub sample-extended : (x : ℤ) → SFits w16 x → extended true 64 16 (patternOf 16 x) ≡ wrapped x
-sample-extended (pos n) h =
+pub sample_extended : (x : ℤ) → SFits w16 x → extended true 64 16 (pattern_of 16 x) ≡ wrapped x
+sample_extended (pos n) h =
     let l : n < 32768 = h.sfits in
     rw (lt-leb 65536 (2 * (n % 65536)) (omega arith)) (omega arith)
-sample-extended (negsuc n) h =
+sample_extended (negsuc n) h =
     let l : n < 32768 = h.sfits in
     rw (le-leb 65536 (2 * (65535 - n % 65536)) (omega arith)) (omega arith)

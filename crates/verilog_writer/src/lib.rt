@@ -1,10 +1,10 @@
 // Writing a network as Verilog text.
 ghost use Rattle.std.specs.Prelude.{◌≡◌, ◌+◌, ◌≤◌, length};
 ghost use Rattle.refusal.specs.Answer.{filled};
-ghost use Rattle.network.specs.Rows.{rowTable, tapTable};
+ghost use Rattle.network.specs.Rows.{row_table, tap_table};
 ghost use Rattle.text.specs.Inner.{PutAll};
-ghost use Rattle.verilog_text.specs.Text.{moduleLine};
-ghost use Rattle.verilog_text.specs.Written.{textIn, lengthAnswer, VerilogWritten};
+ghost use Rattle.verilog_text.specs.Text.{module_line};
+ghost use Rattle.verilog_text.specs.Written.{text_in, length_answer, VerilogWritten};
 ghost use Rattle.verilog_writer.specs.Answer.{answer_of};
 
 use network_check::Checked;
@@ -19,8 +19,8 @@ pub enum Written {
 
 // The module line of m taps.
 fn put_module_line(out: &mut [u8], at: usize, m: usize) -> usize
-    requires { (m ≤ 256) × (at + length (moduleLine m) ≤ length out.old) }
-    ensures { PutAll out.old at (moduleLine m) out.new result }
+    requires { (m ≤ 256) × (at + length (module_line m) ≤ length out.old) }
+    ensures { PutAll out.old at (module_line m) out.new result }
 {
     let a = put(out, at, b"module smoother(input signed [15:0] x");
     let b = verilog_taps::put_ports(out, a, m);
@@ -29,9 +29,9 @@ fn put_module_line(out: &mut [u8], at: usize, m: usize) -> usize
 
 // The whole text, at the start of an area that has room for it.
 fn put_text(out: &mut [u8], rows: &[u32], n: usize, taps: &[u32], m: usize) -> usize
-    requires row_table_in_bounds { (rowTable ≤ length rows.now) × (n ≤ 4096) × (tapTable ≤ length taps.now) × (m ≤ 256) }
-    requires m_in_bounds { length (textIn rows.now n taps.now m) ≤ length out.old }
-    ensures { PutAll out.old 0 (textIn rows.now n taps.now m) out.new result }
+    requires row_table_in_bounds { (row_table ≤ length rows.now) × (n ≤ 4096) × (tap_table ≤ length taps.now) × (m ≤ 256) }
+    requires m_in_bounds { length (text_in rows.now n taps.now m) ≤ length out.old }
+    ensures { PutAll out.old 0 (text_in rows.now n taps.now m) out.new result }
 {
     let a = put_module_line(out, 0, m);
     let b = verilog_rows::put_wires(out, a, n);
@@ -42,9 +42,9 @@ fn put_text(out: &mut [u8], rows: &[u32], n: usize, taps: &[u32], m: usize) -> u
 
 // The text of a network that passes the checks, if the area has room for it.
 fn write_checked(rows: &[u32], n: usize, taps: &[u32], m: usize, text: &mut [u8]) -> Written
-    requires { (rowTable ≤ length rows.now) × (n ≤ 4096) × (tapTable ≤ length taps.now) × (m ≤ 256) }
-    ensures result_value { answer_of result ≡ lengthAnswer (length text.old) (textIn rows.now n taps.now m) }
-    ensures text_after { text.new ≡ filled (answer_of result) (textIn rows.now n taps.now m) text.old }
+    requires { (row_table ≤ length rows.now) × (n ≤ 4096) × (tap_table ≤ length taps.now) × (m ≤ 256) }
+    ensures result_value { answer_of result ≡ length_answer (length text.old) (text_in rows.now n taps.now m) }
+    ensures text_after { text.new ≡ filled (answer_of result) (text_in rows.now n taps.now m) text.old }
 {
     if text.len() < verilog_length::text_bytes(rows, n, taps, m) {
         return Written::Refused(Refusal::TextTooLong);

@@ -15,9 +15,9 @@ pub record OddPart (m : ℕ) : Type 0 where
   pub product : m ≡ part * 2 ^ shift
 
 -- n bounds m
-odd-part-below : (n m : ℕ) → m ≤ n → 1 ≤ m → OddPart m
-odd-part-below zero m h p = absurd (omega arith)
-odd-part-below (suc n) m h p = go (m % 2) refl (odd-part-below n (m / 2))
+odd_part_below : (n m : ℕ) → m ≤ n → 1 ≤ m → OddPart m
+odd_part_below zero m h p = absurd (omega arith)
+odd_part_below (suc n) m h p = go (m % 2) refl (odd_part_below n (m / 2))
   where
     go : (r : ℕ) → m % 2 ≡ r → (m / 2 ≤ n → 1 ≤ m / 2 → OddPart (m / 2)) → OddPart m
     go zero e ih =
@@ -28,27 +28,27 @@ odd-part-below (suc n) m h p = go (m % 2) refl (odd-part-below n (m / 2))
     go (suc (suc r)) e ih = absurd (omega arith)
 
 pub odd_part : (m : ℕ) → 1 ≤ m → OddPart m
-odd_part m p = odd-part-below m m (omega arith) p
+odd_part m p = odd_part_below m m (omega arith) p
 
-pub one-odd-part : (x y i j : ℕ) → x % 2 ≡ 1 → y % 2 ≡ 1 → x * 2 ^ i ≡ y * 2 ^ j → (x ≡ y) × (i ≡ j)
-one-odd-part x y zero zero p q e = (omega arith, refl)
-one-odd-part x y zero (suc j) p q e = absurd (omega (arith, ap (λ (z : ℕ). y * z) (pow-suc 2 j)))
-one-odd-part x y (suc i) zero p q e = absurd (omega (arith, ap (λ (z : ℕ). x * z) (pow-suc 2 i)))
-one-odd-part x y (suc i) (suc j) p q e =
-    let r = one-odd-part x y i j p q (omega (arith, ap (λ (z : ℕ). x * z) (pow-suc 2 i), ap (λ (z : ℕ). y * z) (pow-suc 2 j))) in
+pub one_odd_part : (x y i j : ℕ) → x % 2 ≡ 1 → y % 2 ≡ 1 → x * 2 ^ i ≡ y * 2 ^ j → (x ≡ y) × (i ≡ j)
+one_odd_part x y zero zero p q e = (omega arith, refl)
+one_odd_part x y zero (suc j) p q e = absurd (omega (arith, ap (λ (z : ℕ). y * z) (pow-suc 2 j)))
+one_odd_part x y (suc i) zero p q e = absurd (omega (arith, ap (λ (z : ℕ). x * z) (pow-suc 2 i)))
+one_odd_part x y (suc i) (suc j) p q e =
+    let r = one_odd_part x y i j p q (omega (arith, ap (λ (z : ℕ). x * z) (pow-suc 2 i), ap (λ (z : ℕ). y * z) (pow-suc 2 j))) in
     (r.0, ap suc r.1)
 
 -- neither factor is above the product
-pub product-above : (x i : ℕ) → 1 ≤ x → (x ≤ x * 2 ^ i) × (2 ^ i ≤ x * 2 ^ i)
-product-above x zero h = omega arith
-product-above x (suc i) h = let p = product-above x i h in omega (arith, pow-suc 2 i, ap (λ (y : ℕ). x * y) (pow-suc 2 i))
+pub product_above : (x i : ℕ) → 1 ≤ x → (x ≤ x * 2 ^ i) × (2 ^ i ≤ x * 2 ^ i)
+product_above x zero h = omega arith
+product_above x (suc i) h = let p = product_above x i h in omega (arith, pow-suc 2 i, ap (λ (y : ℕ). x * y) (pow-suc 2 i))
 
-pub power-above : (i : ℕ) → i < 2 ^ i
-power-above zero = omega arith
-power-above (suc i) = omega (arith, power-above i, pow-suc 2 i)
+pub power_above : (i : ℕ) → i < 2 ^ i
+power_above zero = omega arith
+power_above (suc i) = omega (arith, power_above i, pow-suc 2 i)
 
-pub exponent-below : (i k : ℕ) → 2 ^ i < 2 ^ k → i < k
-exponent-below i k h = lt_of_not-le (λ (g : k ≤ i). omega (arith, pow_mono g))
+pub exponent_below : (i k : ℕ) → 2 ^ i < 2 ^ k → i < k
+exponent_below i k h = lt_of_not-le (λ (g : k ≤ i). omega (arith, pow_mono g))
 
 -- ---- the zeros at the low end, k digits being looked at
 pub low_zeros : (k x i : ℕ) → x % 2 ≡ 1 → i < k → count_trailing_zeros k (x * 2 ^ i) ≡ i
@@ -58,14 +58,14 @@ low_zeros (suc k) x zero o h = rw (mul-one x, o)
 low_zeros (suc k) x (suc i) o h = rw (shifted_even x i, shifted_half x i) (ap suc (low_zeros k x i o (omega arith)))
 
 module _ (k x : ℕ) (l : x < 2 ^ k) where
-  pub zeros-are : (y i : ℕ) → y % 2 ≡ 1 → x ≡ y * 2 ^ i → count_trailing_zeros k x ≡ i
-  zeros-are y i o e = ap (count_trailing_zeros k) e ∙ low_zeros k y i o (exponent-below i k (omega (arith, product-above y i (omega arith))))
+  pub zeros_are : (y i : ℕ) → y % 2 ≡ 1 → x ≡ y * 2 ^ i → count_trailing_zeros k x ≡ i
+  zeros_are y i o e = ap (count_trailing_zeros k) e ∙ low_zeros k y i o (exponent_below i k (omega (arith, product_above y i (omega arith))))
 
   module _ (h : 1 ≤ x) where
-    pub zeros-power : 2 ^ count_trailing_zeros k x ≤ x
-    zeros-power =
+    pub zeros_power : 2 ^ count_trailing_zeros k x ≤ x
+    zeros_power =
         let o = odd_part x h in
-        rw (zeros-are o.part o.shift o.odd o.product) (omega (arith, o.product, product-above o.part o.shift (omega (arith, o.odd))))
+        rw (zeros_are o.part o.shift o.odd o.product) (omega (arith, o.product, product_above o.part o.shift (omega (arith, o.odd))))
 
-    pub zeros-below : count_trailing_zeros k x < k
-    zeros-below = exponent-below (count_trailing_zeros k x) k (omega (arith, zeros-power))
+    pub zeros_below : count_trailing_zeros k x < k
+    zeros_below = exponent_below (count_trailing_zeros k x) k (omega (arith, zeros_power))

@@ -24,20 +24,20 @@ module _ (x : ℤ) where
   none : (m : ℤ) → (m +ℤ pos 0) *ℤ x ≡ m *ℤ x +ℤ pos 0 *ℤ x
   none m = ap (λ (z : ℤ). z *ℤ x) (+ℤ_idr m) ∙ sym (ap (λ (z : ℤ). m *ℤ x +ℤ z) (zero-*ℤ x) ∙ +ℤ_idr (m *ℤ x))
 
-  pub sum-times : (m k : ℤ) → (m +ℤ k) *ℤ x ≡ m *ℤ x +ℤ k *ℤ x
-  sum-times m (pos zero) = none m
-  sum-times m (pos (suc n)) = up m (pos n) (sum-times m (pos n))
-  sum-times m (negsuc zero) = down m (pos 0) (none m)
-  sum-times m (negsuc (suc n)) = down m (negsuc n) (sum-times m (negsuc n))
+  pub sum_times : (m k : ℤ) → (m +ℤ k) *ℤ x ≡ m *ℤ x +ℤ k *ℤ x
+  sum_times m (pos zero) = none m
+  sum_times m (pos (suc n)) = up m (pos n) (sum_times m (pos n))
+  sum_times m (negsuc zero) = down m (pos 0) (none m)
+  sum_times m (negsuc (suc n)) = down m (negsuc n) (sum_times m (negsuc n))
 
-  pub negative-times : (m : ℤ) → neg_ℤ m *ℤ x ≡ neg_ℤ (m *ℤ x)
-  negative-times m = only (m *ℤ x) (neg_ℤ m *ℤ x) (sym (sum-times m (neg_ℤ m)) ∙ ap (λ (z : ℤ). z *ℤ x) (+ℤ_invr m) ∙ zero-*ℤ x)
+  pub negative_times : (m : ℤ) → neg_ℤ m *ℤ x ≡ neg_ℤ (m *ℤ x)
+  negative_times m = only (m *ℤ x) (neg_ℤ m *ℤ x) (sym (sum_times m (neg_ℤ m)) ∙ ap (λ (z : ℤ). z *ℤ x) (+ℤ_invr m) ∙ zero-*ℤ x)
     where
       only : (a b : ℤ) → a +ℤ b ≡ pos 0 → b ≡ neg_ℤ a
       only a b e = sym (+ℤ_idl b) ∙ ap (λ (z : ℤ). z +ℤ b) (sym (+ℤ_invl a)) ∙ +ℤ_assoc (neg_ℤ a) a b ∙ ap (λ (z : ℤ). neg_ℤ a +ℤ z) e ∙ +ℤ_idr (neg_ℤ a)
 
-  pub difference-times : (m k : ℤ) → (m -ℤ k) *ℤ x ≡ m *ℤ x -ℤ k *ℤ x
-  difference-times m k = sum-times m (neg_ℤ k) ∙ ap (λ (z : ℤ). m *ℤ x +ℤ z) (negative-times k)
+  pub difference_times : (m k : ℤ) → (m -ℤ k) *ℤ x ≡ m *ℤ x -ℤ k *ℤ x
+  difference_times m k = sum_times m (neg_ℤ k) ∙ ap (λ (z : ℤ). m *ℤ x +ℤ z) (negative_times k)
 
-  pub one-times : pos 1 *ℤ x ≡ x
-  one-times = suc_ℤ-*ℤ (pos 0) x ∙ ap (λ (z : ℤ). z +ℤ x) (zero-*ℤ x) ∙ +ℤ_idl x
+  pub one_times : pos 1 *ℤ x ≡ x
+  one_times = suc_ℤ-*ℤ (pos 0) x ∙ ap (λ (z : ℤ). z +ℤ x) (zero-*ℤ x) ∙ +ℤ_idl x

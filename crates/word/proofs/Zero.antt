@@ -14,17 +14,17 @@ zero_is (pos zero) e = refl
 zero_is (pos (suc m)) e = absurd (false≢true e)
 zero_is (negsuc m) e = absurd (false≢true e)
 
-pub nonzero-is : (n : ℤ) → n ≢ pos 0 → is_zero n ≡ false
-nonzero-is (pos zero) h = absurd (h refl)
-nonzero-is (pos (suc m)) h = refl
-nonzero-is (negsuc m) h = refl
+pub nonzero_is : (n : ℤ) → n ≢ pos 0 → is_zero n ≡ false
+nonzero_is (pos zero) h = absurd (h refl)
+nonzero_is (pos (suc m)) h = refl
+nonzero_is (negsuc m) h = refl
 
 pub zero_word : (n : ℤ) → SFits w32 n → of_z w32 n ≡ 0 → is_zero n ≡ true
 zero_word (pos zero) f e = refl
 zero_word (pos (suc m)) f e = absurd (omega arith)
 zero_word (negsuc m) f e = absurd (omega (arith, f.sfits))
 
-pub nonzero-word : (n : ℤ) → (of_z w32 n ≡ 0 → ⊥) → is_zero n ≡ false
-nonzero-word (pos zero) h = absurd (h refl)
-nonzero-word (pos (suc m)) h = refl
-nonzero-word (negsuc m) h = refl
+pub nonzero_word : (n : ℤ) → (of_z w32 n ≡ 0 → ⊥) → is_zero n ≡ false
+nonzero_word (pos zero) h = absurd (h refl)
+nonzero_word (pos (suc m)) h = refl
+nonzero_word (negsuc m) h = refl

@@ -11,78 +11,78 @@ use native.Mathlib.Nat.{mul-one}
 use lib.Pow.{pow-lt}
 use Rattle.signed_digit.specs.Digit.{nonzero}
 use Rattle.signed_digit.specs.Masks.{mask}
-use Rattle.form_masks.specs.Form.{stringOf}
+use Rattle.form_masks.specs.Form.{string_of}
 use Rattle.network.specs.declared.Row.{Row}
 use Rattle.network.specs.Rows.{rows_of}
 use Rattle.build_steps.specs.Chain.{chained}
 use Rattle.build_index.specs.Inner.{HasRoom, Grown}
-use Rattle.build_index.proofs.Growth.{grown-none, grown-on}
-use Rattle.build_index.proofs.Room.{same-room}
-use Rattle.build_chain.specs.Inner.{Reading, toCome}
-use Rattle.build_chain.proofs.HighDigits.{chain-none}
-use Rattle.build_chain.proofs.Starts.{some-digit, start-rows, started}
+use Rattle.build_index.proofs.Growth.{grown_none, grown_on}
+use Rattle.build_index.proofs.Room.{same_room}
+use Rattle.build_chain.specs.Inner.{Reading, to_come}
+use Rattle.build_chain.proofs.HighDigits.{chain_none}
+use Rattle.build_chain.proofs.Starts.{some_digit, start_rows, started}
 use Rattle.build_chain.proofs.add_chain.Statement.{statement}
 use Rattle.build_chain.proofs.add_chain.Tie as tie
 
-abbrev invariant-loop : tie.invariant-loop
-invariant-loop table₀ heads₀ links₀ n form mask place chain₀ table heads links chain =
+abbrev invariant_loop : tie.invariant_loop
+invariant_loop table₀ heads₀ links₀ n form mask place chain₀ table heads links chain =
     (length table ≡ length table₀)
     × (length heads ≡ length heads₀)
     × (length links ≡ length links₀)
     × Grown table₀ table heads links chain.rows (rows_of table chain.rows)
     × Reading form chain (rows_of table chain.rows)
-    × (toCome form chain (rows_of table chain.rows) ≡ chained (rows_of table₀ n) (stringOf form))
+    × (to_come form chain (rows_of table chain.rows) ≡ chained (rows_of table₀ n) (string_of form))
 
-abbrev decreases-loop : tie.decreases-loop
-decreases-loop table₀ heads₀ links₀ n form mask place chain₀ table heads links chain = chain.rest
+abbrev decreases_loop : tie.decreases_loop
+decreases_loop table₀ heads₀ links₀ n form mask place chain₀ table heads links chain = chain.rest
 
 -- the masks are words
-plus-fits : (c : tie.After-struct-known invariant-loop decreases-loop) → c.before.before.before.before.args.form.plus < 2 ^ 32
-plus-fits c = omega (arith, c.struct_known.given)
+plus_fits : (c : tie.After-struct-known invariant_loop decreases_loop) → c.before.before.before.before.args.form.plus < 2 ^ 32
+plus_fits c = omega (arith, c.struct_known.given)
 
-minus-fits : (c : tie.After-struct-known invariant-loop decreases-loop) → c.before.before.before.before.args.form.minus < 2 ^ 32
-minus-fits c = omega (arith, c.struct_known.given)
+minus_fits : (c : tie.After-struct-known invariant_loop decreases_loop) → c.before.before.before.before.args.form.minus < 2 ^ 32
+minus_fits c = omega (arith, c.struct_known.given)
 
 -- where the function starts, seen from its loop
-abbrev start : tie.At-loop invariant-loop decreases-loop → tie.Start invariant-loop decreases-loop
+abbrev start : tie.At-loop invariant_loop decreases_loop → tie.Start invariant_loop decreases_loop
 start c = c.before.before.before.before.before.before.before
 
-highest-requires : tie.Need-highest-requires invariant-loop decreases-loop
+highest-requires : tie.Need-highest-requires invariant_loop decreases_loop
 highest-requires c κs =
-    let at-start = c.before.before.before.before in
-    some-digit at-start.args.form (rows_of at-start.args.table.now at-start.args.n) at-start.requires.0.1 (plus-fits c) (minus-fits c)
+    let at_start = c.before.before.before.before in
+    some_digit at_start.args.form (rows_of at_start.args.table.now at_start.args.n) at_start.requires.0.1 (plus_fits c) (minus_fits c)
 
-lifted-requires : tie.Need-lifted-requires invariant-loop decreases-loop
+lifted-requires : tie.Need-lifted-requires invariant_loop decreases_loop
 lifted-requires c κs = let h = c.highest.ensures in (h.2, omega (arith, pow-lt h.2))
 
-sub-t10 : tie.Need-overflow-sub-t10 invariant-loop decreases-loop
+sub-t10 : tie.Need-overflow-sub-t10 invariant_loop decreases_loop
 sub-t10 c = omega (arith, c.lifted.ensures, c.before.highest.ensures.0)
 
-loop-holds : tie.Need-loop-init invariant-loop decreases-loop
+loop-holds : tie.Need-loop-init invariant_loop decreases_loop
 loop-holds c =
     let after-highest = c.before in
     let after-struct-known = after-highest.before in
-    let at-start = after-struct-known.before.before.before.before in
-    let args = at-start.args in
+    let at_start = after-struct-known.before.before.before.before in
+    let args = at_start.args in
     let rows = rows_of args.table.now args.n in
     let highest-result = after-highest.highest.result in
     let highest-ensures = after-highest.highest.ensures in (
       refl,
       refl,
       refl,
-      grown-none args.table.now args.heads.now args.links.now args.n at-start.requires.0.0,
-      rw (c.lifted.ensures, mul-one (2 ^ highest-result)) (started args.form rows at-start.requires.0.1 (plus-fits after-struct-known) (minus-fits after-struct-known) highest-result highest-ensures.0 highest-ensures.1 args.n),
-      start-rows args.form rows at-start.requires.0.1 (plus-fits after-struct-known) (minus-fits after-struct-known) highest-result highest-ensures.0 highest-ensures.1,
+      grown_none args.table.now args.heads.now args.links.now args.n at_start.requires.0.0,
+      rw (c.lifted.ensures, mul-one (2 ^ highest-result)) (started args.form rows at_start.requires.0.1 (plus_fits after-struct-known) (minus_fits after-struct-known) highest-result highest-ensures.0 highest-ensures.1 args.n),
+      start_rows args.form rows at_start.requires.0.1 (plus_fits after-struct-known) (minus_fits after-struct-known) highest-result highest-ensures.0 highest-ensures.1,
     )
 
-turn-requires : tie.Need-turn-requires invariant-loop decreases-loop
+turn-requires : tie.Need-turn-requires invariant_loop decreases_loop
 turn-requires c κs =
     let in-then-1 = c.before.before.before in
     let at-loop = in-then-1.before.before in
-    let at-start = start at-loop in
+    let at_start = start at-loop in
     let loop = at-loop.loop in
-    let args = at-start.args in
-    let r = same-room args.table.now args.links.now loop.table loop.links (length (chained (rows_of args.table.now args.n) (stringOf args.form))) loop.invariant.0 loop.invariant.2 at-start.pre.1 in (
+    let args = at_start.args in
+    let r = same_room args.table.now args.links.now loop.table loop.links (length (chained (rows_of args.table.now args.n) (string_of args.form))) loop.invariant.0 loop.invariant.2 at_start.pre.1 in (
       loop.invariant.3.index,
       (
         (loop.invariant.4, omega (arith, in-then-1.if1.true)),
@@ -90,13 +90,13 @@ turn-requires c κs =
       ),
     )
 
-loop-less : tie.Need-loop-smaller invariant-loop decreases-loop
+loop-less : tie.Need-loop-smaller invariant_loop decreases_loop
 loop-less c =
     let after_table = c.before.before.before.before.before in
     let after_turn_lem = after_table.before in
     after_turn_lem.turn.ensures.less
 
-loop-again : tie.Need-loop-preserved invariant-loop decreases-loop
+loop-again : tie.Need-loop-preserved invariant_loop decreases_loop
 loop-again c =
     let after_table = c.before.before.before.before.before in
     let after_turn_lem = after_table.before in
@@ -108,35 +108,35 @@ loop-again c =
       k.0 ∙ loop.invariant.0,
       k.1.0 ∙ loop.invariant.1,
       k.1.1.0 ∙ loop.invariant.2,
-      grown-on turn-ensures.more loop.invariant.3 turn-ensures.grown,
+      grown_on turn-ensures.more loop.invariant.3 turn-ensures.grown,
       turn-ensures.reading,
       turn-ensures.same ∙ loop.invariant.5,
     )
 
-same_length : tie.Need-same-length invariant-loop decreases-loop
+same_length : tie.Need-same-length invariant_loop decreases_loop
 same_length c =
     let at-loop = c.before.before in
     at-loop.loop.invariant.0
 
-same-length-2 : tie.Need-same-length-2 invariant-loop decreases-loop
+same-length-2 : tie.Need-same-length-2 invariant_loop decreases_loop
 same-length-2 c =
     let at-loop = c.before.before in
     at-loop.loop.invariant.1
 
-same-length-3 : tie.Need-same-length-3 invariant-loop decreases-loop
+same-length-3 : tie.Need-same-length-3 invariant_loop decreases_loop
 same-length-3 c =
     let at-loop = c.before.before in
     at-loop.loop.invariant.2
 
-returns : tie.Need-returns invariant-loop decreases-loop
+returns : tie.Need-returns invariant_loop decreases_loop
 returns c =
     let at-loop = c.before.before in
-    let at-start = start at-loop in
+    let at_start = start at-loop in
     let loop = at-loop.loop in
-    let args = at-start.args in
-    let z : mask nonzero (take loop.chain.place (stringOf args.form)) ≡ 0 = omega (arith, loop.invariant.4.digits.rest, c.if1.false) in
+    let args = at_start.args in
+    let z : mask nonzero (take loop.chain.place (string_of args.form)) ≡ 0 = omega (arith, loop.invariant.4.digits.rest, c.if1.false) in
     record {
-      rows_are = sym (chain-none (rows_of loop.table loop.chain.rows) loop.chain.value 1 (take loop.chain.place (stringOf args.form)) z) ∙ loop.invariant.5;
+      rows_are = sym (chain_none (rows_of loop.table loop.chain.rows) loop.chain.value 1 (take loop.chain.place (string_of args.form)) z) ∙ loop.invariant.5;
       rest = loop.invariant.3.rest;
       index = loop.invariant.3.index;
     }
@@ -145,8 +145,8 @@ pub add-chain-spec : {M : Type 1} → statement M
 add-chain-spec =
     tie.close
     (tie.spec
-    invariant-loop
-    decreases-loop
+    invariant_loop
+    decreases_loop
     highest-requires
     lifted-requires
     sub-t10

@@ -1,11 +1,11 @@
 -- `build_chain::next_digit` meets its contract. The highest bit of the mask is the place of the next nonzero digit, and the form's plus mask tells its
--- sign. 2^gap·v fits a word, since the value at which the chain ends is below 2^31 and the values of a chain do not fall (`raised-fits`).
+-- sign. 2^gap·v fits a word, since the value at which the chain ends is below 2^31 and the values of a chain do not fall (`raised_fits`).
 -- Assumes nothing.
 use borrow.Author.Rules.{rules}
 use Prim.Native.Nat.{◌*◌, ◌-◌, ◌^◌, ◌≤◌, ◌<◌}
 use native.Mathlib.Omega.{arith}
 use native.Mathlib.Nat.{mul-one}
-use Rattle.build_chain.proofs.NextDigit.{before, raised-fits, is-next}
+use Rattle.build_chain.proofs.NextDigit.{before, raised_fits, is_next}
 use Rattle.build_chain.proofs.next_digit.Statement.{statement}
 use Rattle.build_chain.proofs.next_digit.Tie as tie
 
@@ -15,16 +15,16 @@ small c = omega (arith, c.before.struct_known.given)
 below : (c : tie.After-struct-known2) → c.before.before.highest.result < c.before.before.before.args.chain.place
 below c =
     let after-highest = c.before.before in
-    let at-start = after-highest.before in
-    before at-start.args.form at-start.args.chain at-start.requires.0 (small c) after-highest.highest.result after-highest.highest.ensures.0 after-highest.highest.ensures.1
+    let at_start = after-highest.before in
+    before at_start.args.form at_start.args.chain at_start.requires.0 (small c) after-highest.highest.result after-highest.highest.ensures.0 after-highest.highest.ensures.1
 
 fits : (c : tie.After-struct-known2)
     → (2 ≤ 2 ^ (c.before.before.before.args.chain.place - c.before.before.highest.result) * c.before.before.before.args.chain.value)
     × (2 ^ (c.before.before.before.args.chain.place - c.before.before.highest.result) * c.before.before.before.args.chain.value ≤ 2 ^ 31)
 fits c =
     let after-highest = c.before.before in
-    let at-start = after-highest.before in
-    raised-fits at-start.args.form at-start.args.chain at-start.requires.0 (small c) after-highest.highest.result after-highest.highest.ensures.0 after-highest.highest.ensures.1
+    let at_start = after-highest.before in
+    raised_fits at_start.args.form at_start.args.chain at_start.requires.0 (small c) after-highest.highest.result after-highest.highest.ensures.0 after-highest.highest.ensures.1
 
 highest-requires : tie.Need-highest-requires
 highest-requires c κs = search rules
@@ -37,8 +37,8 @@ sub-gap c = omega (arith, below c)
 
 lifted-requires : tie.Need-lifted-requires
 lifted-requires c κs =
-    let at-start = c.before.before.before in
-    (omega (arith, at-start.requires.0.place-to), omega (arith, (fits c).1))
+    let at_start = c.before.before.before in
+    (omega (arith, at_start.requires.0.place_to), omega (arith, (fits c).1))
 
 choose-requires : tie.Need-choose-requires
 choose-requires c κs = search rules
@@ -72,9 +72,9 @@ returns c =
     let after-lifted = after-choose.before in
     let after-struct-known2 = after-lifted.before in
     let after-highest = after-struct-known2.before.before in
-    let at-start = after-highest.before in
+    let at_start = after-highest.before in
     rw (after-choose.choose.ensures, after-choose2.choose2.ensures, after-lifted.lifted.ensures, after-lifted2.lifted2.ensures, mul-one (2 ^ after-highest.highest.result))
-    (is-next at-start.args.form at-start.args.chain at-start.requires.0 (small after-struct-known2) after-highest.highest.result after-highest.highest.ensures.0 after-highest.highest.ensures.1)
+    (is_next at_start.args.form at_start.args.chain at_start.requires.0 (small after-struct-known2) after-highest.highest.result after-highest.highest.ensures.0 after-highest.highest.ensures.1)
 
 pub next-digit-spec : {M : Type 1} → statement M
 next-digit-spec =

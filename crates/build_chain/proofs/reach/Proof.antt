@@ -5,10 +5,10 @@ use mathlib.Core.Path.{◌≡◌, sym, ap, ◌∙◌}
 use native.Mathlib.Omega.{arith}
 use Rattle.refusal.specs.Answer.{nowhere, at_place}
 use Rattle.network.specs.Rows.{rows_of}
-use Rattle.build_steps.specs.Search.{rowWith}
+use Rattle.build_steps.specs.Search.{row_with}
 use Rattle.build_index.specs.Inner.{found_at}
-use Rattle.build_index.proofs.Values.{row-found}
-use Rattle.build_chain.proofs.Turns.{found, added-length, written}
+use Rattle.build_index.proofs.Values.{row_found}
+use Rattle.build_chain.proofs.Turns.{found, added_length, written}
 use Rattle.build_chain.proofs.reach.Statement.{statement}
 use Rattle.build_chain.proofs.reach.Tie as tie
 
@@ -16,18 +16,18 @@ abbrev start : tie.After-find → tie.Start
 start c = c.before.before.before.before.before.before.before
 
 -- what `find` gave
-looked-up : (c : tie.After-find) → found_at c.find.result ≡ rowWith (rows_of (start c).args.table.now (start c).args.n) (start c).args.row.value
-looked-up c = c.find.ensures
+looked_up_lem : (c : tie.After-find) → found_at c.find.result ≡ row_with (rows_of (start c).args.table.now (start c).args.n) (start c).args.row.value
+looked_up_lem c = c.find.ensures
 
-at_row : (c : tie.After-i) → rowWith (rows_of (start c.before.before).args.table.now (start c.before.before).args.n) (start c.before.before).args.row.value ≡ at_place c.i.given.0.0
+at_row : (c : tie.After-i) → row_with (rows_of (start c.before.before).args.table.now (start c.before.before).args.n) (start c.before.before).args.row.value ≡ at_place c.i.given.0.0
 at_row c =
     let after-find = c.before.before in
-    sym (looked-up after-find) ∙ ap found_at c.i.given.1
+    sym (looked_up_lem after-find) ∙ ap found_at c.i.given.1
 
-no_row : (c : tie.After-enum-told) → rowWith (rows_of (start c.before.before).args.table.now (start c.before.before).args.n) (start c.before.before).args.row.value ≡ nowhere
+no_row : (c : tie.After-enum-told) → row_with (rows_of (start c.before.before).args.table.now (start c.before.before).args.n) (start c.before.before).args.row.value ≡ nowhere
 no_row c =
     let after-find = c.before.before in
-    sym (looked-up after-find) ∙ ap found_at c.enum_told.given.1
+    sym (looked_up_lem after-find) ∙ ap found_at c.enum_told.given.1
 
 find-requires : tie.Need-find-requires
 find-requires c κs = search rules
@@ -39,8 +39,8 @@ cast-t15 : tie.Need-overflow-cast-t15
 cast-t15 c =
     let after-i = c.before in
     let after-find = after-i.before.before in
-    let at-start = start after-find in
-    record { fits = omega (arith, (row-found at-start.args.table.now at-start.args.n at-start.args.row.value after-i.i.given.0.0 (at_row after-i)).0, at-start.pre.0.few) }
+    let at_start = start after-find in
+    record { fits = omega (arith, (row_found at_start.args.table.now at_start.args.n at_start.args.row.value after-i.i.given.0.0 (at_row after-i)).0, at_start.pre.0.few) }
 
 enum_told : tie.Need-enum-told
 enum_told c = search rules
@@ -49,10 +49,10 @@ put-requires : tie.Need-put-requires
 put-requires c κs =
     let after-enum-told = c.before.before.before in
     let after-find = after-enum-told.before.before in
-    let at-start = start after-find in
-    let r = at-start.pre.1 in
-    let e = added-length at-start.args.table.now at-start.args.n at-start.args.row (no_row after-enum-told) in
-    (at-start.pre.0, ((omega (arith, e, r.few), omega (arith, e, r.words), omega (arith, e, r.linked)), no_row after-enum-told))
+    let at_start = start after-find in
+    let r = at_start.pre.1 in
+    let e = added_length at_start.args.table.now at_start.args.n at_start.args.row (no_row after-enum-told) in
+    (at_start.pre.0, ((omega (arith, e, r.few), omega (arith, e, r.words), omega (arith, e, r.linked)), no_row after-enum-told))
 
 add-t23 : tie.Need-overflow-add-t23
 add-t23 c = search rules
@@ -73,8 +73,8 @@ returns : tie.Need-returns
 returns c =
     let after-i = c.before in
     let after-find = after-i.before.before in
-    let at-start = start after-find in
-    found at-start.args.table.now at-start.args.n at-start.args.row at-start.args.heads.now at-start.args.links.now after-i.i.given.0.0 at-start.pre.0 (at_row after-i)
+    let at_start = start after-find in
+    found at_start.args.table.now at_start.args.n at_start.args.row at_start.args.heads.now at_start.args.links.now after-i.i.given.0.0 at_start.pre.0 (at_row after-i)
 
 same-length-4 : tie.Need-same-length-4
 same-length-4 c = search rules
@@ -91,8 +91,8 @@ returns-2 c =
     let after-put = after_table.before in
     let after-enum-told = after-put.before.before.before.before in
     let after-find = after-enum-told.before.before in
-    let at-start = start after-find in
-    written at-start.args.table.now at-start.args.n at-start.args.row (no_row after-enum-told) after-put.put.new.0 after-put.put.new.1.0 after-put.put.new.1.1.0 after-put.put.ensures
+    let at_start = start after-find in
+    written at_start.args.table.now at_start.args.n at_start.args.row (no_row after-enum-told) after-put.put.new.0 after-put.put.new.1.0 after-put.put.new.1.1.0 after-put.put.ensures
 
 pub reach-spec : {M : Type 1} → statement M
 reach-spec =

@@ -6,10 +6,10 @@ use lib.ListN.{length}
 use lib.Seq.{sets}
 use borrow.Author.Rules.{rules}
 use Rattle.network.specs.declared.Row.{Row}
-use Rattle.network.specs.Rows.{rowWords, wordsOfRow}
-use Rattle.network.proofs.Items.{new-item, old-item, items-written, rest-kept, length-written}
-use Rattle.network.proofs.Tables.{row-layout}
-use Rattle.build_index.proofs.Chains.{indexed-next}
+use Rattle.network.specs.Rows.{row_words, words_of_row}
+use Rattle.network.proofs.Items.{new_item, old_item, items_written, rest_kept, length_written}
+use Rattle.network.proofs.Tables.{row_layout}
+use Rattle.build_index.proofs.Chains.{indexed_next}
 use Rattle.build_index.proofs.put.Statement.{statement}
 use Rattle.build_index.proofs.put.Tie as tie
 
@@ -32,21 +32,21 @@ returns : tie.Need-returns
 returns c =
     let after-enter = c.before.before.before.before in
     let after-write-row = after-enter.before.before.before.before.before in
-    let at-start = after-write-row.before.before.before.before.before in
-    let table = at-start.args.table.now in
-    let n = at-start.args.n in
-    let row = at-start.args.row in
+    let at_start = after-write-row.before.before.before.before.before in
+    let table = at_start.args.table.now in
+    let n = at_start.args.n in
+    let row = at_start.args.row in
     let write-row-ensures = after-write-row.write-row.ensures in
     let enter-ensures = after-enter.enter.ensures in
-    let room = at-start.requires.1.0.1 in
-    let written = sets table (rowWords * n) (wordsOfRow row) in
-    let still-room : rowWords * n + rowWords ≤ length written = omega (arith, length-written row-layout table n row, room) in
+    let room = at_start.requires.1.0.1 in
+    let written = sets table (row_words * n) (words_of_row row) in
+    let still-room : row_words * n + row_words ≤ length written = omega (arith, length_written row_layout table n row, room) in
     rw (write-row-ensures, enter-ensures.0, enter-ensures.1)
     (record {
-      rows_are = items-written row-layout table n row room;
-      rest = rest-kept row-layout table n row room;
-      index = indexed-next table written at-start.args.heads.now at-start.args.links.now n row.value at-start.requires.0 (ap (λ (x : Row). x.value) (new-item row-layout table n row room))
-          (λ i l. ap (λ (x : Row). x.value) (old-item row-layout table n row room i l)) at-start.requires.1.0.0 still-room at-start.requires.1.0.2 at-start.requires.1.1;
+      rows_are = items_written row_layout table n row room;
+      rest = rest_kept row_layout table n row room;
+      index = indexed_next table written at_start.args.heads.now at_start.args.links.now n row.value at_start.requires.0 (ap (λ (x : Row). x.value) (new_item row_layout table n row room))
+          (λ i l. ap (λ (x : Row). x.value) (old_item row_layout table n row room i l)) at_start.requires.1.0.0 still-room at_start.requires.1.0.2 at_start.requires.1.1;
     })
 
 pub put_spec : {M : Type 1} → statement M

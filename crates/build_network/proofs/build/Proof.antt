@@ -1,4 +1,4 @@
--- `build_network::build` meets its contract. Each test of the code is one check of `buildAnswer`, in the order of document 01's table; a refusal leaves both tables
+-- `build_network::build` meets its contract. Each test of the code is one check of `build_answer`, in the order of document 01's table; a refusal leaves both tables
 -- as they were. Past the last test every check is passed, and `build_accepted` writes the network. Assumes nothing.
 use borrow.Author.Rules.{rules}
 use mathlib.Core.Path.{◌≡◌, sym, ap, ◌∙◌}
@@ -6,14 +6,14 @@ use mathlib.Core.Bool.{Bool, false}
 use Prim.Native.Nat.{ℕ, ◌≤◌}
 use native.Mathlib.Omega.{arith}
 use lib.ListN.{length}
-use Rattle.refusal.specs.Answer.{nowhere, placeOr, refused}
+use Rattle.refusal.specs.Answer.{nowhere, place_or, refused}
 use Rattle.refusal.proofs.Checks.{found, found_none}
-use Rattle.network.specs.Rows.{rowTable, tapTable}
-use Rattle.build_steps.specs.Answer.{Choice, choicesOf, noSuchForm, buildAnswer, missingForm}
+use Rattle.network.specs.Rows.{row_table, tap_table}
+use Rattle.build_steps.specs.Answer.{Choice, choices_of, no_such_form, build_answer, missing_form}
 use Rattle.build_steps.specs.CanBuild.{CanBuildInto}
 use Rattle.build_steps.specs.Built.{BuiltInto}
-use Rattle.build_steps.proofs.Answers.{short, forms-exist, length-choices, no-taps, too_many, too_short, no-form, network-given}
-use Rattle.build_network.proofs.Answers.{turned_down, network-left, short-choices, short-rows, short-taps, none-short}
+use Rattle.build_steps.proofs.Answers.{short, forms_exist, length_choices, no_taps, too_many, too_short, no_form_lem, network_given}
+use Rattle.build_network.proofs.Answers.{turned_down, network_left, short_choices, short_rows, short_taps, none_short}
 use Rattle.build_network.proofs.build.Statement.{statement}
 use Rattle.build_network.proofs.build.Tie as tie
 
@@ -33,8 +33,8 @@ few c = omega (arith, c.if2.false)
 -- every table is long enough
 record Long (c : tie.After-first-without-form) : Type 0 where
   choices : length (start (within c)).args.coefficients.now ≤ length (start (within c)).args.choices.now
-  rows : rowTable ≤ length (start (within c)).args.rows.now
-  taps : tapTable ≤ length (start (within c)).args.taps.now
+  rows : row_table ≤ length (start (within c)).args.rows.now
+  taps : tap_table ≤ length (start (within c)).args.taps.now
 
 lengths : (c : tie.After-first-without-form) → Long c
 lengths c =
@@ -47,27 +47,27 @@ long : (c : tie.After-first-without-form) → short (start (within c)).args.coef
 long c =
     let args = (start (within c)).args in
     let l = lengths c in
-    none-short args.coefficients.now args.choices.now args.rows.now args.taps.now l.choices l.rows l.taps
+    none_short args.coefficients.now args.choices.now args.rows.now args.taps.now l.choices l.rows l.taps
 
 -- check 9
 abbrev breaks : Choice → Bool
-breaks c = noSuchForm c.tap c.number
+breaks c = no_such_form c.tap c.number
 
-taps-are : (c : tie.After-first-without-form) → length (choicesOf (start (within c)).args.coefficients.now (start (within c)).args.choices.now) ≡ length (start (within c)).args.coefficients.now
-taps-are c = let args = (start (within c)).args in length-choices args.coefficients.now args.choices.now (lengths c).choices
+taps_are : (c : tie.After-first-without-form) → length (choices_of (start (within c)).args.coefficients.now (start (within c)).args.choices.now) ≡ length (start (within c)).args.coefficients.now
+taps_are c = let args = (start (within c)).args in length_choices args.coefficients.now args.choices.now (lengths c).choices
 
 place_is : (c : tie.After-first-without-form)
     → c.first-without-form.result
-    ≡ placeOr (length (choicesOf (start (within c)).args.coefficients.now (start (within c)).args.choices.now)) (missingForm (start (within c)).args.coefficients.now (start (within c)).args.choices.now)
+    ≡ place_or (length (choices_of (start (within c)).args.coefficients.now (start (within c)).args.choices.now)) (missing_form (start (within c)).args.coefficients.now (start (within c)).args.choices.now)
 place_is c =
     let args = (start (within c)).args in
-    c.first-without-form.ensures.0 ∙ ap (λ (n : ℕ). placeOr n (missingForm args.coefficients.now args.choices.now)) (sym (taps-are c))
+    c.first-without-form.ensures.0 ∙ ap (λ (n : ℕ). place_or n (missing_form args.coefficients.now args.choices.now)) (sym (taps_are c))
 
-all-forms : (c : tie.Else6) → missingForm (start (within c.before)).args.coefficients.now (start (within c.before)).args.choices.now ≡ nowhere
-all-forms c =
+all_forms : (c : tie.Else6) → missing_form (start (within c.before)).args.coefficients.now (start (within c.before)).args.choices.now ≡ nowhere
+all_forms c =
     let after-first-without-form = c.before in
     let args = (start (within after-first-without-form)).args in
-    found_none breaks (choicesOf args.coefficients.now args.choices.now) after-first-without-form.first-without-form.result (length args.coefficients.now) (place_is after-first-without-form) (taps-are after-first-without-form) (omega (arith, c.if6.false))
+    found_none breaks (choices_of args.coefficients.now args.choices.now) after-first-without-form.first-without-form.result (length args.coefficients.now) (place_is after-first-without-form) (taps_are after-first-without-form) (omega (arith, c.if6.false))
 
 accepted : (c : tie.Else6)
     → CanBuildInto (start (within c.before)).args.coefficients.now (start (within c.before)).args.choices.now (start (within c.before)).args.rows.now (start (within c.before)).args.taps.now
@@ -77,51 +77,51 @@ accepted c =
     let l = lengths after-first-without-form in
     record {
       some = some (within after-first-without-form);
-      can-build = record {
+      can_build = record {
         few = few (within after-first-without-form);
         enough = l.choices;
         bounds = λ i h. after-first-without-form.first-without-form.ensures.1 i (omega (arith, c.if6.false));
-        forms = forms-exist args.coefficients.now args.choices.now l.choices (all-forms c);
+        forms = forms_exist args.coefficients.now args.choices.now l.choices (all_forms c);
       };
       rows_long = l.rows;
-      taps-long = l.taps;
+      taps_long = l.taps;
     }
 
 -- a refusal leaves the tables as they were
-refusal : (s : tie.Start) (number place : ℕ) → buildAnswer s.args.coefficients.now s.args.choices.now s.args.rows.now s.args.taps.now ≡ refused number place
+refusal : (s : tie.Start) (number place : ℕ) → build_answer s.args.coefficients.now s.args.choices.now s.args.rows.now s.args.taps.now ≡ refused number place
     → BuiltInto s.args.coefficients.now s.args.choices.now s.args.rows.now s.args.taps.now (refused number place) s.args.rows.now s.args.taps.now
 refusal s number place e = turned_down s.args.coefficients.now s.args.choices.now s.args.rows.now s.args.taps.now number place e
 
 returns : tie.Need-returns
 returns c =
-    let at-start = c.before.before.before.before in
-    let args = at-start.args in refusal at-start 1 0 (no-taps args.coefficients.now args.choices.now args.rows.now args.taps.now (omega (arith, c.if1.true)))
+    let at_start = c.before.before.before.before in
+    let args = at_start.args in refusal at_start 1 0 (no_taps args.coefficients.now args.choices.now args.rows.now args.taps.now (omega (arith, c.if1.true)))
 
 returns-2 : tie.Need-returns-2
 returns-2 c =
-    let at-start = c.before.before.before.before.before in
-    let args = at-start.args in refusal at-start 2 0 (too_many args.coefficients.now args.choices.now args.rows.now args.taps.now (omega (arith, c.if2.true)))
+    let at_start = c.before.before.before.before.before in
+    let args = at_start.args in refusal at_start 2 0 (too_many args.coefficients.now args.choices.now args.rows.now args.taps.now (omega (arith, c.if2.true)))
 
 returns-3 : tie.Need-returns-3
 returns-3 c =
     let in-else-2 = c.before in
-    let at-start = start in-else-2 in
-    let args = at-start.args in
-    refusal at-start 3 0 (too_short args.coefficients.now args.choices.now args.rows.now args.taps.now (some in-else-2) (few in-else-2) (short-choices args.coefficients.now args.choices.now args.rows.now args.taps.now (omega (arith, c.if3.true))))
+    let at_start = start in-else-2 in
+    let args = at_start.args in
+    refusal at_start 3 0 (too_short args.coefficients.now args.choices.now args.rows.now args.taps.now (some in-else-2) (few in-else-2) (short_choices args.coefficients.now args.choices.now args.rows.now args.taps.now (omega (arith, c.if3.true))))
 
 returns-4 : tie.Need-returns-4
 returns-4 c =
     let in-else-2 = c.before.before in
-    let at-start = in-else-2.before.before.before.before.before in
-    let args = at-start.args in
-    refusal at-start 3 0 (too_short args.coefficients.now args.choices.now args.rows.now args.taps.now (some in-else-2) (few in-else-2) (short-rows args.coefficients.now args.choices.now args.rows.now args.taps.now (omega (arith, c.if4.true))))
+    let at_start = in-else-2.before.before.before.before.before in
+    let args = at_start.args in
+    refusal at_start 3 0 (too_short args.coefficients.now args.choices.now args.rows.now args.taps.now (some in-else-2) (few in-else-2) (short_rows args.coefficients.now args.choices.now args.rows.now args.taps.now (omega (arith, c.if4.true))))
 
 returns-5 : tie.Need-returns-5
 returns-5 c =
     let in-else-2 = c.before.before.before in
-    let at-start = in-else-2.before.before.before.before.before in
-    let args = at-start.args in
-    refusal at-start 3 0 (too_short args.coefficients.now args.choices.now args.rows.now args.taps.now (some in-else-2) (few in-else-2) (short-taps args.coefficients.now args.choices.now args.rows.now args.taps.now (omega (arith, c.if5.true))))
+    let at_start = in-else-2.before.before.before.before.before in
+    let args = at_start.args in
+    refusal at_start 3 0 (too_short args.coefficients.now args.choices.now args.rows.now args.taps.now (some in-else-2) (few in-else-2) (short_taps args.coefficients.now args.choices.now args.rows.now args.taps.now (omega (arith, c.if5.true))))
 
 first-without-form-requires : tie.Need-first-without-form-requires
 first-without-form-requires c κs = search rules
@@ -133,10 +133,10 @@ returns-6 : tie.Need-returns-6
 returns-6 c =
     let after-first-without-form = c.before in
     let w = within after-first-without-form in
-    let at-start = start w in
-    let args = at-start.args in
-    let h = found breaks (choicesOf args.coefficients.now args.choices.now) after-first-without-form.first-without-form.result (length args.coefficients.now) (place_is after-first-without-form) (taps-are after-first-without-form) (omega (arith, c.if6.true)) in
-    refusal at-start 9 after-first-without-form.first-without-form.result (no-form args.coefficients.now args.choices.now args.rows.now args.taps.now (some w) (few w) after-first-without-form.first-without-form.result (long after-first-without-form) h)
+    let at_start = start w in
+    let args = at_start.args in
+    let h = found breaks (choices_of args.coefficients.now args.choices.now) after-first-without-form.first-without-form.result (length args.coefficients.now) (place_is after-first-without-form) (taps_are after-first-without-form) (omega (arith, c.if6.true)) in
+    refusal at_start 9 after-first-without-form.first-without-form.result (no_form_lem args.coefficients.now args.choices.now args.rows.now args.taps.now (some w) (few w) after-first-without-form.first-without-form.result (long after-first-without-form) h)
 
 build-accepted-requires : tie.Need-build-accepted-requires
 build-accepted-requires c κs =
@@ -160,10 +160,10 @@ returns-7 c =
     let in-else-6 = after-build-accepted.before.before.before in
     let after-first-without-form = in-else-6.before in
     let w = within after-first-without-form in
-    let at-start = start w in
-    let args = at-start.args in
-    let e = network-given args.coefficients.now args.choices.now args.rows.now args.taps.now (some w) (few w) (long after-first-without-form) (all-forms in-else-6) in
-    network-left args.coefficients.now args.choices.now args.rows.now args.taps.now after-build-accepted.build-accepted.new.1.1.0 after-build-accepted.build-accepted.new.1.1.1.0 after-build-accepted.build-accepted.result e after-build-accepted.build-accepted.ensures
+    let at_start = start w in
+    let args = at_start.args in
+    let e = network_given args.coefficients.now args.choices.now args.rows.now args.taps.now (some w) (few w) (long after-first-without-form) (all_forms in-else-6) in
+    network_left args.coefficients.now args.choices.now args.rows.now args.taps.now after-build-accepted.build-accepted.new.1.1.0 after-build-accepted.build-accepted.new.1.1.1.0 after-build-accepted.build-accepted.result e after-build-accepted.build-accepted.ensures
 
 pub build-spec : {M : Type 1} → statement M
 build-spec =

@@ -1,4 +1,4 @@
--- `build_part::add_part` meets its contract. The two matches are the three steps of `step`: what `find` says of the value opens `lookedUp`, and what `first_fit`
+-- `build_part::add_part` meets its contract. The two matches are the three steps of `step`: what `find` says of the value opens `looked_up`, and what `first_fit`
 -- says opens `searched`. The room is that of the rows after the step, whichever it is. Assumes nothing.
 use borrow.Author.Rules.{rules}
 use mathlib.Core.Path.{◌≡◌, sym, ap, subst, ◌∙◌}
@@ -8,19 +8,19 @@ use native.Mathlib.Omega.{arith}
 use lib.ListN.{length}
 use Rattle.refusal.specs.Answer.{nowhere}
 use Rattle.form_masks.specs.declared.Form.{Form}
-use Rattle.form_masks.specs.Form.{stringOf}
+use Rattle.form_masks.specs.Form.{string_of}
 use Rattle.network.specs.declared.Row.{Row}
 use Rattle.network.specs.Rows.{rows_of}
 use Rattle.build_steps.specs.Parts.{Part}
-use Rattle.build_steps.specs.Search.{rowWith, fit, none-fits, firstFit}
+use Rattle.build_steps.specs.Search.{row_with, fit, none_fits, first_fit_of}
 use Rattle.build_steps.specs.Chain.{chained}
 use Rattle.build_steps.specs.Steps.{step}
 use Rattle.build_index.specs.Inner.{HasRoom, Grown, found_at}
-use Rattle.build_index.proofs.Growth.{grown-none}
-use Rattle.build_pair.specs.Inner.{fitOf}
+use Rattle.build_index.proofs.Growth.{grown_none}
+use Rattle.build_pair.specs.Inner.{fit_of}
 use Rattle.build_chain.specs.Inner.{Readable}
 use Rattle.build_part.specs.Inner.{part_of}
-use Rattle.build_part.proofs.Searches.{row-used, searchable, fit-added, fit_length, fit-new, readable, chain-added}
+use Rattle.build_part.proofs.Searches.{row_used, searchable, fit_added, fit_length, fit_new, readable, chain_added}
 use Rattle.build_part.proofs.add_part.Statement.{statement}
 use Rattle.build_part.proofs.add_part.Tie as tie
 
@@ -42,20 +42,20 @@ rows s = rows_of s.args.table.now s.args.n
 abbrev part : tie.Start → Part
 part s = part_of s.args.v s.args.choice
 
-missing : (c : tie.After-enum-told2) → rowWith (rows (entry c)) (entry c).args.v ≡ nowhere
+missing : (c : tie.After-enum-told2) → row_with (rows (entry c)) (entry c).args.v ≡ nowhere
 missing c =
     let after-find = c.before.before in
     sym after-find.find.ensures ∙ ap found_at c.enum-told2.given.1
 
-fits : (c : tie.After-row) → firstFit (rows (entry (unfound c.before.before))) (entry (unfound c.before.before)).args.v ≡ fit c.row.given.0.0
+fits : (c : tie.After-row) → first_fit_of (rows (entry (unfound c.before.before))) (entry (unfound c.before.before)).args.v ≡ fit c.row.given.0.0
 fits c =
     let after-first-fit = c.before.before in
-    sym after-first-fit.first-fit.ensures ∙ ap fitOf c.row.given.1
+    sym after-first-fit.first_fit_lem.ensures ∙ ap fit_of c.row.given.1
 
-none : (c : tie.After-enum-told3) → firstFit (rows (entry (unfound c.before.before))) (entry (unfound c.before.before)).args.v ≡ none-fits
+none : (c : tie.After-enum-told3) → first_fit_of (rows (entry (unfound c.before.before))) (entry (unfound c.before.before)).args.v ≡ none_fits
 none c =
     let after-first-fit = c.before.before in
-    sym after-first-fit.first-fit.ensures ∙ ap fitOf c.enum-told3.given.1
+    sym after-first-fit.first_fit_lem.ensures ∙ ap fit_of c.enum-told3.given.1
 
 find-requires : tie.Need-find-requires
 find-requires c κs = search rules
@@ -86,7 +86,7 @@ put-requires c κs =
     let row = after-row.row.given.0.0 in
     let e = fit_length a.table.now a.heads.now a.links.now a.values.now a.marks.now a.n a.most (part s) s.pre (missing u) row (fits after-row) in
     let r = s.pre.room in
-    (s.pre.index, ((omega (arith, e, r.few), omega (arith, e, r.words), omega (arith, e, r.linked)), fit-new a.table.now a.heads.now a.links.now a.values.now a.marks.now a.n a.most (part s) s.pre (missing u) row (fits after-row)))
+    (s.pre.index, ((omega (arith, e, r.few), omega (arith, e, r.words), omega (arith, e, r.linked)), fit_new a.table.now a.heads.now a.links.now a.values.now a.marks.now a.n a.most (part s) s.pre (missing u) row (fits after-row)))
 
 add-result : tie.Need-overflow-add-result
 add-result c = search rules
@@ -101,7 +101,7 @@ chosen-form-requires c κs =
 
 -- the rows of the chosen form's chain
 chain : (c : tie.After-chosen-form)
-    → chained (rows (entry (unfound c.before.before.before))) (stringOf c.chosen-form.result)
+    → chained (rows (entry (unfound c.before.before.before))) (string_of c.chosen_form_lem.result)
     ≡ step (rows (entry (unfound c.before.before.before))) (part (entry (unfound c.before.before.before)))
 chain c =
     let after-enum-told3 = c.before in
@@ -109,7 +109,7 @@ chain c =
     let u = unfound after-first-fit in
     let s = entry u in
     let a = s.args in
-    ap (λ (x : Form). chained (rows s) (stringOf x)) c.chosen-form.ensures ∙ chain-added a.table.now a.heads.now a.links.now a.values.now a.marks.now a.n a.most (part s) s.pre (missing u) (none after-enum-told3)
+    ap (λ (x : Form). chained (rows s) (string_of x)) c.chosen_form_lem.ensures ∙ chain_added a.table.now a.heads.now a.links.now a.values.now a.marks.now a.n a.most (part s) s.pre (missing u) (none after-enum-told3)
 
 add-chain-requires : tie.Need-add-chain-requires
 add-chain-requires c κs =
@@ -117,7 +117,7 @@ add-chain-requires c κs =
     let after-first-fit = after-chosen-form.before.before.before in
     let s = entry (unfound after-first-fit) in
     let a = s.args in (
-      (s.pre.index, subst (λ (x : Form). Readable x (rows s)) (sym after-chosen-form.chosen-form.ensures) (readable a.table.now a.heads.now a.links.now a.values.now a.marks.now a.n a.most (part s) s.pre)),
+      (s.pre.index, subst (λ (x : Form). Readable x (rows s)) (sym after-chosen-form.chosen_form_lem.ensures) (readable a.table.now a.heads.now a.links.now a.values.now a.marks.now a.n a.most (part s) s.pre)),
       subst (λ (x : List Row). HasRoom a.table.now a.links.now (length x)) (sym (chain after-chosen-form)) s.pre.room,
     )
 
@@ -133,10 +133,10 @@ same-length-3 c = search rules
 returns : tie.Need-returns
 returns c =
     let after-find = c.before.before in
-    let at-start = start after-find in
-    let args = at-start.args in
+    let at_start = start after-find in
+    let args = at_start.args in
     let e = sym after-find.find.ensures ∙ ap found_at c.enum_told.given.1 in
-    subst (Grown args.table.now args.table.now args.heads.now args.links.now args.n) (row-used args.table.now args.heads.now args.links.now args.values.now args.marks.now args.n args.most (part at-start) at-start.pre c.enum_told.given.0.0 e) (grown-none args.table.now args.heads.now args.links.now args.n at-start.pre.index)
+    subst (Grown args.table.now args.table.now args.heads.now args.links.now args.n) (row_used args.table.now args.heads.now args.links.now args.values.now args.marks.now args.n args.most (part at_start) at_start.pre c.enum_told.given.0.0 e) (grown_none args.table.now args.heads.now args.links.now args.n at_start.pre.index)
 
 same-length-4 : tie.Need-same-length-4
 same-length-4 c = search rules
@@ -156,7 +156,7 @@ returns-2 c =
     let u = unfound after-first-fit in
     let s = entry u in
     let a = s.args in
-    subst (Grown a.table.now after-put.put.new.0 after-put.put.new.1.0 after-put.put.new.1.1.0 (a.n + 1)) (fit-added a.table.now a.heads.now a.links.now a.values.now a.marks.now a.n a.most (part s) s.pre (missing u) after-row.row.given.0.0 (fits after-row)) after-put.put.ensures
+    subst (Grown a.table.now after-put.put.new.0 after-put.put.new.1.0 after-put.put.new.1.1.0 (a.n + 1)) (fit_added a.table.now a.heads.now a.links.now a.values.now a.marks.now a.n a.most (part s) s.pre (missing u) after-row.row.given.0.0 (fits after-row)) after-put.put.ensures
 
 same-length-7 : tie.Need-same-length-7
 same-length-7 c = search rules

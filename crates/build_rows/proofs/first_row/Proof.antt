@@ -3,13 +3,13 @@ use borrow.Author.Rules.{rules}
 use mathlib.Core.Path.{refl}
 use mathlib.Core.List.{[], ◌∷◌}
 use native.Mathlib.Omega.{arith}
-use Rattle.refusal.specs.Answer.{lowestFrom}
+use Rattle.refusal.specs.Answer.{lowest_from}
 use Rattle.sequence.specs.UpTo.{up_to}
-use Rattle.network.specs.Rows.{firstRow}
-use Rattle.build_steps.specs.Search.{rowWith}
+use Rattle.network.specs.Rows.{first_row_of}
+use Rattle.build_steps.specs.Search.{row_with}
 use Rattle.build_index.specs.Inner.{Grown}
-use Rattle.build_sieve.proofs.Sieves.{sieve-kept}
-use Rattle.build_rows.proofs.Sieved.{first-bounded}
+use Rattle.build_sieve.proofs.Sieves.{sieve_kept}
+use Rattle.build_rows.proofs.Sieved.{first_bounded}
 use Rattle.build_rows.proofs.first_row.Statement.{statement}
 use Rattle.build_rows.proofs.first_row.Tie as tie
 
@@ -17,26 +17,26 @@ abbrev start : tie.After-put → tie.Start
 start c = c.before.before.before.before.before.before.before.before.before
 
 put-requires : tie.Need-put-requires
-unfolding rowWith lowestFrom up_to
+unfolding row_with lowest_from up_to
 put-requires c κs =
-    let at-start = c.before.before.before.before.before.before.before.before in
-    let room = at-start.requires.0.1 in
-    (at-start.requires.0.0, ((omega arith, omega (arith, room.words), omega (arith, room.linked)), refl))
+    let at_start = c.before.before.before.before.before.before.before.before in
+    let room = at_start.requires.0.1 in
+    (at_start.requires.0.0, ((omega arith, omega (arith, room.words), omega (arith, room.linked)), refl))
 
 -- row 0 is there
-row-0-put : (c : tie.After-put) → Grown (start c).args.table.now c.put.new.0 c.put.new.1.0 c.put.new.1.1.0 1 (firstRow ∷ [])
+row_0_put : (c : tie.After-put) → Grown (start c).args.table.now c.put.new.0 c.put.new.1.0 c.put.new.1.1.0 1 (first_row_of ∷ [])
 unfolding up_to
-row-0-put c = c.put.ensures
+row_0_put c = c.put.ensures
 
 extend-requires : tie.Need-extend-requires
 extend-requires c κs =
     let after-put = c.before.before.before.before.before.before.before.before.before in
-    let at-start = start after-put in
-    let a = at-start.args in
+    let at_start = start after-put in
+    let a = at_start.args in
     let t = after-put.put.new.0 in
-    let g = row-0-put after-put in (
-      (sieve-kept a.table.now t a.values.now a.marks.now 0 (λ i l. absurd (omega arith)) at-start.pre.1.0, omega arith, omega (arith, at-start.pre.1.1), g.index.room, g.index.few),
-      first-bounded a.table.now t after-put.put.new.1.0 after-put.put.new.1.1.0 g,
+    let g = row_0_put after-put in (
+      (sieve_kept a.table.now t a.values.now a.marks.now 0 (λ i l. absurd (omega arith)) at_start.pre.1.0, omega arith, omega (arith, at_start.pre.1.1), g.index.room, g.index.few),
+      first_bounded a.table.now t after-put.put.new.1.0 after-put.put.new.1.1.0 g,
     )
 
 same_length : tie.Need-same-length
@@ -58,7 +58,7 @@ returns : tie.Need-returns
 returns c =
     let after-extend = c.before.before.before.before in
     let after-put = after-extend.before.before.before.before.before.before.before.before.before.before in
-    (row-0-put after-put, after-extend.extend.ensures)
+    (row_0_put after-put, after-extend.extend.ensures)
 
 pub first-row-spec : {M : Type 1} → statement M
 first-row-spec =

@@ -8,8 +8,8 @@ use Rattle.build_sieve.proofs.mark_of.Statement.{statement}
 use Rattle.build_sieve.proofs.mark_of.Tie as tie
 
 -- of any dividend a
-quotient-over : (a d : ℕ) → 0 < d → a < (a / d + 1) * d
-quotient-over a d h = omega (arith, add-mul (a / d) 1 d, one-mul d, div-add-mod' a d, mod-lt a h)
+quotient_over : (a d : ℕ) → 0 < d → a < (a / d + 1) * d
+quotient_over a d h = omega (arith, add-mul (a / d) 1 d, one-mul d, div-add-mod' a d, mod-lt a h)
 
 narrow-requires : tie.Need-narrow-requires
 narrow-requires c κs = search rules
@@ -30,7 +30,7 @@ returns : tie.Need-returns
 returns c =
     let i = c.before.args.i in
     let e : c.narrow.result ≡ i = c.narrow.ensures in
-    subst (λ (k : ℕ). 127 < (127 / (k + 1) + 1) * (i + 1)) (sym e) (quotient-over 127 (i + 1) (omega arith))
+    subst (λ (k : ℕ). 127 < (127 / (k + 1) + 1) * (i + 1)) (sym e) (quotient_over 127 (i + 1) (omega arith))
 
 pub mark-of-spec : {M : Type 1} → statement M
 mark-of-spec = tie.close (tie.spec narrow-requires add-result div-result add-result-2 cast-result returns)

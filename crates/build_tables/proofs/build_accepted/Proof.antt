@@ -5,8 +5,8 @@ use Prim.Native.Nat.{◌+◌, ◌≤◌}
 use native.Mathlib.Omega.{arith}
 use mathlib.Core.Path.{◌≡◌}
 use lib.ListN.{length}
-use Rattle.build_steps.specs.Steps.{builtRows}
-use Rattle.build_tables.proofs.Plans.{rows_few, rows-weighed}
+use Rattle.build_steps.specs.Steps.{built_rows}
+use Rattle.build_tables.proofs.Plans.{rows_few, rows_weighed}
 use Rattle.build_tables.proofs.build_accepted.Statement.{statement}
 use Rattle.build_tables.proofs.build_accepted.Tie as tie
 
@@ -15,7 +15,7 @@ start c = c.before.before.before.before.before
 
 -- as many odd parts as coefficients at most
 few : (c : tie.After-order) → c.order.result ≤ 256
-few c = omega (arith, c.order.ensures.few, (start c).requires.can-build.few)
+few c = omega (arith, c.order.ensures.few, (start c).requires.can_build.few)
 
 keyed : (c : tie.After-order) → c.order.result ≤ length c.order.new.1.0
 keyed c =
@@ -23,12 +23,12 @@ keyed c =
     omega (arith, few c, l)
 
 -- row 0, and for each odd part one row less than its weight
-weighed : (c : tie.After-total-weight) → length (builtRows (start c.before.before.before).args.coefficients.now (start c.before.before.before).args.choices.now) + c.before.before.before.order.result ≤ 1 + c.total-weight.result
+weighed : (c : tie.After-total-weight) → length (built_rows (start c.before.before.before).args.coefficients.now (start c.before.before.before).args.choices.now) + c.before.before.before.order.result ≤ 1 + c.total-weight.result
 weighed c =
     let after-order = c.before.before.before in
-    let at-start = start after-order in
-    let a = at-start.args in
-    omega (arith, c.total-weight.ensures.0, rows-weighed a.coefficients.now a.choices.now a.rows.now a.taps.now after-order.order.new.1.0 after-order.order.result at-start.pre after-order.order.ensures (keyed after-order))
+    let at_start = start after-order in
+    let a = at_start.args in
+    omega (arith, c.total-weight.ensures.0, rows_weighed a.coefficients.now a.choices.now a.rows.now a.taps.now after-order.order.new.1.0 after-order.order.result at_start.pre after-order.order.ensures (keyed after-order))
 
 slice-aggregate-order : tie.Need-slice-aggregate-order
 slice-aggregate-order c = search rules
@@ -116,9 +116,9 @@ slice-aggregate-within-3841 c = search rules
 within-3841-requires : tie.Need-within-3841-requires
 within-3841-requires c κs =
     let after-order = c.before.before.before.before.before.before.before.before.before in
-    let at-start = start after-order in
-    let a = at-start.args in
-    ((at-start.pre, after-order.order.ensures, keyed after-order), rows_few a.coefficients.now a.choices.now a.rows.now a.taps.now after-order.order.new.1.0 after-order.order.result at-start.pre after-order.order.ensures (keyed after-order))
+    let at_start = start after-order in
+    let a = at_start.args in
+    ((at_start.pre, after-order.order.ensures, keyed after-order), rows_few a.coefficients.now a.choices.now a.rows.now a.taps.now after-order.order.new.1.0 after-order.order.result at_start.pre after-order.order.ensures (keyed after-order))
 
 same-length-7 : tie.Need-same-length-7
 same-length-7 c = search rules

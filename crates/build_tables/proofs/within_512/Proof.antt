@@ -2,7 +2,7 @@
 use borrow.Author.Rules.{rules}
 use native.Mathlib.Omega.{arith}
 use lib.Dec.{lit<, lit≤}
-use Rattle.build_tables.proofs.Plans.{parts-ordered, start-cleared}
+use Rattle.build_tables.proofs.Plans.{parts_ordered, start_cleared}
 use Rattle.build_tables.proofs.within_512.Statement.{statement}
 use Rattle.build_tables.proofs.within_512.Tie as tie
 
@@ -20,11 +20,11 @@ slice-aggregate-write-network-4 c = search rules
 
 write-network-requires : tie.Need-write-network-requires
 write-network-requires c κs =
-    let at-start = c.before.before.before.before.before.before.before.before.before.before in
-    let a = at-start.args in
-    let p = at-start.requires.0 in (
-      start-cleared a.coefficients.now a.choices.now a.rows.now a.taps.now a.keys.now a.m p.0 p.1 p.2 512 512 520 8192 (lit< tt) at-start.requires.1 (omega (arith, at-start.requires.1)) (lit≤ tt),
-      (parts-ordered a.coefficients.now a.choices.now a.rows.now a.taps.now a.keys.now a.m p.0 p.1 p.2, omega (arith, p.0.taps-long, p.0.can-build.few)),
+    let at_start = c.before.before.before.before.before.before.before.before.before.before in
+    let a = at_start.args in
+    let p = at_start.requires.0 in (
+      start_cleared a.coefficients.now a.choices.now a.rows.now a.taps.now a.keys.now a.m p.0 p.1 p.2 512 512 520 8192 (lit< tt) at_start.requires.1 (omega (arith, at_start.requires.1)) (lit≤ tt),
+      (parts_ordered a.coefficients.now a.choices.now a.rows.now a.taps.now a.keys.now a.m p.0 p.1 p.2, omega (arith, p.0.taps_long, p.0.can_build.few)),
     )
 
 same_length : tie.Need-same-length

@@ -9,8 +9,8 @@ start c = c.before.before.before.before.before.before.before.before.before.befor
 
 add-rows-requires : tie.Need-add-rows-requires
 add-rows-requires c κs =
-    let at-start = c.before.before.before.before.before.before.before.before.before.before.before.before.before in
-    at-start.requires.0
+    let at_start = c.before.before.before.before.before.before.before.before.before.before.before.before.before in
+    at_start.requires.0
 
 write-tap-rows-requires : tie.Need-write-tap-rows-requires
 write-tap-rows-requires c κs =
@@ -39,10 +39,10 @@ returns : tie.Need-returns
 returns c =
     let after-write-tap-rows = c.before.before in
     let after-add-rows = after-write-tap-rows.before.before.before.before.before.before.before.before.before.before.before.before.before.before.before in
-    let at-start = start after-add-rows in
-    let args = at-start.args in
+    let at_start = start after-add-rows in
+    let args = at_start.args in
     let add-rows = after-add-rows.add-rows in
-    written args.coefficients.now args.choices.now args.keys.now args.m at-start.pre.1.0 args.rows.now args.taps.now
+    written args.coefficients.now args.choices.now args.keys.now args.m at_start.pre.1.0 args.rows.now args.taps.now
     add-rows.new.1.1.1.0 add-rows.new.1.1.1.1.0 add-rows.new.1.1.1.1.1.0 after-write-tap-rows.write-tap-rows.new.1.1.1.1.1.0 add-rows.result add-rows.ensures after-write-tap-rows.write-tap-rows.ensures
 
 pub write-network-spec : {M : Type 1} → statement M

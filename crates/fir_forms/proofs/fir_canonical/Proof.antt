@@ -13,10 +13,10 @@ canonical-requires c κs = search rules
 
 returns : tie.Need-returns
 returns c =
-    let at-start = c.before in
+    let at_start = c.before in
     record {
       word = refl;
-      canonical = subst (λ (n : ℤ). InCanonicalForm n c.canonical.result) (to_z-of_z w32 at-start.args.n at-start.ranges.n) c.canonical.ensures;
+      canonical = subst (λ (n : ℤ). InCanonicalForm n c.canonical.result) (to_z-of_z w32 at_start.args.n at_start.ranges.n) c.canonical.ensures;
     }
 
 pub fir-canonical-spec : {M : Type 1} → statement M

@@ -13,8 +13,8 @@ form-count-requires c κs = search rules
 
 returns : tie.Need-returns
 returns c =
-    let at-start = c.before in
-    record { word = refl; counted = subst (λ (n : ℤ). FormsCounted n c.form-count.result) (to_z-of_z w32 at-start.args.n at-start.ranges.n) c.form-count.ensures }
+    let at_start = c.before in
+    record { word = refl; counted = subst (λ (n : ℤ). FormsCounted n c.form_count.result) (to_z-of_z w32 at_start.args.n at_start.ranges.n) c.form_count.ensures }
 
 pub fir-form-count-spec : {M : Type 1} → statement M
 fir-form-count-spec = tie.close (tie.spec form-count-requires returns)

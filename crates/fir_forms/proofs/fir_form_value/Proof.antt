@@ -6,7 +6,7 @@ use mir.Syntax.{w64}
 use mir.ValLaws.{to_z-of_z}
 use Rattle.refusal.specs.Answer.{Answer, stored}
 use Rattle.form_masks.specs.Value.{answer_of}
-use Rattle.fir_words.specs.Words.{refusalWord}
+use Rattle.fir_words.specs.Words.{refusal_word_of}
 use Rattle.fir_forms.proofs.fir_form_value.Statement.{statement}
 use Rattle.fir_forms.proofs.fir_form_value.Tie as tie
 
@@ -29,12 +29,12 @@ returns : tie.Need-returns
 returns c =
     let after-answer = c.before.before in
     let after-value = after-answer.before.before in
-    let at-start = after-value.before in
+    let at_start = after-value.before in
     let e = ap answer_of after-answer.answer.given.1 in
     record {
       answer = answer_of after-value.value.result;
-      word = c.refusal-word.ensures ∙ sym (ap refusalWord e);
-      value = sym (ap (kept at-start.args.value.now) e);
+      word = c.refusal-word.ensures ∙ sym (ap refusal_word_of e);
+      value = sym (ap (kept at_start.args.value.now) e);
       valued = after-value.value.ensures;
     }
 
@@ -42,12 +42,12 @@ returns-2 : tie.Need-returns-2
 returns-2 c =
     let after-answer2 = c.before in
     let after-value = after-answer2.before.before in
-    let at-start = after-value.before in
+    let at_start = after-value.before in
     let e = ap answer_of after-answer2.answer2.given.1 in
     record {
       answer = answer_of after-value.value.result;
-      word = sym (ap refusalWord e);
-      value = to_z-of_z w64 after-answer2.answer2.given.0.0 (record { sfits = c.known-told2.given.0.1 }) ∙ sym (ap (kept at-start.args.value.now) e);
+      word = sym (ap refusal_word_of e);
+      value = to_z-of_z w64 after-answer2.answer2.given.0.0 (record { sfits = c.known-told2.given.0.1 }) ∙ sym (ap (kept at_start.args.value.now) e);
       valued = after-value.value.ensures;
     }
 

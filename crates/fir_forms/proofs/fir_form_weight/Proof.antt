@@ -4,7 +4,7 @@ use mathlib.Core.Path.{sym, ap, ◌∙◌}
 use Prim.Native.Nat.{ℕ}
 use Rattle.refusal.specs.Answer.{Answer, stored}
 use Rattle.form_masks.specs.Weight.{answer_of}
-use Rattle.fir_words.specs.Words.{refusalWord}
+use Rattle.fir_words.specs.Words.{refusal_word_of}
 use Rattle.fir_forms.proofs.fir_form_weight.Statement.{statement}
 use Rattle.fir_forms.proofs.fir_form_weight.Tie as tie
 
@@ -27,12 +27,12 @@ returns : tie.Need-returns
 returns c =
     let after-answer = c.before.before in
     let after-weight = after-answer.before.before in
-    let at-start = after-weight.before in
+    let at_start = after-weight.before in
     let e = ap answer_of after-answer.answer.given.1 in
     record {
       answer = answer_of after-weight.weight.result;
-      word = c.refusal-word.ensures ∙ sym (ap refusalWord e);
-      weight = sym (ap (kept at-start.args.weight.now) e);
+      word = c.refusal-word.ensures ∙ sym (ap refusal_word_of e);
+      weight = sym (ap (kept at_start.args.weight.now) e);
       weighed = after-weight.weight.ensures;
     }
 
@@ -40,12 +40,12 @@ returns-2 : tie.Need-returns-2
 returns-2 c =
     let after-answer2 = c.before in
     let after-weight = after-answer2.before.before in
-    let at-start = after-weight.before in
+    let at_start = after-weight.before in
     let e = ap answer_of after-answer2.answer2.given.1 in
     record {
       answer = answer_of after-weight.weight.result;
-      word = sym (ap refusalWord e);
-      weight = sym (ap (kept at-start.args.weight.now) e);
+      word = sym (ap refusal_word_of e);
+      weight = sym (ap (kept at_start.args.weight.now) e);
       weighed = after-weight.weight.ensures;
     }
 

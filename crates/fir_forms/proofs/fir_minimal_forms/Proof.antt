@@ -8,7 +8,7 @@ use mir.ValLaws.{to_z-of_z}
 use Rattle.refusal.specs.Answer.{Answer, stored}
 use Rattle.signed_digit.specs.Listed.{FormsListed}
 use Rattle.form_listing.specs.Listing.{answer_of}
-use Rattle.fir_words.specs.Words.{refusalWord}
+use Rattle.fir_words.specs.Words.{refusal_word_of}
 use Rattle.fir_forms.proofs.fir_minimal_forms.Statement.{statement}
 use Rattle.fir_forms.proofs.fir_minimal_forms.Tie as tie
 
@@ -38,14 +38,14 @@ returns c =
     let after-answer = c.before.before in
     let after_plus = after-answer.before.before.before.before.before in
     let after-minimal-forms = after_plus.before in
-    let at-start = after-minimal-forms.before.before.before.before.before in
-    let args = at-start.args in
+    let at_start = after-minimal-forms.before.before.before.before.before in
+    let args = at_start.args in
     let e = ap answer_of after-answer.answer.given.1 in
     record {
       answer = answer_of after-minimal-forms.minimal-forms.result;
-      word = c.refusal-word.ensures ∙ sym (ap refusalWord e);
-      form-count = sym (ap (kept args.count.now) e);
-      listed = subst (λ (z : ℤ). FormsListed z args.plus.now args.minus.now (answer_of after-minimal-forms.minimal-forms.result) after-minimal-forms.minimal-forms.new.1.0 after-minimal-forms.minimal-forms.new.1.1.0) (to_z-of_z w32 args.n at-start.ranges.n) after-minimal-forms.minimal-forms.ensures;
+      word = c.refusal-word.ensures ∙ sym (ap refusal_word_of e);
+      form_count = sym (ap (kept args.count.now) e);
+      listed = subst (λ (z : ℤ). FormsListed z args.plus.now args.minus.now (answer_of after-minimal-forms.minimal-forms.result) after-minimal-forms.minimal-forms.new.1.0 after-minimal-forms.minimal-forms.new.1.1.0) (to_z-of_z w32 args.n at_start.ranges.n) after-minimal-forms.minimal-forms.ensures;
     }
 
 same-length-3 : tie.Need-same-length-3
@@ -59,14 +59,14 @@ returns-2 c =
     let after-answer2 = c.before in
     let after_plus = after-answer2.before.before.before.before.before in
     let after-minimal-forms = after_plus.before in
-    let at-start = after-minimal-forms.before.before.before.before.before in
-    let args = at-start.args in
+    let at_start = after-minimal-forms.before.before.before.before.before in
+    let args = at_start.args in
     let e = ap answer_of after-answer2.answer2.given.1 in
     record {
       answer = answer_of after-minimal-forms.minimal-forms.result;
-      word = sym (ap refusalWord e);
-      form-count = sym (ap (kept args.count.now) e);
-      listed = subst (λ (z : ℤ). FormsListed z args.plus.now args.minus.now (answer_of after-minimal-forms.minimal-forms.result) after-minimal-forms.minimal-forms.new.1.0 after-minimal-forms.minimal-forms.new.1.1.0) (to_z-of_z w32 args.n at-start.ranges.n) after-minimal-forms.minimal-forms.ensures;
+      word = sym (ap refusal_word_of e);
+      form_count = sym (ap (kept args.count.now) e);
+      listed = subst (λ (z : ℤ). FormsListed z args.plus.now args.minus.now (answer_of after-minimal-forms.minimal-forms.result) after-minimal-forms.minimal-forms.new.1.0 after-minimal-forms.minimal-forms.new.1.1.0) (to_z-of_z w32 args.n at_start.ranges.n) after-minimal-forms.minimal-forms.ensures;
     }
 
 pub fir-minimal-forms-spec : {M : Type 1} → statement M

@@ -3,7 +3,7 @@ use borrow.Author.Rules.{rules}
 use mathlib.Core.Path.{sym, ap, ◌∙◌}
 use Rattle.plane_grid.specs.declared.Converted.{Converted}
 use Rattle.plane_grid.specs.Answer.{answer_of}
-use Rattle.fir_words.specs.Words.{refusalWord}
+use Rattle.fir_words.specs.Words.{refusal_word_of}
 use Rattle.fir_planes.proofs.converted_word.Statement.{statement}
 use Rattle.fir_planes.proofs.converted_word.Tie as tie
 
@@ -22,7 +22,7 @@ returns c = search rules
 returns-2 : tie.Need-returns-2
 returns-2 c =
     let after-answer = c.before.before in
-    c.refusal-word.ensures ∙ ap (λ (a : Converted). refusalWord (answer_of a)) (sym after-answer.answer.given.1)
+    c.refusal-word.ensures ∙ ap (λ (a : Converted). refusal_word_of (answer_of a)) (sym after-answer.answer.given.1)
 
 pub converted-word-spec : {M : Type 1} → statement M
 converted-word-spec =

@@ -19,11 +19,11 @@ returns : tie.Need-returns
 returns c =
     let after-round-tap = c.before in
     let after-of-bits = after-round-tap.before in
-    let at-start = after-of-bits.before in
+    let at_start = after-of-bits.before in
     record {
       answer = answer_of after-round-tap.round-tap.result;
       word = c.tap-word.ensures;
-      rounded = subst (λ (x : Float). TapRounded at-start.args.fraction-bits x (answer_of after-round-tap.round-tap.result)) after-of-bits.of-bits.ensures after-round-tap.round-tap.ensures;
+      rounded = subst (λ (x : Float). TapRounded at_start.args.fraction_bits x (answer_of after-round-tap.round-tap.result)) after-of-bits.of-bits.ensures after-round-tap.round-tap.ensures;
     }
 
 pub fir-round-tap-spec : {M : Type 1} → statement M

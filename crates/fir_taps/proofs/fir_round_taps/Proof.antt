@@ -4,10 +4,10 @@ use mathlib.Core.Path.{refl, sym, ap, subst}
 use mathlib.Core.Bool.{Bool, not}
 use lib.Dec.{T}
 use lib.Ieee.{Float, is_nan}
-use Rattle.refusal.specs.Answer.{Answer, given, turnedDown}
+use Rattle.refusal.specs.Answer.{Answer, given, turned_down_of}
 use Rattle.tap_set.specs.declared.Report.{Report}
 use Rattle.tap_set.specs.Set.{answer_of, TapsRounded}
-use Rattle.tap_set.proofs.Claims.{set-claims}
+use Rattle.tap_set.proofs.Claims.{set_claims}
 use Rattle.fir_taps.specs.Rounding.{is_set}
 use Rattle.fir_taps.proofs.fir_round_taps.Statement.{statement}
 use Rattle.fir_taps.proofs.fir_round_taps.Tie as tie
@@ -16,7 +16,7 @@ use Rattle.fir_taps.proofs.fir_round_taps.Tie as tie
 abbrev Left : tie.After-round-taps → Answer Report → Type 0
 Left k a =
     let s = k.before.before.before.args in
-    TapsRounded s.fraction-bits (is_set s.normalised) s.taps.now s.coefficients.now a k.round-taps.new.1.1.1.0
+    TapsRounded s.fraction_bits (is_set s.normalised) s.taps.now s.coefficients.now a k.round-taps.new.1.1.1.0
 
 -- it gave a report, whose two numbers are no not-a-numbers
 abbrev report : tie.After-answer2 → Report
@@ -30,7 +30,7 @@ Number x = T (not (is_nan x))
 
 numbers : (d : tie.After-answer2) → Number (report d).divisor × Number (report d).leftover
 numbers d =
-    let w = set-claims.never-nan _ _ _ _ (report d) _ (told d) in
+    let w = set_claims.never_nan _ _ _ _ (report d) _ (told d) in
     (subst (λ (b : Bool). T (not b)) (sym w.0) tt, subst (λ (b : Bool). T (not b)) (sym w.1) tt)
 
 round-taps-requires : tie.Need-round-taps-requires
@@ -63,11 +63,11 @@ returns c =
     let after-answer = c.before.before in
     let after-round-taps = after-answer.before.before.before in
     record {
-      answer = turnedDown after-answer.answer.given.0.0;
+      answer = turned_down_of after-answer.answer.given.0.0;
       word = c.refusal-word.ensures;
       rounded = subst (Left after-round-taps) (ap answer_of after-answer.answer.given.1) after-round-taps.round-taps.ensures;
-      divisor-bits = refl;
-      leftover-bits = refl;
+      divisor_bits = refl;
+      leftover_bits = refl;
     }
 
 same-length-2 : tie.Need-same-length-2
@@ -76,7 +76,7 @@ same-length-2 c = search rules
 returns-2 : tie.Need-returns-2
 returns-2 c =
     let after-answer2 = c.before.before.before in
-    record { answer = given (report after-answer2); word = refl; rounded = told after-answer2; divisor-bits = refl; leftover-bits = refl }
+    record { answer = given (report after-answer2); word = refl; rounded = told after-answer2; divisor_bits = refl; leftover_bits = refl }
 
 pub fir-round-taps-spec : {M : Type 1} → statement M
 fir-round-taps-spec =

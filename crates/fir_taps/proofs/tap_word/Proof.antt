@@ -7,12 +7,12 @@ use mir.Val.{of_z}
 use mir.ValLaws.{to_z-of_z}
 use Rattle.tap.specs.declared.RoundedTap.{RoundedTap}
 use Rattle.tap.specs.Rounding.{answer_of}
-use Rattle.fir_taps.specs.Rounding.{tapWord}
+use Rattle.fir_taps.specs.Rounding.{tap_word_of}
 use Rattle.fir_taps.proofs.tap_word.Statement.{statement}
 use Rattle.fir_taps.proofs.tap_word.Tie as tie
 
 abbrev word_of : RoundedTap → ℕ
-word_of t = tapWord (answer_of t)
+word_of t = tap_word_of (answer_of t)
 
 enum-known-tap : tie.Need-enum-known-tap
 enum-known-tap c = search rules

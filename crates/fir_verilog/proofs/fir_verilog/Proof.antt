@@ -4,7 +4,7 @@ use mathlib.Core.Path.{sym, ap, ◌∙◌}
 use Prim.Native.Nat.{ℕ}
 use Rattle.refusal.specs.Answer.{Answer, stored}
 use Rattle.verilog_writer.specs.Answer.{answer_of}
-use Rattle.fir_words.specs.Words.{refusalWord}
+use Rattle.fir_words.specs.Words.{refusal_word_of}
 use Rattle.fir_verilog.proofs.fir_verilog.Statement.{statement}
 use Rattle.fir_verilog.proofs.fir_verilog.Tie as tie
 
@@ -31,10 +31,10 @@ returns : tie.Need-returns
 returns c =
     let after-answer = c.before.before in
     let after_write = after-answer.before.before.before.before in
-    let at-start = after_write.before.before.before.before.before in
+    let at_start = after_write.before.before.before.before.before in
     let write = after_write.write-verilog in
     let e = ap answer_of after-answer.answer.given.1 in
-    record { answer = answer_of write.result; word = c.refusal-word.ensures ∙ sym (ap refusalWord e); length = sym (ap (counted at-start.args.length.now) e); written = write.ensures }
+    record { answer = answer_of write.result; word = c.refusal-word.ensures ∙ sym (ap refusal_word_of e); length = sym (ap (counted at_start.args.length.now) e); written = write.ensures }
 
 same-length-2 : tie.Need-same-length-2
 same-length-2 c = search rules
@@ -43,10 +43,10 @@ returns-2 : tie.Need-returns-2
 returns-2 c =
     let after-answer = c.before in
     let after_write = after-answer.before.before.before.before in
-    let at-start = after_write.before.before.before.before.before in
+    let at_start = after_write.before.before.before.before.before in
     let write = after_write.write-verilog in
     let e = ap answer_of after-answer.answer2.given.1 in
-    record { answer = answer_of write.result; word = sym (ap refusalWord e); length = sym (ap (counted at-start.args.length.now) e); written = write.ensures }
+    record { answer = answer_of write.result; word = sym (ap refusal_word_of e); length = sym (ap (counted at_start.args.length.now) e); written = write.ensures }
 
 pub fir-verilog-spec : {M : Type 1} → statement M
 fir-verilog-spec =

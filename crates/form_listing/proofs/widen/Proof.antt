@@ -5,8 +5,8 @@ use Rattle.form_listing.proofs.widen.Statement.{statement}
 use Rattle.form_listing.proofs.widen.Tie as tie
 
 -- what the machine subtracts from 0
-offset-is : (r b : ℕ) → r < 2 ^ 32 → b ≤ 2 ^ 32 → (r + b) % 2 ^ 32 ≡ 0 → r ≡ (2 ^ 32 - b) % 2 ^ 32
-offset-is r b h k e = omega arith
+offset_is : (r b : ℕ) → r < 2 ^ 32 → b ≤ 2 ^ 32 → (r + b) % 2 ^ 32 ≡ 0 → r ≡ (2 ^ 32 - b) % 2 ^ 32
+offset_is r b h k e = omega arith
 
 cast-wrapping-sub-u32 : tie.Need-overflow-cast-wrapping-sub-u32
 cast-wrapping-sub-u32 c = search rules
@@ -31,12 +31,12 @@ returns c =
     let after-grow2 = c.before.before in
     let after-grow = after-grow2.before.before.before.before in
     let after-wrapping-sub-u32 = after-grow.before.before in
-    let at-start = after-wrapping-sub-u32.before.before.before.before in
-    let w = at-start.args.w in
+    let at_start = after-wrapping-sub-u32.before.before.before.before in
+    let w = at_start.args.w in
     let wrapping-sub-u32 = after-wrapping-sub-u32.wrapping-sub-u32 in
-    let k = offset-is wrapping-sub-u32.result (w.bit / 4) (omega (arith, wrapping-sub-u32.type-inv)) (omega (arith, at-start.requires.2)) wrapping-sub-u32.ensures in (
-      after-grow.grow.ensures ∙ ap (grown at-start.args.plus.now w.forms w.moved) k,
-      after-grow2.grow2.ensures ∙ ap (grown at-start.args.minus.now w.forms w.moved) k,
+    let k = offset_is wrapping-sub-u32.result (w.bit / 4) (omega (arith, wrapping-sub-u32.type-inv)) (omega (arith, at_start.requires.2)) wrapping-sub-u32.ensures in (
+      after-grow.grow.ensures ∙ ap (grown at_start.args.plus.now w.forms w.moved) k,
+      after-grow2.grow2.ensures ∙ ap (grown at_start.args.minus.now w.forms w.moved) k,
     )
 
 pub widen_spec : {M : Type 1} → statement M

@@ -9,10 +9,10 @@ use lib.Signed.{lt_z}
 use mir.Syntax.{w32}
 use mir.Val.{to_z, of_z}
 use mir.ValLaws.{to_z-of_z}
-use Rattle.signed_digit.specs.CanonicalForm.{canonicalNat}
-use Rattle.word.proofs.Bounds.{i32-coefficient, coefficient-magnitude}
+use Rattle.signed_digit.specs.CanonicalForm.{canonical_nat}
+use Rattle.word.proofs.Bounds.{i32_coefficient, coefficient_magnitude}
 use Rattle.form_masks.specs.Form.{form_of}
-use Rattle.form_masks.proofs.Sign.{exchanged, canonical-negative, canonical-not-negative}
+use Rattle.form_masks.proofs.Sign.{exchanged, canonical_negative, canonical_not_negative}
 use Rattle.form_masks.proofs.canonical.Statement.{statement}
 use Rattle.form_masks.proofs.canonical.Tie as tie
 
@@ -26,8 +26,8 @@ tested s b h = rw (back s) at h
 size : (c : tie.After-magnitude) → c.magnitude.result ≡ nat_abs c.before.args.n
 size c = c.magnitude.ensures ∙ ap nat_abs (back c.before)
 
-form : (c : tie.After-canonical-of) → c.canonical-of.result ≡ form_of (canonicalNat 32 (nat_abs c.before.before.args.n))
-form c = c.canonical-of.ensures ∙ ap (λ (m : ℕ). form_of (canonicalNat 32 m)) (size c.before)
+form : (c : tie.After-canonical-of) → c.canonical_of.result ≡ form_of (canonical_nat 32 (nat_abs c.before.before.args.n))
+form c = c.canonical_of.ensures ∙ ap (λ (m : ℕ). form_of (canonical_nat 32 m)) (size c.before)
 
 magnitude-requires : tie.Need-magnitude-requires
 magnitude-requires c κs = search rules
@@ -37,20 +37,20 @@ cast-canonical-of c = search rules
 
 canonical-of-requires : tie.Need-canonical-of-requires
 canonical-of-requires c κs =
-    let at-start = c.before in
-    omega (arith, size c, coefficient-magnitude at-start.args.n (i32-coefficient at-start.args.n at-start.ranges.n))
+    let at_start = c.before in
+    omega (arith, size c, coefficient_magnitude at_start.args.n (i32_coefficient at_start.args.n at_start.ranges.n))
 
 returns : tie.Need-returns
 returns c =
     let after-canonical-of = c.before in
-    let at-start = after-canonical-of.before.before in
-    record { masks = ap exchanged (form after-canonical-of) ∙ canonical-negative at-start.args.n (tested at-start _ c.if1.true) }
+    let at_start = after-canonical-of.before.before in
+    record { masks = ap exchanged (form after-canonical-of) ∙ canonical_negative at_start.args.n (tested at_start _ c.if1.true) }
 
 returns-2 : tie.Need-returns-2
 returns-2 c =
     let after-canonical-of = c.before in
-    let at-start = after-canonical-of.before.before in
-    record { masks = form after-canonical-of ∙ canonical-not-negative at-start.args.n (tested at-start _ c.if1.false) }
+    let at_start = after-canonical-of.before.before in
+    record { masks = form after-canonical-of ∙ canonical_not_negative at_start.args.n (tested at_start _ c.if1.false) }
 
 pub canonical-spec : {M : Type 1} → statement M
 canonical-spec =

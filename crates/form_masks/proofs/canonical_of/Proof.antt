@@ -4,21 +4,21 @@ use mathlib.Core.Path.{◌≡◌, ap₂}
 use Prim.Native.Nat.{ℕ, ◌+◌, ◌*◌, ◌-◌, ◌/◌}
 use native.Mathlib.Omega.{arith}
 use lib.Bits.{bit_xor}
-use Rattle.signed_digit.specs.Masks.{plusMask, minusMask}
-use Rattle.signed_digit.specs.CanonicalForm.{canonicalNat}
-use Rattle.form_masks.proofs.CanonicalMasks.{Masks, canonical-masks}
+use Rattle.signed_digit.specs.Masks.{plus_mask, minus_mask}
+use Rattle.signed_digit.specs.CanonicalForm.{canonical_nat}
+use Rattle.form_masks.proofs.CanonicalMasks.{Masks, canonical_masks}
 use Rattle.form_masks.proofs.canonical_of.Statement.{statement}
 use Rattle.form_masks.proofs.canonical_of.Tie as tie
 
-masks : (c : tie.Start) → Masks 32 c.args.m (bit_xor (3 * c.args.m) c.args.m / 2) (plusMask (canonicalNat 32 c.args.m)) (minusMask (canonicalNat 32 c.args.m))
-masks c = canonical-masks 32 c.args.m (omega (arith, c.requires))
+masks : (c : tie.Start) → Masks 32 c.args.m (bit_xor (3 * c.args.m) c.args.m / 2) (plus_mask (canonical_nat 32 c.args.m)) (minus_mask (canonical_nat 32 c.args.m))
+masks c = canonical_masks 32 c.args.m (omega (arith, c.requires))
 
 returns : tie.Need-returns
 returns c =
     let s = masks c in
     let both : ℕ = bit_xor (3 * c.args.m) c.args.m / 2 in
-    let p : (both + c.args.m) / 2 ≡ plusMask (canonicalNat 32 c.args.m) = omega arith in
-    let q : both - (both + c.args.m) / 2 ≡ minusMask (canonicalNat 32 c.args.m) = omega arith in
+    let p : (both + c.args.m) / 2 ≡ plus_mask (canonical_nat 32 c.args.m) = omega arith in
+    let q : both - (both + c.args.m) / 2 ≡ minus_mask (canonical_nat 32 c.args.m) = omega arith in
     ap₂ (λ (x y : ℕ). record { plus = x; minus = y }) p q
 
 mul-nonzero : tie.Need-overflow-mul-nonzero

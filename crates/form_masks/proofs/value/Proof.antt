@@ -13,9 +13,9 @@ use mir.ValLaws.{to_z_pos, to_z-of_z}
 use Rattle.refusal.specs.Answer.{given}
 use Rattle.signed_digit.specs.Value.{value}
 use Rattle.form_masks.specs.declared.Form.{Form}
-use Rattle.form_masks.specs.Form.{stringOf}
+use Rattle.form_masks.specs.Form.{string_of}
 use Rattle.form_masks.specs.Value.{value_of}
-use Rattle.form_masks.proofs.Forms.{overlapping, disjoint, string-value, difference-fits}
+use Rattle.form_masks.proofs.Forms.{overlapping, disjoint, string_value, difference_fits}
 use Rattle.form_masks.proofs.value.Statement.{statement}
 use Rattle.form_masks.proofs.value.Tie as tie
 
@@ -27,7 +27,7 @@ difference : (x y : ℕ) → x < 2 ^ 32 → y < 2 ^ 32 → to_z w64 x -ℤ to_z 
 difference x y h k = ap₂ ◌-ℤ◌ (wide x h) (wide y k)
 
 fits : (form : Form) → form.plus < 2 ^ 32 → form.minus < 2 ^ 32 → SFits w64 (to_z w64 form.plus -ℤ to_z w64 form.minus)
-fits form h k = subst (SFits w64) (sym (difference form.plus form.minus h k)) (difference-fits form.plus form.minus h k)
+fits form h k = subst (SFits w64) (sym (difference form.plus form.minus h k)) (difference_fits form.plus form.minus h k)
 
 lowest-one-requires : tie.Need-lowest-one-requires
 lowest-one-requires c κs = search rules
@@ -35,9 +35,9 @@ lowest-one-requires c κs = search rules
 returns : tie.Need-returns
 unfolding value_of
 returns c =
-    let at-start = c.before.before.before in
-    let form = at-start.args.form in
-    record { valued = overlapping form.plus form.minus (given (value (stringOf form))) c.lowest-one.result c.lowest-one.ensures }
+    let at_start = c.before.before.before in
+    let form = at_start.args.form in
+    record { valued = overlapping form.plus form.minus (given (value (string_of form))) c.lowest-one.result c.lowest-one.ensures }
 
 cast-t6 : tie.Need-overflow-cast-t6
 cast-t6 c = search rules
@@ -49,21 +49,21 @@ returns-2 : tie.Need-returns-2
 unfolding value_of
 returns-2 c =
     let in-else-1 = c.before.before in
-    let at-start = in-else-1.before.before in
-    let form = at-start.args.form in
+    let at_start = in-else-1.before.before in
+    let form = at_start.args.form in
     let hx : form.plus < 2 ^ 32 = omega arith in
     let hy : form.minus < 2 ^ 32 = omega arith in
     let if1-left = in-else-1.if1.false in
     record {
       valued =
-          ap given (to_z-of_z w64 _ (fits form hx hy) ∙ difference form.plus form.minus hx hy ∙ sym (string-value form hx hy if1-left))
-          ∙ disjoint form.plus form.minus (given (value (stringOf form))) if1-left;
+          ap given (to_z-of_z w64 _ (fits form hx hy) ∙ difference form.plus form.minus hx hy ∙ sym (string_value form hx hy if1-left))
+          ∙ disjoint form.plus form.minus (given (value (string_of form))) if1-left;
     }
 
 sub-t8 : tie.Need-overflow-sub-t8
 sub-t8 c =
-    let at-start = c.before.before.before.before in
-    let form = at-start.args.form in
+    let at_start = c.before.before.before.before in
+    let form = at_start.args.form in
     let hx : form.plus < 2 ^ 32 = omega arith in
     let hy : form.minus < 2 ^ 32 = omega arith in
     fits form hx hy

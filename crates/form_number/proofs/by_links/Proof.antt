@@ -1,11 +1,11 @@
 -- `form_number::by_links` meets its contract. `note_links` says which links the walk of n has, and `offset_at` what the form of this number has more than the
--- canonical one in both masks (`form-is`). Assumes nothing.
+-- canonical one in both masks (`form_is`). Assumes nothing.
 use Rattle.std.proofs.Common.{◌≡◌, ◌^◌, ◌<◌, ◌≤◌, [], length, get_or, ℤ, nat_abs, sym, ap, ◌∙◌, subst, arith, w32, to_z, of_z, rules}
-use Rattle.word.proofs.Bounds.{i32-coefficient, coefficient-magnitude}
+use Rattle.word.proofs.Bounds.{i32_coefficient, coefficient_magnitude}
 use Rattle.signed_digit.specs.Forms.{listing}
 use Rattle.form_masks.specs.Form.{form_of}
-use Rattle.form_listing.proofs.Machine.{read-once}
-use Rattle.form_number.proofs.Masks.{form-is}
+use Rattle.form_listing.proofs.Machine.{read_once}
+use Rattle.form_number.proofs.Masks.{form_is}
 use Rattle.form_number.proofs.by_links.Statement.{statement}
 use Rattle.form_number.proofs.by_links.Tie as tie
 
@@ -14,10 +14,10 @@ abbrev given : tie.Start → ℤ
 given s = to_z w32 (of_z w32 s.args.n)
 
 same : (s : tie.Start) → given s ≡ s.args.n
-same s = read-once s.args.n s.ranges.n
+same s = read_once s.args.n s.ranges.n
 
 bounded : (s : tie.Start) → nat_abs (given s) ≤ 2 ^ 31
-bounded s = omega (arith, ap nat_abs (same s), coefficient-magnitude s.args.n (i32-coefficient s.args.n s.ranges.n))
+bounded s = omega (arith, ap nat_abs (same s), coefficient_magnitude s.args.n (i32_coefficient s.args.n s.ranges.n))
 
 inside : (s : tie.Start) → s.args.number < length (listing 32 (given s))
 inside s = subst (λ (z : ℤ). s.args.number < length (listing 32 z)) (sym (same s)) s.requires
@@ -58,15 +58,15 @@ returns c =
     let after-canonical = after-wrapping-add-u32.before in
     let after-offset-at = after-canonical.before in
     let after-note-links = after-offset-at.before.before.before.before.before in
-    let at-start = after-note-links.before.before.before in
+    let at_start = after-note-links.before.before.before in
     let noted = after-note-links.note-links in
     let offset = after-offset-at.offset_at in
     let form = after-canonical.canonical in
     let plus = after-wrapping-add-u32.wrapping-add-u32 in
     let minus = c.wrapping-add-u322 in
-    form-is (given at-start) (bounded at-start) noted.new.1.0 noted.new.1.1.0 noted.result noted.ensures at-start.args.number (inside at-start)
+    form_is (given at_start) (bounded at_start) noted.new.1.0 noted.new.1.1.0 noted.result noted.ensures at_start.args.number (inside at_start)
     offset.result offset.ensures form.result form.ensures.masks plus.result minus.result plus.ensures minus.ensures
-    ∙ ap (λ (z : ℤ). form_of (get_or (listing 32 z) at-start.args.number [])) (same at-start)
+    ∙ ap (λ (z : ℤ). form_of (get_or (listing 32 z) at_start.args.number [])) (same at_start)
 
 pub by-links-spec : {M : Type 1} → statement M
 by-links-spec =

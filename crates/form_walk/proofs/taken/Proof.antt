@@ -22,8 +22,8 @@ returns c =
     let after-ahead3 = c.before in
     let after-ahead2 = after-ahead3.before in
     let after-ahead = after-ahead2.before in
-    let at-start = after-ahead.before in
-    taken_is at-start.args.opposite at-start.args.equal (omega (arith, at-start.ranges.opposite)) (omega (arith, at-start.ranges.equal))
+    let at_start = after-ahead.before in
+    taken_is at_start.args.opposite at_start.args.equal (omega (arith, at_start.ranges.opposite)) (omega (arith, at_start.ranges.equal))
     after-ahead.ahead.result after-ahead2.ahead2.result after-ahead3.ahead3.result c.ahead4.result
     after-ahead.ahead.ensures after-ahead2.ahead2.ensures after-ahead3.ahead3.ensures c.ahead4.ensures
 

@@ -4,7 +4,7 @@ use mathlib.Core.Path.{ap, ◌∙◌}
 use mathlib.Core.List.{List, ◌++◌}
 use Prim.Native.Nat.{ℕ}
 use lib.ListN.{drop}
-use Rattle.plane_blocks.proofs.Blocks.{transposed-masks}
+use Rattle.plane_blocks.proofs.Blocks.{transposed_masks}
 use Rattle.plane_blocks.proofs.block_masks.Statement.{statement}
 use Rattle.plane_blocks.proofs.block_masks.Tie as tie
 
@@ -32,7 +32,7 @@ returns c =
     let after-gather = after-transpose.before.before.before.before.before in
     let args = after-gather.before.before.before.before.args in
     after-transpose.transpose.ensures
-    ∙ ap (λ (l : List ℕ). l ++ drop 32 args.masks.now) (transposed-masks args.table.now after-gather.gather.new.1.1.0 _ args.block after-gather.gather.ensures)
+    ∙ ap (λ (l : List ℕ). l ++ drop 32 args.masks.now) (transposed_masks args.table.now after-gather.gather.new.1.1.0 _ args.block after-gather.gather.ensures)
 
 pub block-masks-spec : {M : Type 1} → statement M
 block-masks-spec =

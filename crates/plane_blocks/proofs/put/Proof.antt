@@ -7,18 +7,18 @@ use native.Mathlib.Omega.{arith}
 use lib.ListN.{length, length-append, length-drop, length-set, drop, get_or, set}
 use Rattle.sequence.specs.UpTo.{up_to}
 use Rattle.sequence.specs.Inner.{front}
-use Rattle.sequence.proofs.UpTo.{length-upTo}
-use Rattle.sequence.proofs.Front.{front-next}
+use Rattle.sequence.proofs.UpTo.{length_up_to}
+use Rattle.sequence.proofs.Front.{front_next}
 use Rattle.plane_blocks.proofs.put.Statement.{statement}
 use Rattle.plane_blocks.proofs.put.Tie as tie
 
-abbrev invariant-loop : tie.invariant-loop
-invariant-loop masks n at to₀ i₀ to i =
+abbrev invariant_loop : tie.invariant_loop
+invariant_loop masks n at to₀ i₀ to i =
     (i ≤ n) × (length to ≡ length to₀)
     × ((f : ℕ → ℕ) (old : List ℕ) → ((k : ℕ) → k < n → get_or masks k 0 ≡ f (at + k)) → to₀ ≡ front f old at → to ≡ front f old (at + i))
 
-abbrev decreases-loop : tie.decreases-loop
-decreases-loop masks n at to₀ i₀ to i = n - i
+abbrev decreases_loop : tie.decreases_loop
+decreases_loop masks n at to₀ i₀ to i = n - i
 
 -- one place more
 next : (f : ℕ → ℕ) (old to : List ℕ) (k x : ℕ) → to ≡ front f old k → k < length to → x ≡ f k → set to k x ≡ front f old (k + 1)
@@ -26,33 +26,33 @@ unfolding front
 next f old to k x e h is =
     let l : length (front f old k) ≡ length (up_to k f) + length (drop k old) = length-append (up_to k f) (drop k old) in
     ap₂ (λ (t : List ℕ) (y : ℕ). set t k y) e is
-    ∙ front-next f old k 0 (omega (arith, ap length e, l, length-upTo k f, length-drop k old))
+    ∙ front_next f old k 0 (omega (arith, ap length e, l, length_up_to k f, length-drop k old))
 
-loop-holds : tie.Need-loop-init invariant-loop decreases-loop
+loop-holds : tie.Need-loop-init invariant_loop decreases_loop
 loop-holds c = let at = c.args.at in (search rules, refl, λ f old h e. let q : at ≡ at + 0 = omega arith in e ∙ ap (front f old) q)
 
-mul-to : tie.Need-overflow-mul-to invariant-loop decreases-loop
+mul-to : tie.Need-overflow-mul-to invariant_loop decreases_loop
 mul-to c = search rules
 
-shared-slice-read-to : tie.Need-shared-slice-read-to invariant-loop decreases-loop
+shared-slice-read-to : tie.Need-shared-slice-read-to invariant_loop decreases_loop
 shared-slice-read-to c = search rules
 
-add-to : tie.Need-overflow-add-to invariant-loop decreases-loop
+add-to : tie.Need-overflow-add-to invariant_loop decreases_loop
 add-to c = search rules
 
-mul-to-2 : tie.Need-overflow-mul-to-2 invariant-loop decreases-loop
+mul-to-2 : tie.Need-overflow-mul-to-2 invariant_loop decreases_loop
 mul-to-2 c = search rules
 
-slice-write-to : tie.Need-slice-write-to invariant-loop decreases-loop
+slice-write-to : tie.Need-slice-write-to invariant_loop decreases_loop
 slice-write-to c = search rules
 
-add-i : tie.Need-overflow-add-i invariant-loop decreases-loop
+add-i : tie.Need-overflow-add-i invariant_loop decreases_loop
 add-i c = search rules
 
-loop-less : tie.Need-loop-smaller invariant-loop decreases-loop
+loop-less : tie.Need-loop-smaller invariant_loop decreases_loop
 loop-less c = search rules
 
-loop-again : tie.Need-loop-preserved invariant-loop decreases-loop
+loop-again : tie.Need-loop-preserved invariant_loop decreases_loop
 loop-again c =
     let in-loop = c.before in
     let at-loop = in-loop.before in
@@ -67,10 +67,10 @@ loop-again c =
           next f old at-loop.loop.to (args.at + i) x (at-loop.loop.invariant.2 f old h e) room (h i in-loop.loop-test.true) ∙ ap (front f old) q,
     )
 
-same_length : tie.Need-same-length invariant-loop decreases-loop
+same_length : tie.Need-same-length invariant_loop decreases_loop
 same_length c = c.before.loop.invariant.1
 
-returns : tie.Need-returns invariant-loop decreases-loop
+returns : tie.Need-returns invariant_loop decreases_loop
 returns c =
     let at-loop = c.before in
     let args = at-loop.before.args in
@@ -82,8 +82,8 @@ pub put_spec : {M : Type 1} → statement M
 put_spec =
     tie.close
     (tie.spec
-    invariant-loop
-    decreases-loop
+    invariant_loop
+    decreases_loop
     loop-holds
     mul-to
     shared-slice-read-to

@@ -6,15 +6,15 @@ use Prim.Native.Nat.{ℕ, ◌+◌, ◌*◌, ◌<◌}
 use native.Mathlib.Omega.{arith}
 use lib.ListN.{get_or, get_or-append}
 use Rattle.sequence.specs.UpTo.{up_to}
-use Rattle.sequence.proofs.UpTo.{length-upTo, getD-upTo}
-use Rattle.plane_masks.specs.Planes.{cellMask}
+use Rattle.sequence.proofs.UpTo.{length_up_to, get_d_up_to}
+use Rattle.plane_masks.specs.Planes.{cell_mask}
 use Rattle.plane_blocks.proofs.read_block.Statement.{statement}
 use Rattle.plane_blocks.proofs.read_block.Tie as tie
 
 -- one of the masks, whatever lies past them
 mask_at : (f : ℕ → ℕ) (all rest : List ℕ) → all ≡ up_to 32 f ++ rest → (b : ℕ) → b < 32 → get_or all b 0 ≡ f b
 mask_at f all rest e b h =
-    ap (λ (l : List ℕ). get_or l b 0) e ∙ get_or-append (up_to 32 f) rest 0 b (omega (arith, length-upTo 32 f)) ∙ getD-upTo 32 f 0 b h
+    ap (λ (l : List ℕ). get_or l b 0) e ∙ get_or-append (up_to 32 f) rest 0 b (omega (arith, length_up_to 32 f)) ∙ get_d_up_to 32 f 0 b h
 
 slice-aggregate-block-masks : tie.Need-slice-aggregate-block-masks
 slice-aggregate-block-masks c = search rules
@@ -38,12 +38,12 @@ returns : tie.Need-returns
 returns c =
     let after-put = c.before.before in
     let after-block-masks = after-put.before.before.before.before in
-    let at-start = after-block-masks.before.before.before.before in
-    let args = at-start.args in
+    let at_start = after-block-masks.before.before.before.before in
+    let args = at_start.args in
     let all = after-block-masks.block-masks in
-    let mask : ℕ → ℕ = cellMask args.table.now in
+    let mask : ℕ → ℕ = cell_mask args.table.now in
     λ old e. after-put.put.ensures mask old
-    (λ i h. mask_at (λ (b : ℕ). mask (32 * args.block + b)) all.new.1.1.0 _ all.ensures i (omega (arith, at-start.requires.2)))
+    (λ i h. mask_at (λ (b : ℕ). mask (32 * args.block + b)) all.new.1.1.0 _ all.ensures i (omega (arith, at_start.requires.2)))
     e
 
 pub read-block-spec : {M : Type 1} → statement M

@@ -6,86 +6,86 @@ use Prim.Native.Nat.{◌≤◌, ◌-◌, ◌*◌}
 use native.Mathlib.Omega.{arith}
 use lib.ListN.{length, length-set}
 use Rattle.sequence.specs.Inner.{front}
-use Rattle.sequence.proofs.Front.{front-start}
+use Rattle.sequence.proofs.Front.{front_start}
 use Rattle.plane_blocks.specs.Inner.{mixed}
 use Rattle.plane_blocks.proofs.Rows.{rows_next}
 use Rattle.plane_blocks.proofs.stage.Statement.{statement}
 use Rattle.plane_blocks.proofs.stage.Tie as tie
 
-abbrev invariant-loop : tie.invariant-loop
-invariant-loop from j m to₀ above q₀ to q = (q ≤ 16) × (to ≡ front (mixed j m from) to₀ (2 * q)) × (length to ≡ length to₀)
+abbrev invariant_loop : tie.invariant_loop
+invariant_loop from j m to₀ above q₀ to q = (q ≤ 16) × (to ≡ front (mixed j m from) to₀ (2 * q)) × (length to ≡ length to₀)
 
-abbrev decreases-loop : tie.decreases-loop
-decreases-loop from j m to₀ above q₀ to q = 16 - q
+abbrev decreases_loop : tie.decreases_loop
+decreases_loop from j m to₀ above q₀ to q = 16 - q
 
-shl-above : tie.Need-overflow-shl-above invariant-loop decreases-loop
+shl-above : tie.Need-overflow-shl-above invariant_loop decreases_loop
 shl-above c = search rules
 
-loop-holds : tie.Need-loop-init invariant-loop decreases-loop
-loop-holds c = let args = c.args in (search rules, sym (front-start (mixed args.j args.m args.from.now) args.to.now), refl)
+loop-holds : tie.Need-loop-init invariant_loop decreases_loop
+loop-holds c = let args = c.args in (search rules, sym (front_start (mixed args.j args.m args.from.now) args.to.now), refl)
 
-mul_low : tie.Need-overflow-mul-low invariant-loop decreases-loop
+mul_low : tie.Need-overflow-mul-low invariant_loop decreases_loop
 mul_low c = search rules
 
-shared-slice-read-low : tie.Need-shared-slice-read-low invariant-loop decreases-loop
+shared-slice-read-low : tie.Need-shared-slice-read-low invariant_loop decreases_loop
 shared-slice-read-low c = search rules
 
-add-high : tie.Need-overflow-add-high invariant-loop decreases-loop
+add-high : tie.Need-overflow-add-high invariant_loop decreases_loop
 add-high c = search rules
 
-mul-high : tie.Need-overflow-mul-high invariant-loop decreases-loop
+mul-high : tie.Need-overflow-mul-high invariant_loop decreases_loop
 mul-high c = search rules
 
-shared-slice-read-high : tie.Need-shared-slice-read-high invariant-loop decreases-loop
+shared-slice-read-high : tie.Need-shared-slice-read-high invariant_loop decreases_loop
 shared-slice-read-high c = search rules
 
-shl-to : tie.Need-overflow-shl-to invariant-loop decreases-loop
+shl-to : tie.Need-overflow-shl-to invariant_loop decreases_loop
 shl-to c = search rules
 
-mul-to : tie.Need-overflow-mul-to invariant-loop decreases-loop
+mul-to : tie.Need-overflow-mul-to invariant_loop decreases_loop
 mul-to c = search rules
 
-mul-to-2 : tie.Need-overflow-mul-to-2 invariant-loop decreases-loop
+mul-to-2 : tie.Need-overflow-mul-to-2 invariant_loop decreases_loop
 mul-to-2 c = search rules
 
-slice-write-to : tie.Need-slice-write-to invariant-loop decreases-loop
+slice-write-to : tie.Need-slice-write-to invariant_loop decreases_loop
 slice-write-to c = search rules
 
-shr-to : tie.Need-overflow-shr-to invariant-loop decreases-loop
+shr-to : tie.Need-overflow-shr-to invariant_loop decreases_loop
 shr-to c = search rules
 
-mul-to-3 : tie.Need-overflow-mul-to-3 invariant-loop decreases-loop
+mul-to-3 : tie.Need-overflow-mul-to-3 invariant_loop decreases_loop
 mul-to-3 c = search rules
 
-add-to : tie.Need-overflow-add-to invariant-loop decreases-loop
+add-to : tie.Need-overflow-add-to invariant_loop decreases_loop
 add-to c = search rules
 
-mul-to-4 : tie.Need-overflow-mul-to-4 invariant-loop decreases-loop
+mul-to-4 : tie.Need-overflow-mul-to-4 invariant_loop decreases_loop
 mul-to-4 c = search rules
 
-slice-write-to-2 : tie.Need-slice-write-to-2 invariant-loop decreases-loop
+slice-write-to-2 : tie.Need-slice-write-to-2 invariant_loop decreases_loop
 slice-write-to-2 c = let at-loop = c.before.before.before in simp length-set (omega (arith, at-loop.loop.invariant.2))
 
-add-q : tie.Need-overflow-add-q invariant-loop decreases-loop
+add-q : tie.Need-overflow-add-q invariant_loop decreases_loop
 add-q c = search rules
 
-loop-less : tie.Need-loop-smaller invariant-loop decreases-loop
+loop-less : tie.Need-loop-smaller invariant_loop decreases_loop
 loop-less c = search rules
 
-loop-again : tie.Need-loop-preserved invariant-loop decreases-loop
+loop-again : tie.Need-loop-preserved invariant_loop decreases_loop
 loop-again c =
     let at-loop = c.before.before.before in
-    let at-start = at-loop.before in
-    let args = at-start.args in (
+    let at_start = at-loop.before in
+    let args = at_start.args in (
       search rules,
       rows_next args.j args.m args.from.now args.to.now at-loop.loop.to at-loop.loop.q at-loop.loop.invariant.1 (omega arith),
       simp length-set at-loop.loop.invariant.2,
     )
 
-same_length : tie.Need-same-length invariant-loop decreases-loop
+same_length : tie.Need-same-length invariant_loop decreases_loop
 same_length c = c.before.loop.invariant.2
 
-returns : tie.Need-returns invariant-loop decreases-loop
+returns : tie.Need-returns invariant_loop decreases_loop
 returns c =
     let at-loop = c.before in
     let args = at-loop.before.args in
@@ -96,8 +96,8 @@ pub stage-spec : {M : Type 1} → statement M
 stage-spec =
     tie.close
     (tie.spec
-    invariant-loop
-    decreases-loop
+    invariant_loop
+    decreases_loop
     shl-above
     loop-holds
     mul_low

@@ -1,6 +1,6 @@
--- `plane_blocks::transpose` meets its contract: what the five stages leave, one after the other, is what `all-transposed` speaks of. Assumes nothing.
+-- `plane_blocks::transpose` meets its contract: what the five stages leave, one after the other, is what `all_transposed` speaks of. Assumes nothing.
 use borrow.Author.Rules.{rules}
-use Rattle.plane_blocks.proofs.Transposed.{all-transposed}
+use Rattle.plane_blocks.proofs.Transposed.{all_transposed}
 use Rattle.plane_blocks.proofs.transpose.Statement.{statement}
 use Rattle.plane_blocks.proofs.transpose.Tie as tie
 
@@ -33,7 +33,7 @@ returns c =
     let after-stage2 = after-stage3.before.before.before.before.before in
     let after-stage = after-stage2.before.before.before.before.before in
     let args = after-stage.before.before.before.before.before.args in
-    all-transposed args.rows.now args.spare.now args.to.now after-stage.stage.new.1.1.1.0 after-stage2.stage2.new.1.1.1.0
+    all_transposed args.rows.now args.spare.now args.to.now after-stage.stage.new.1.1.1.0 after-stage2.stage2.new.1.1.1.0
     after-stage3.stage3.new.1.1.1.0 after-stage4.stage4.new.1.1.1.0 after-stage5.stage5.new.1.1.1.0
     after-stage.stage.ensures after-stage2.stage2.ensures after-stage3.stage3.ensures after-stage4.stage4.ensures after-stage5.stage5.ensures
 

@@ -1,17 +1,17 @@
--- `plane_grid::check_sizes` meets its contract. Each test of the code is a check of `sizesAnswer`, in its order. Assumes nothing.
+-- `plane_grid::check_sizes` meets its contract. Each test of the code is a check of `sizes_answer`, in its order. Assumes nothing.
 use borrow.Author.Rules.{rules}
 use mathlib.Core.Path.{◌≡◌, sym, ◌∙◌}
 use mathlib.Core.Bool.{false}
 use native.Mathlib.Omega.{arith}
-use Rattle.plane_masks.specs.Grid.{badSides}
-use Rattle.plane_masks.proofs.Answers.{good-few}
-use Rattle.plane_grid.proofs.Checks.{bad-sides, table-short, sizes-fit}
+use Rattle.plane_masks.specs.Grid.{bad_sides_of}
+use Rattle.plane_masks.proofs.Answers.{good_few}
+use Rattle.plane_grid.proofs.Checks.{bad_sides_lem, table_short, sizes_fit}
 use Rattle.plane_grid.proofs.check_sizes.Statement.{statement}
 use Rattle.plane_grid.proofs.check_sizes.Tie as tie
 
 -- both sides have passed
-good : (c : tie.Else1) → badSides c.before.before.args.height c.before.before.args.width ≡ false
-good c = sym c.before.bad-sides.ensures ∙ c.if1.false
+good : (c : tie.Else1) → bad_sides_of c.before.before.args.height c.before.before.args.width ≡ false
+good c = sym c.before.bad_sides_lem.ensures ∙ c.if1.false
 
 bad-sides-requires : tie.Need-bad-sides-requires
 bad-sides-requires c κs = search rules
@@ -20,10 +20,10 @@ returns : tie.Need-returns
 returns c =
     let after-bad-sides = c.before in
     let a = after-bad-sides.before.args in
-    sym (bad-sides a.height a.width a.plus a.minus a.first a.second (sym after-bad-sides.bad-sides.ensures ∙ c.if1.true))
+    sym (bad_sides_lem a.height a.width a.plus a.minus a.first a.second (sym after-bad-sides.bad_sides_lem.ensures ∙ c.if1.true))
 
 mul-short-table : tie.Need-overflow-mul-short-table
-mul-short-table c = let a = c.before.before.args in record { fits = omega (arith, good-few a.height a.width (good c)) }
+mul-short-table c = let a = c.before.before.args in record { fits = omega (arith, good_few a.height a.width (good c)) }
 
 short-table-requires : tie.Need-short-table-requires
 short-table-requires c κs = search rules
@@ -33,14 +33,14 @@ returns-2 c =
     let after-short-table = c.before in
     let in-else-1 = after-short-table.before in
     let a = in-else-1.before.before.args in
-    sym (table-short a.height a.width a.plus a.minus a.first a.second (good in-else-1) (sym after-short-table.short-table.ensures ∙ c.if2.true))
+    sym (table_short a.height a.width a.plus a.minus a.first a.second (good in-else-1) (sym after-short-table.short_table_lem.ensures ∙ c.if2.true))
 
 returns-3 : tie.Need-returns-3
 returns-3 c =
     let after-short-table = c.before in
     let in-else-1 = after-short-table.before in
     let a = in-else-1.before.before.args in
-    sym (sizes-fit a.height a.width a.plus a.minus a.first a.second (good in-else-1) (sym after-short-table.short-table.ensures ∙ c.if2.false))
+    sym (sizes_fit a.height a.width a.plus a.minus a.first a.second (good in-else-1) (sym after-short-table.short_table_lem.ensures ∙ c.if2.false))
 
 pub check-sizes-spec : {M : Type 1} → statement M
 check-sizes-spec =

@@ -4,56 +4,56 @@ use mathlib.Core.Path.{◌≡◌, ap, ◌∙◌}
 use Prim.Native.Nat.{ℕ, ◌≤◌, ◌-◌}
 use native.Mathlib.Omega.{arith}
 use Rattle.plane_words.specs.Inner.{both_word}
-use Rattle.plane_words.proofs.Both.{both-start, both-next}
+use Rattle.plane_words.proofs.Both.{both_start, both_next}
 use Rattle.plane_words.proofs.overlap_word.Statement.{statement}
 use Rattle.plane_words.proofs.overlap_word.Tie as tie
 
-abbrev invariant-loop : tie.invariant-loop
-invariant-loop plus minus j both₀ p₀ both p = (p ≤ 32) × (both ≡ both_word p plus minus j)
+abbrev invariant_loop : tie.invariant_loop
+invariant_loop plus minus j both₀ p₀ both p = (p ≤ 32) × (both ≡ both_word p plus minus j)
 
-abbrev decreases-loop : tie.decreases-loop
-decreases-loop plus minus j both₀ p₀ both p = 32 - p
+abbrev decreases_loop : tie.decreases_loop
+decreases_loop plus minus j both₀ p₀ both p = 32 - p
 
-loop-holds : tie.Need-loop-init invariant-loop decreases-loop
-loop-holds c = (omega arith, both-start c.args.plus.now c.args.minus.now c.args.j)
+loop-holds : tie.Need-loop-init invariant_loop decreases_loop
+loop-holds c = (omega arith, both_start c.args.plus.now c.args.minus.now c.args.j)
 
-mul-both : tie.Need-overflow-mul-both invariant-loop decreases-loop
+mul-both : tie.Need-overflow-mul-both invariant_loop decreases_loop
 mul-both c = omega arith
 
-add-both : tie.Need-overflow-add-both invariant-loop decreases-loop
+add-both : tie.Need-overflow-add-both invariant_loop decreases_loop
 add-both c = omega arith
 
-mul-both-2 : tie.Need-overflow-mul-both-2 invariant-loop decreases-loop
+mul-both-2 : tie.Need-overflow-mul-both-2 invariant_loop decreases_loop
 mul-both-2 c = omega arith
 
-shared-slice-read-both : tie.Need-shared-slice-read-both invariant-loop decreases-loop
+shared-slice-read-both : tie.Need-shared-slice-read-both invariant_loop decreases_loop
 shared-slice-read-both c = omega arith
 
-mul-both-3 : tie.Need-overflow-mul-both-3 invariant-loop decreases-loop
+mul-both-3 : tie.Need-overflow-mul-both-3 invariant_loop decreases_loop
 mul-both-3 c = omega arith
 
-add-both-2 : tie.Need-overflow-add-both-2 invariant-loop decreases-loop
+add-both-2 : tie.Need-overflow-add-both-2 invariant_loop decreases_loop
 add-both-2 c = omega arith
 
-mul-both-4 : tie.Need-overflow-mul-both-4 invariant-loop decreases-loop
+mul-both-4 : tie.Need-overflow-mul-both-4 invariant_loop decreases_loop
 mul-both-4 c = omega arith
 
-shared-slice-read-both-2 : tie.Need-shared-slice-read-both-2 invariant-loop decreases-loop
+shared-slice-read-both-2 : tie.Need-shared-slice-read-both-2 invariant_loop decreases_loop
 shared-slice-read-both-2 c = omega arith
 
-add-p : tie.Need-overflow-add-p invariant-loop decreases-loop
+add-p : tie.Need-overflow-add-p invariant_loop decreases_loop
 add-p c = omega arith
 
-loop-less : tie.Need-loop-smaller invariant-loop decreases-loop
+loop-less : tie.Need-loop-smaller invariant_loop decreases_loop
 loop-less c = omega arith
 
-loop-again : tie.Need-loop-preserved invariant-loop decreases-loop
+loop-again : tie.Need-loop-preserved invariant_loop decreases_loop
 loop-again c =
     let at-loop = c.before.before.before in
     let args = at-loop.before.args in
-    (omega arith, both-next at-loop.loop.p at-loop.loop.both args.plus.now args.minus.now args.j at-loop.loop.invariant.1)
+    (omega arith, both_next at-loop.loop.p at-loop.loop.both args.plus.now args.minus.now args.j at-loop.loop.invariant.1)
 
-returns : tie.Need-returns invariant-loop decreases-loop
+returns : tie.Need-returns invariant_loop decreases_loop
 returns c =
     let at-loop = c.before in
     let args = at-loop.before.args in
@@ -64,8 +64,8 @@ pub overlap-word-spec : {M : Type 1} → statement M
 overlap-word-spec =
     tie.close
     (tie.spec
-    invariant-loop
-    decreases-loop
+    invariant_loop
+    decreases_loop
     loop-holds
     mul-both
     add-both

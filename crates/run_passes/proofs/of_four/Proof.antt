@@ -1,4 +1,4 @@
--- `run_passes::of_four` meets its contract. `top` makes the registers four more, all 0, so that every place in use has a word four places on. Then `slide` leaves the registers four samples on, raised by the bias after them (`slide-raised`), and `answer` the outputs. Assumes nothing.
+-- `run_passes::of_four` meets its contract. `top` makes the registers four more, all 0, so that every place in use has a word four places on. Then `slide` leaves the registers four samples on, raised by the bias after them (`slide_raised`), and `answer` the outputs. Assumes nothing.
 use Prim.Native.Nat.{◌+◌, ◌≤◌}
 use mathlib.Core.Path.{ap, ◌∙◌}
 use native.Mathlib.Omega.{arith}
@@ -7,10 +7,10 @@ use borrow.Author.Rules.{rules}
 use lib.IntN.{pos}
 use mir.Syntax.{w16}
 use mir.ValLaws.{to_z-of_z}
-use Rattle.run_tables.specs.Inner.{coefficientsIn, Raised}
+use Rattle.run_tables.specs.Inner.{coefficients_in, Raised}
 use Rattle.run_moves.proofs.Fronts.{front_length}
-use Rattle.run_moves.proofs.Raising.{slide-raised}
-use Rattle.run_passes.proofs.Outputs.{same-outputs, same-raised}
+use Rattle.run_moves.proofs.Raising.{slide_raised}
+use Rattle.run_passes.proofs.Outputs.{same_outputs, same_raised}
 use Rattle.run_passes.proofs.of_four.Statement.{statement}
 use Rattle.run_passes.proofs.of_four.Tie as tie
 
@@ -73,8 +73,8 @@ slide-requires c κs =
     let after-top = c.before.before.before.before.before in
     let after-offset-sample3 = after-top.before.before.before.before.before in
     let after-offset-sample-arg = after-offset-sample3.before.before.before.before.before in
-    let at-start = after-offset-sample-arg.before in
-    (at-start.requires.0.0, after-top.top.ensures.0)
+    let at_start = after-offset-sample-arg.before in
+    (at_start.requires.0.0, after-top.top.ensures.0)
 
 same_length : tie.Need-same-length
 same_length c = search rules
@@ -92,11 +92,11 @@ returns c =
     let after-offset-sample-arg2 = after-offset-sample2.before in
     let after-offset-sample = after-offset-sample-arg2.before in
     let after-offset-sample-arg = after-offset-sample.before in
-    let at-start = after-offset-sample-arg.before in
-    let args = at-start.args in
+    let at_start = after-offset-sample-arg.before in
+    let args = at_start.args in
     let t = args.stored.now in
     let v = args.offsets.now in
-    let h = coefficientsIn t in
+    let h = coefficients_in t in
     let w = args.w in
     let xs = args.samples.now in
     let i = args.i in
@@ -108,14 +108,14 @@ returns c =
     let e1 = after-offset-sample2.offset-sample2.ensures ∙ to_z-of_z w16 (get_or xs (i + 1) (pos 0)) (record { sfits = after-offset-sample-arg2.offset-sample-arg2.given }) in
     let e2 = after-offset-sample3.offset-sample3.ensures ∙ to_z-of_z w16 (get_or xs (i + 2) (pos 0)) (record { sfits = after-offset-sample-arg3.offset-sample-arg3.given }) in
     let e3 = after-offset-sample4.offset-sample4.ensures ∙ to_z-of_z w16 (get_or xs (i + 3) (pos 0)) (record { sfits = after-offset-sample-arg4.offset-sample-arg4.given }) in
-    let n : w ≤ length after-top.top.new.1.1.1.0 = omega (arith, at-start.requires.0.0, after-top.top.ensures.0) in (
+    let n : w ≤ length after-top.top.new.1.1.1.0 = omega (arith, at_start.requires.0.0, after-top.top.ensures.0) in (
       ap length c.slide.ensures ∙ front_length _ after-top.top.new.1.1.1.0 w n ∙ after-top.top.ensures.0,
       (λ r q f.
           let high = after-top.top.ensures.1 r (λ k l. (q k l).0) f in
           let low : Raised 4 v args.bias r after-top.top.new.1.1.1.0 = record { at = λ k l. high.at k (omega (arith, l)) } in
-          let new = slide-raised t v at-start.requires.1.1.1 offset-sample-result offset-sample2-result offset-sample3-result offset-sample4-result (omega arith) (omega arith) (omega arith) (omega arith) args.bias at-start.requires.1.1.0 w r after-top.top.new.1.1.1.0 _ at-start.requires.0.0 high c.slide.ensures in (
-            same-raised h r _ _ _ _ _ _ _ _ e0 e1 e2 e3 after-bias-after.bias-after.ensures new,
-            after-answer.answer.ensures args.bias r after-bias-after.bias-after.ensures low ∙ same-outputs h r _ _ _ _ _ _ _ _ e0 e1 e2 e3 args.outputs.now i,
+          let new = slide_raised t v at_start.requires.1.1.1 offset-sample-result offset-sample2-result offset-sample3-result offset-sample4-result (omega arith) (omega arith) (omega arith) (omega arith) args.bias at_start.requires.1.1.0 w r after-top.top.new.1.1.1.0 _ at_start.requires.0.0 high c.slide.ensures in (
+            same_raised h r _ _ _ _ _ _ _ _ e0 e1 e2 e3 after-bias-after.bias-after.ensures new,
+            after-answer.answer.ensures args.bias r after-bias-after.bias-after.ensures low ∙ same_outputs h r _ _ _ _ _ _ _ _ e0 e1 e2 e3 args.outputs.now i,
           )),
     )
 

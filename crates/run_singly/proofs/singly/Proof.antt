@@ -11,63 +11,63 @@ use mir.Syntax.{w16, w32, w64}
 use mir.Val.{to_z, of_z}
 use mir.ValLaws.{to_z-of_z}
 use Rattle.run_convolution.specs.Words.{wrapped}
-use Rattle.run_convolution.specs.Running.{sum_at, next, registersOf, outputsOf}
+use Rattle.run_convolution.specs.Running.{sum_at, next, registers_of, outputs_of}
 use Rattle.run_tables.specs.Inner.{ZeroFrom}
-use Rattle.run_tables.proofs.ZeroFrom.{zero-from-next}
-use Rattle.run_singly.proofs.Single.{one-registers, one-outputs, end-registers, end-outputs}
+use Rattle.run_tables.proofs.ZeroFrom.{zero_from_next}
+use Rattle.run_singly.proofs.Single.{one_registers, one_outputs, end_registers, end_outputs}
 use Rattle.run_singly.proofs.singly.Statement.{statement}
 use Rattle.run_singly.proofs.singly.Tie as tie
 
-abbrev invariant-loop : tie.invariant-loop
-invariant-loop h w samples start registers₀ outputs₀ i₀ registers outputs i =
+abbrev invariant_loop : tie.invariant_loop
+invariant_loop h w samples start registers₀ outputs₀ i₀ registers outputs i =
     ((i ≤ length samples) × (ZeroFrom w h registers)) × ((length registers ≡ length registers₀) × ((length outputs ≡ length outputs₀)
-    × ((registersOf h registers (drop i samples) ≡ registersOf h registers₀ (drop start samples))
-    × (sets outputs i (outputsOf h registers (drop i samples)) ≡ sets outputs₀ start (outputsOf h registers₀ (drop start samples))))))
+    × ((registers_of h registers (drop i samples) ≡ registers_of h registers₀ (drop start samples))
+    × (sets outputs i (outputs_of h registers (drop i samples)) ≡ sets outputs₀ start (outputs_of h registers₀ (drop start samples))))))
 
-abbrev decreases-loop : tie.decreases-loop
-decreases-loop h w samples start registers₀ outputs₀ i₀ registers outputs i = length samples - i
+abbrev decreases_loop : tie.decreases_loop
+decreases_loop h w samples start registers₀ outputs₀ i₀ registers outputs i = length samples - i
 
-loop-holds : tie.Need-loop-init invariant-loop decreases-loop
+loop-holds : tie.Need-loop-init invariant_loop decreases_loop
 loop-holds c = ((search rules, c.before.requires.1), (refl, (refl, (refl, refl))))
 
-mul-x : tie.Need-overflow-mul-x invariant-loop decreases-loop
+mul-x : tie.Need-overflow-mul-x invariant_loop decreases_loop
 mul-x c = search rules
 
-shared-slice-copy-out-x : tie.Need-shared-slice-copy-out-x invariant-loop decreases-loop
+shared-slice-copy-out-x : tie.Need-shared-slice-copy-out-x invariant_loop decreases_loop
 shared-slice-copy-out-x c = search rules
 
-slice-read-sum : tie.Need-slice-read-sum invariant-loop decreases-loop
+slice-read-sum : tie.Need-slice-read-sum invariant_loop decreases_loop
 slice-read-sum c = search rules
 
-element-copy-out-sum : tie.Need-element-copy-out-sum invariant-loop decreases-loop
+element-copy-out-sum : tie.Need-element-copy-out-sum invariant_loop decreases_loop
 element-copy-out-sum c = search rules
 
-sum-requires : tie.Need-sum-requires invariant-loop decreases-loop
+sum-requires : tie.Need-sum-requires invariant_loop decreases_loop
 sum-requires c κs = search rules
 
-signed-requires : tie.Need-signed-requires invariant-loop decreases-loop
+signed-requires : tie.Need-signed-requires invariant_loop decreases_loop
 signed-requires c κs = search rules
 
-mul-t9 : tie.Need-overflow-mul-t9 invariant-loop decreases-loop
+mul-t9 : tie.Need-overflow-mul-t9 invariant_loop decreases_loop
 mul-t9 c = search rules
 
-slice-set-from-outputs : tie.Need-slice-set-from-outputs invariant-loop decreases-loop
+slice-set-from-outputs : tie.Need-slice-set-from-outputs invariant_loop decreases_loop
 slice-set-from-outputs c = search rules
 
-move-one-requires : tie.Need-move-one-requires invariant-loop decreases-loop
+move-one-requires : tie.Need-move-one-requires invariant_loop decreases_loop
 move-one-requires c κs =
     let after-x = c.before.before.before.before.before in
     let at-loop = after-x.before.before in
-    let at-start = at-loop.before.before in
-    (at-start.requires.0.0, (omega (arith, at-loop.loop.invariant.1.0, at-start.requires.0.1.1.0), at-loop.loop.invariant.0.1))
+    let at_start = at-loop.before.before in
+    (at_start.requires.0.0, (omega (arith, at-loop.loop.invariant.1.0, at_start.requires.0.1.1.0), at-loop.loop.invariant.0.1))
 
-add-i : tie.Need-overflow-add-i invariant-loop decreases-loop
+add-i : tie.Need-overflow-add-i invariant_loop decreases_loop
 add-i c = search rules
 
-loop-less : tie.Need-loop-smaller invariant-loop decreases-loop
+loop-less : tie.Need-loop-smaller invariant_loop decreases_loop
 loop-less c = search rules
 
-loop-again : tie.Need-loop-preserved invariant-loop decreases-loop
+loop-again : tie.Need-loop-preserved invariant_loop decreases_loop
 unfolding sum_at
 loop-again c =
     let after-move-one = c.before.before in
@@ -77,8 +77,8 @@ loop-again c =
     let after-x = after-sum-arg.before.before in
     let in-loop = after-x.before in
     let at-loop = in-loop.before in
-    let at-start = at-loop.before.before in
-    let args = at-start.args in
+    let at_start = at-loop.before.before in
+    let args = at_start.args in
     let h = args.h.now in
     let xs = args.samples.now in
     let r = at-loop.loop.registers in
@@ -91,43 +91,43 @@ loop-again c =
     to_z-of_z w64 after-signed.signed.result (record { sfits = after-signed.signed.type-inv }) ∙ after-signed.signed.ensures ∙ ap (to_z w64) s in
     let e = after-move-one.move-one.ensures ∙ ap (λ y. next h y r) u in
     let l : i < length xs = in-loop.loop-test.true in
-    let q = zero-from-next h (omega (arith, at-start.requires.0.0)) args.w x r at-loop.loop.invariant.0.1 in (
+    let q = zero_from_next h (omega (arith, at_start.requires.0.0)) args.w x r at-loop.loop.invariant.0.1 in (
       (omega (arith, l), subst (ZeroFrom args.w h) (sym e) q),
       (
         search rules,
         (
           simp length-set at-loop.loop.invariant.1.1.0,
           (
-            one-registers h xs r i l _ e ∙ at-loop.loop.invariant.1.1.1.0,
-            one-outputs h xs r i l _ e at-loop.loop.outputs (to_z w64 (of_z w64 after-signed.signed.result)) o ∙ at-loop.loop.invariant.1.1.1.1,
+            one_registers h xs r i l _ e ∙ at-loop.loop.invariant.1.1.1.0,
+            one_outputs h xs r i l _ e at-loop.loop.outputs (to_z w64 (of_z w64 after-signed.signed.result)) o ∙ at-loop.loop.invariant.1.1.1.1,
           ),
         ),
       ),
     )
 
-same_length : tie.Need-same-length invariant-loop decreases-loop
+same_length : tie.Need-same-length invariant_loop decreases_loop
 same_length c = search rules
 
-same-length-2 : tie.Need-same-length-2 invariant-loop decreases-loop
+same-length-2 : tie.Need-same-length-2 invariant_loop decreases_loop
 same-length-2 c = search rules
 
-returns : tie.Need-returns invariant-loop decreases-loop
+returns : tie.Need-returns invariant_loop decreases_loop
 returns c =
     let at-loop = c.before in
-    let at-start = at-loop.before.before in
+    let at_start = at-loop.before.before in
     let loop = at-loop.loop in
-    let args = at-start.args in
+    let args = at_start.args in
     let l : length args.samples.now ≤ loop.i = c.loop-test.false in (
-      sym (end-registers args.h.now args.samples.now loop.registers loop.i l) ∙ loop.invariant.1.1.1.0,
-      sym (end-outputs args.h.now args.samples.now loop.registers loop.i loop.outputs l) ∙ loop.invariant.1.1.1.1,
+      sym (end_registers args.h.now args.samples.now loop.registers loop.i l) ∙ loop.invariant.1.1.1.0,
+      sym (end_outputs args.h.now args.samples.now loop.registers loop.i loop.outputs l) ∙ loop.invariant.1.1.1.1,
     )
 
 pub singly-spec : {M : Type 1} → statement M
 singly-spec =
     tie.close
     (tie.spec
-    invariant-loop
-    decreases-loop
+    invariant_loop
+    decreases_loop
     loop-holds
     mul-x
     shared-slice-copy-out-x

@@ -7,73 +7,73 @@ use Rattle.run_tables.proofs.Backward.{From, from_end, from_next, from_all}
 use Rattle.run_tables.proofs.fill_offsets.Statement.{statement}
 use Rattle.run_tables.proofs.fill_offsets.Tie as tie
 
-abbrev invariant-loop : tie.invariant-loop
-invariant-loop stored w offsets₀ j₀ offsets j = (j ≤ 260) × (From stored offsets j)
+abbrev invariant_loop : tie.invariant_loop
+invariant_loop stored w offsets₀ j₀ offsets j = (j ≤ 260) × (From stored offsets j)
 
-abbrev decreases-loop : tie.decreases-loop
-decreases-loop stored w offsets₀ j₀ offsets j = j
+abbrev decreases_loop : tie.decreases_loop
+decreases_loop stored w offsets₀ j₀ offsets j = j
 
-add-j : tie.Need-overflow-add-j invariant-loop decreases-loop
+add-j : tie.Need-overflow-add-j invariant_loop decreases_loop
 add-j c = search rules
 
-loop-holds : tie.Need-loop-init invariant-loop decreases-loop
+loop-holds : tie.Need-loop-init invariant_loop decreases_loop
 loop-holds c = (search rules, from_end _ _ _ c.requires.1.0 c.requires.1.1)
 
-sub-j : tie.Need-overflow-sub-j invariant-loop decreases-loop
+sub-j : tie.Need-overflow-sub-j invariant_loop decreases_loop
 sub-j c = search rules
 
-add-offset-below : tie.Need-overflow-add-offset-below invariant-loop decreases-loop
+add-offset-below : tie.Need-overflow-add-offset-below invariant_loop decreases_loop
 add-offset-below c = search rules
 
-mul-offset-below : tie.Need-overflow-mul-offset-below invariant-loop decreases-loop
+mul-offset-below : tie.Need-overflow-mul-offset-below invariant_loop decreases_loop
 mul-offset-below c = search rules
 
-element-copy-out-offset-below : tie.Need-element-copy-out-offset-below invariant-loop decreases-loop
+element-copy-out-offset-below : tie.Need-element-copy-out-offset-below invariant_loop decreases_loop
 element-copy-out-offset-below c = omega (arith, c.before.loop.invariant.1.size)
 
-mul-offset-below-2 : tie.Need-overflow-mul-offset-below-2 invariant-loop decreases-loop
+mul-offset-below-2 : tie.Need-overflow-mul-offset-below-2 invariant_loop decreases_loop
 mul-offset-below-2 c = search rules
 
-element-copy-out-offset-below-2 : tie.Need-element-copy-out-offset-below-2 invariant-loop decreases-loop
+element-copy-out-offset-below-2 : tie.Need-element-copy-out-offset-below-2 invariant_loop decreases_loop
 element-copy-out-offset-below-2 c = search rules
 
-offset-below-requires : tie.Need-offset-below-requires invariant-loop decreases-loop
+offset-below-requires : tie.Need-offset-below-requires invariant_loop decreases_loop
 offset-below-requires c κs = search rules
 
-mul-offsets : tie.Need-overflow-mul-offsets invariant-loop decreases-loop
+mul-offsets : tie.Need-overflow-mul-offsets invariant_loop decreases_loop
 mul-offsets c = search rules
 
-element-write-offsets : tie.Need-element-write-offsets invariant-loop decreases-loop
+element-write-offsets : tie.Need-element-write-offsets invariant_loop decreases_loop
 element-write-offsets c =
     let at-loop = c.before.before.before.before in
     omega (arith, at-loop.loop.invariant.1.size)
 
-loop-less : tie.Need-loop-smaller invariant-loop decreases-loop
+loop-less : tie.Need-loop-smaller invariant_loop decreases_loop
 loop-less c = search rules
 
-loop-again : tie.Need-loop-preserved invariant-loop decreases-loop
+loop-again : tie.Need-loop-preserved invariant_loop decreases_loop
 loop-again c =
     let at-loop = c.before.before.before.before in
-    let at-start = at-loop.before in
+    let at_start = at-loop.before in
     let j = at-loop.loop.j in
-    let table = at-start.args.stored.now in
+    let table = at_start.args.stored.now in
     let v = at-loop.loop.offsets in
     let e : j ≡ j - 1 + 1 = omega arith in
     (search rules, from_next table v (j - 1) c.offset-below.result (omega arith) (subst (From table v) e at-loop.loop.invariant.1) c.offset-below.ensures)
 
-returns : tie.Need-returns invariant-loop decreases-loop
+returns : tie.Need-returns invariant_loop decreases_loop
 returns c =
     let at-loop = c.before in
-    let at-start = at-loop.before in
+    let at_start = at-loop.before in
     let e : at-loop.loop.j ≡ 0 = omega arith in
-    from_all _ _ (subst (From at-start.args.stored.now at-loop.loop.offsets) e at-loop.loop.invariant.1)
+    from_all _ _ (subst (From at_start.args.stored.now at-loop.loop.offsets) e at-loop.loop.invariant.1)
 
 pub fill-offsets-spec : {M : Type 1} → statement M
 fill-offsets-spec =
     tie.close
     (tie.spec
-    invariant-loop
-    decreases-loop
+    invariant_loop
+    decreases_loop
     add-j
     loop-holds
     sub-j

@@ -8,7 +8,7 @@ use native.Mathlib.Omega.{arith}
 use Rattle.text.proofs.Puts.{then, widen}
 use Rattle.text.specs.Inner.{Put}
 use Rattle.sheet_lines.specs.Inner.{area_bytes}
-use Rattle.sheet_kinds.proofs.Values.{network-written}
+use Rattle.sheet_kinds.proofs.Values.{network_written}
 use Rattle.sheet_kinds.proofs.network_sheet.Statement.{statement}
 use Rattle.sheet_kinds.proofs.network_sheet.Tie as tie
 
@@ -26,9 +26,9 @@ adders-requires c κs =
     let after-tap-lines = c.before.before in
     let after-node-lines = after-tap-lines.before.before.before.before in
     let after-put-header = after-node-lines.before.before.before.before in
-    let at-start = after-put-header.before.before.before.before.before in
-    let q = at-start.requires.0 in
-    (q.some, omega (arith, q.rows_in.few, q.taps-in.few))
+    let at_start = after-put-header.before.before.before.before.before in
+    let q = at_start.requires.0 in
+    (q.some, omega (arith, q.rows_in.few, q.taps_in.few))
 
 total-line-requires : tie.Need-total-line-requires
 total-line-requires c κs = search rules
@@ -43,12 +43,12 @@ returns c =
     let after-tap-lines = after-adders.before.before.before in
     let after-node-lines = after-tap-lines.before.before.before.before in
     let after-put-header = after-node-lines.before.before.before.before in
-    let at-start = after-put-header.before.before.before.before.before in
-    let args = at-start.args in
-    let q = at-start.requires.0 in
+    let at_start = after-put-header.before.before.before.before.before in
+    let args = at_start.args in
+    let q = at_start.requires.0 in
     let total-line = after-total-line.total-line in
-    subst (λ (t : List ℕ). Put args.out.now 0 t area_bytes total-line.new.0 total-line.result) (network-written args.rows.now args.n args.tap-rows.now args.coefficients.now _ q after-adders.adders.ensures)
-    (widen (omega (arith, q.rows_in.few, q.taps-in.few))
+    subst (λ (t : List ℕ). Put args.out.now 0 t area_bytes total-line.new.0 total-line.result) (network_written args.rows.now args.n args.tap-rows.now args.coefficients.now _ q after-adders.adders.ensures)
+    (widen (omega (arith, q.rows_in.few, q.taps_in.few))
     (then after-put-header.put-header.ensures
     (then after-node-lines.Node-Lines.ensures
     (then after-tap-lines.tap-lines.ensures total-line.ensures))))

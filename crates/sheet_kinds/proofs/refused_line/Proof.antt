@@ -1,7 +1,7 @@
 -- `sheet_kinds::refused_line` meets its contract. Assumes nothing.
 use borrow.Author.Rules.{rules}
 use Rattle.text.proofs.Puts.{then}
-use Rattle.sheet_lines.proofs.Lines.{value_after, refused-parts}
+use Rattle.sheet_lines.proofs.Lines.{value_after, refused_parts}
 use Rattle.sheet_kinds.proofs.refused_line.Statement.{statement}
 use Rattle.sheet_kinds.proofs.refused_line.Tie as tie
 
@@ -29,9 +29,9 @@ returns c =
     let after-put-number = after-put-end.before.before.before.before in
     let after-put-to-value = after-put-number.before.before.before.before in
     let after-put = after-put-to-value.before.before.before.before in
-    let at-start = after-put.before.before.before.before in
-    let args = at-start.args in
-    rw (refused-parts args.number args.place)
+    let at_start = after-put.before.before.before.before in
+    let args = at_start.args in
+    rw (refused_parts args.number args.place)
     (then after-put.put.ensures
     (value_after args.number after-put-to-value.put-to-value.ensures
     (then after-put-number.put-number.ensures after-put-end.put-end.ensures)))

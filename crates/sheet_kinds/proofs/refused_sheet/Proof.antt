@@ -7,7 +7,7 @@ use Rattle.refusal.specs.Table.{place_of}
 use Rattle.text.specs.Inner.{Put}
 use Rattle.text.proofs.Puts.{then, widen}
 use Rattle.sheet_lines.specs.Inner.{area_bytes}
-use Rattle.sheet_kinds.specs.Text.{refusedText}
+use Rattle.sheet_kinds.specs.Text.{refused_text}
 use Rattle.sheet_kinds.proofs.refused_sheet.Statement.{statement}
 use Rattle.sheet_kinds.proofs.refused_sheet.Tie as tie
 
@@ -27,18 +27,18 @@ same_length : tie.Need-same-length
 same_length c = search rules
 
 returns : tie.Need-returns
-unfolding refusedText
+unfolding refused_text
 returns c =
     let after-refused-line = c.before.before in
     let after-put-header = after-refused-line.before.before.before.before in
     let after-place = after-put-header.before.before in
     let after-number = after-place.before in
-    let at-start = after-number.before.before in
+    let at_start = after-number.before.before in
     let number = after-number.number in
-    let start = at-start.args in
+    let start = at_start.args in
     let line = after-refused-line.refused-line in
-    subst (λ (n : ℕ). Put start.out.now 0 (refusedText n (place_of start.refusal)) area_bytes line.new.0 line.result) number.ensures
-    (subst (λ (p : ℕ). Put start.out.now 0 (refusedText number.result p) area_bytes line.new.0 line.result) after-place.place.ensures
+    subst (λ (n : ℕ). Put start.out.now 0 (refused_text n (place_of start.refusal)) area_bytes line.new.0 line.result) number.ensures
+    (subst (λ (p : ℕ). Put start.out.now 0 (refused_text number.result p) area_bytes line.new.0 line.result) after-place.place.ensures
     (widen (lit≤ tt) (then after-put-header.put-header.ensures line.ensures)))
 
 pub refused-sheet-spec : {M : Type 1} → statement M

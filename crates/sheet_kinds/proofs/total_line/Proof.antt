@@ -1,7 +1,7 @@
 -- `sheet_kinds::total_line` meets its contract. Assumes nothing.
 use borrow.Author.Rules.{rules}
 use Rattle.text.proofs.Puts.{then}
-use Rattle.sheet_lines.proofs.Lines.{value_after, total-parts}
+use Rattle.sheet_lines.proofs.Lines.{value_after, total_parts}
 use Rattle.sheet_kinds.proofs.total_line.Statement.{statement}
 use Rattle.sheet_kinds.proofs.total_line.Tie as tie
 
@@ -25,9 +25,9 @@ returns c =
     let after-put-end = c.before.before in
     let after-put-to-value = after-put-end.before.before.before.before in
     let after-put = after-put-to-value.before.before.before.before in
-    let at-start = after-put.before.before.before.before in
-    let total = at-start.args.adders in
-    rw (total-parts total)
+    let at_start = after-put.before.before.before.before in
+    let total = at_start.args.adders in
+    rw (total_parts total)
     (then after-put.put.ensures (value_after total after-put-to-value.put-to-value.ensures after-put-end.put-end.ensures))
 
 pub total-line-spec : {M : Type 1} → statement M

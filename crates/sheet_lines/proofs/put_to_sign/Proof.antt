@@ -34,8 +34,8 @@ returns c =
     let after-put-field3 = after-put-byte.before.before.before.before in
     let after-put-field2 = after-put-field3.before.before.before.before in
     let after-put-field = after-put-field2.before.before.before.before in
-    let at-start = after-put-field.before.before.before in
-    let args = at-start.args in
+    let at_start = after-put-field.before.before.before in
+    let args = at_start.args in
     comma (decimal args.number) after-put-field.put-field.ensures
     (comma (decimal args.left) after-put-field2.put-field2.ensures
     (comma (decimal args.shift) after-put-field3.put-field3.ensures

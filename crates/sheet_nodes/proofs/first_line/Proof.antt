@@ -2,7 +2,7 @@
 use borrow.Author.Rules.{rules}
 use lib.Dec.{lit≤}
 use Rattle.text.proofs.Puts.{then, widen}
-use Rattle.sheet_lines.proofs.Lines.{value_after, node-first}
+use Rattle.sheet_lines.proofs.Lines.{value_after, node_first}
 use Rattle.sheet_nodes.proofs.first_line.Statement.{statement}
 use Rattle.sheet_nodes.proofs.first_line.Tie as tie
 
@@ -30,8 +30,8 @@ returns c =
     let after-put-number = after-put-end.before.before.before.before in
     let after-put-to-value = after-put-number.before.before.before.before in
     let after-put = after-put-to-value.before.before.before.before in
-    let at-start = after-put.before.before.before.before in
-    rw (node-first at-start.args.row) (widen (lit≤ tt)
+    let at_start = after-put.before.before.before.before in
+    rw (node_first at_start.args.row) (widen (lit≤ tt)
     (then after-put.put.ensures
     (value_after 0 after-put-to-value.put-to-value.ensures
     (then after-put-number.put-number.ensures after-put-end.put-end.ensures))))

@@ -2,7 +2,7 @@
 use borrow.Author.Rules.{rules}
 use Rattle.text.proofs.Puts.{then}
 use Rattle.text.specs.Numbers.{decimal}
-use Rattle.sheet_lines.proofs.Lines.{comma, after-sign, later-parts}
+use Rattle.sheet_lines.proofs.Lines.{comma, after_sign, later_parts}
 use Rattle.sheet_nodes.proofs.later_line.Statement.{statement}
 use Rattle.sheet_nodes.proofs.later_line.Tie as tie
 
@@ -34,12 +34,12 @@ returns c =
     let after-put-field = after-put-number.before.before.before.before in
     let after-put-to-sign = after-put-field.before.before.before.before in
     let after-put = after-put-to-sign.before.before.before.before in
-    let at-start = after-put.before.before.before.before in
-    let args = at-start.args in
+    let at_start = after-put.before.before.before.before in
+    let args = at_start.args in
     let r = args.row in
-    rw (later-parts args.i r)
+    rw (later_parts args.i r)
     (then after-put.put.ensures
-    (after-sign args.i r.left r.shift r.sign after-put-to-sign.put-to-sign.ensures
+    (after_sign args.i r.left r.shift r.sign after-put-to-sign.put-to-sign.ensures
     (comma (decimal r.right) after-put-field.put-field.ensures
     (then after-put-number.put-number.ensures after-put-end.put-end.ensures))))
 

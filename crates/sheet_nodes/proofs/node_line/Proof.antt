@@ -1,6 +1,6 @@
 -- `sheet_nodes::node_line` meets its contract. Assumes nothing.
 use borrow.Author.Rules.{rules}
-use Rattle.sheet_lines.proofs.Lines.{node-later}
+use Rattle.sheet_lines.proofs.Lines.{node_later}
 use Rattle.sheet_nodes.proofs.node_line.Statement.{statement}
 use Rattle.sheet_nodes.proofs.node_line.Tie as tie
 
@@ -26,9 +26,9 @@ returns-2 : tie.Need-returns-2
 returns-2 c =
     let after-later-line = c.before.before in
     let in-else-1 = after-later-line.before.before in
-    let at-start = in-else-1.before.before in
-    let args = at-start.args in
-    rw (node-later args.i args.row in-else-1.if1.false) after-later-line.later-line.ensures
+    let at_start = in-else-1.before.before in
+    let args = at_start.args in
+    rw (node_later args.i args.row in-else-1.if1.false) after-later-line.later-line.ensures
 
 pub node-line-spec : {M : Type 1} → statement M
 node-line-spec =

@@ -2,7 +2,7 @@
 use borrow.Author.Rules.{rules}
 use lib.Dec.{lit≤}
 use Rattle.text.proofs.Puts.{then, widen}
-use Rattle.sheet_lines.proofs.Lines.{value_after, empty-parts}
+use Rattle.sheet_lines.proofs.Lines.{value_after, empty_parts}
 use Rattle.sheet_taps.proofs.empty_tap_line.Statement.{statement}
 use Rattle.sheet_taps.proofs.empty_tap_line.Tie as tie
 
@@ -30,9 +30,9 @@ returns c =
     let after-put-byte = after-put-end.before.before.before.before in
     let after-put-to-value = after-put-byte.before.before.before.before in
     let after-put = after-put-to-value.before.before.before.before in
-    let at-start = after-put.before.before.before.before in
-    let i = at-start.args.i in
-    rw (empty-parts i) (widen (lit≤ tt)
+    let at_start = after-put.before.before.before.before in
+    let i = at_start.args.i in
+    rw (empty_parts i) (widen (lit≤ tt)
     (then after-put.put.ensures
     (value_after i after-put-to-value.put-to-value.ensures
     (then after-put-byte.put_byte.ensures after-put-end.put-end.ensures))))

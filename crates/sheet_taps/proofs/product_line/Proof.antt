@@ -1,4 +1,4 @@
--- `sheet_taps::product_line` meets its contract: the line is its parts one after the other (`product-parts`), and a coefficient comes to `put_integer` as its bits, which are turned back.
+-- `sheet_taps::product_line` meets its contract: the line is its parts one after the other (`product_parts`), and a coefficient comes to `put_integer` as its bits, which are turned back.
 -- Assumes nothing.
 use borrow.Author.Rules.{rules}
 use mathlib.Core.Path.{subst}
@@ -7,9 +7,9 @@ use mir.Syntax.{w32}
 use mir.ValLaws.{to_z-of_z}
 use Rattle.text.proofs.Puts.{then}
 use Rattle.text.specs.Inner.{Put}
-use Rattle.sheet_lines.specs.Lines.{productLine}
-use Rattle.sheet_lines.specs.Inner.{tapLineBytes}
-use Rattle.sheet_lines.proofs.Lines.{after-sign, product-parts}
+use Rattle.sheet_lines.specs.Lines.{product_line_of}
+use Rattle.sheet_lines.specs.Inner.{tap_line_bytes}
+use Rattle.sheet_lines.proofs.Lines.{after_sign, product_parts}
 use Rattle.sheet_taps.proofs.product_line.Statement.{statement}
 use Rattle.sheet_taps.proofs.product_line.Tie as tie
 
@@ -41,14 +41,14 @@ returns c =
     let after-put-byte = after-put-integer.before.before.before.before in
     let after-put-to-sign = after-put-byte.before.before.before.before in
     let after-put = after-put-to-sign.before.before.before.before in
-    let at-start = after-put.before.before.before.before in
-    let args = at-start.args in
+    let at_start = after-put.before.before.before.before in
+    let args = at_start.args in
     let t = args.tap in
     let put-end = after-put-end.put-end in
-    subst (λ (z : ℤ). Put args.out.now args.at (productLine args.i t z) tapLineBytes put-end.new.0 put-end.result) (to_z-of_z w32 args.value at-start.ranges.value)
-    (rw (product-parts args.i t _)
+    subst (λ (z : ℤ). Put args.out.now args.at (product_line_of args.i t z) tap_line_bytes put-end.new.0 put-end.result) (to_z-of_z w32 args.value at_start.ranges.value)
+    (rw (product_parts args.i t _)
     (then after-put.put.ensures
-    (after-sign args.i t.row t.shift t.sign after-put-to-sign.put-to-sign.ensures
+    (after_sign args.i t.row t.shift t.sign after-put-to-sign.put-to-sign.ensures
     (then after-put-byte.put_byte.ensures
     (then after-put-integer.put-integer.ensures put-end.ensures)))))
 

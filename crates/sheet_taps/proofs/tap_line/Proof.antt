@@ -5,9 +5,9 @@ use lib.IntN.{ℤ}
 use mir.Syntax.{w32}
 use mir.ValLaws.{to_z-of_z}
 use Rattle.text.specs.Inner.{Put}
-use Rattle.sheet_lines.specs.Lines.{productLine}
-use Rattle.sheet_lines.specs.Inner.{tapLineBytes}
-use Rattle.sheet_lines.proofs.Lines.{tap-none, tap-some}
+use Rattle.sheet_lines.specs.Lines.{product_line_of}
+use Rattle.sheet_lines.specs.Inner.{tap_line_bytes}
+use Rattle.sheet_lines.proofs.Lines.{tap_none, tap_some}
 use Rattle.sheet_taps.proofs.tap_line.Statement.{statement}
 use Rattle.sheet_taps.proofs.tap_line.Tie as tie
 
@@ -21,9 +21,9 @@ returns : tie.Need-returns
 returns c =
     let after-empty-tap-line = c.before.before in
     let in-then-1 = after-empty-tap-line.before.before in
-    let at-start = in-then-1.before.before.before in
-    let args = at-start.args in
-    rw (tap-none args.i args.tap args.value in-then-1.if1.true) after-empty-tap-line.empty-tap-line.ensures
+    let at_start = in-then-1.before.before.before in
+    let args = at_start.args in
+    rw (tap_none args.i args.tap args.value in-then-1.if1.true) after-empty-tap-line.empty-tap-line.ensures
 
 product-line-requires : tie.Need-product-line-requires
 product-line-requires c κs = search rules
@@ -35,11 +35,11 @@ returns-2 : tie.Need-returns-2
 returns-2 c =
     let after-product-line = c.before.before in
     let in-else-1 = after-product-line.before.before in
-    let at-start = in-else-1.before.before.before in
-    let args = at-start.args in
+    let at_start = in-else-1.before.before.before in
+    let args = at_start.args in
     let product-line = after-product-line.product-line in
-    rw (tap-some args.i args.tap args.value in-else-1.if1.false)
-    (subst (λ (z : ℤ). Put args.out.now args.at (productLine args.i args.tap z) tapLineBytes product-line.new.0 product-line.result) (to_z-of_z w32 args.value at-start.ranges.value) product-line.ensures)
+    rw (tap_some args.i args.tap args.value in-else-1.if1.false)
+    (subst (λ (z : ℤ). Put args.out.now args.at (product_line_of args.i args.tap z) tap_line_bytes product-line.new.0 product-line.result) (to_z-of_z w32 args.value at_start.ranges.value) product-line.ensures)
 
 pub tap-line-spec : {M : Type 1} → statement M
 tap-line-spec =

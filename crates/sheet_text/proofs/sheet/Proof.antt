@@ -3,11 +3,11 @@ use borrow.Author.Rules.{rules}
 use mathlib.Core.Path.{sym, ap, ◌∙◌}
 use Prim.Native.Nat.{◌≤◌}
 use lib.ListN.{length}
-use Rattle.sheet_input.proofs.Answers.{at-most-256}
+use Rattle.sheet_input.proofs.Answers.{at_most_256}
 use Rattle.sheet_input.specs.Input.{answer_of}
-use Rattle.sheet_input.specs.Argument.{argumentOf}
+use Rattle.sheet_input.specs.Argument.{argument_of}
 use Rattle.sheet_lines.specs.Inner.{area_bytes}
-use Rattle.sheet_text.proofs.Sheets.{sheet-given, sheet-refused, put-sheet}
+use Rattle.sheet_text.proofs.Sheets.{sheet_given, sheet_refused, put_sheet}
 use Rattle.sheet_text.proofs.sheet.Statement.{statement}
 use Rattle.sheet_text.proofs.sheet.Tie as tie
 
@@ -21,10 +21,10 @@ tap-sheet-requires : tie.Need-tap-sheet-requires
 tap-sheet-requires c κs =
     let after-fraction = c.before.before in
     let after-fraction-bits = after-fraction.before.before in
-    let at-start = after-fraction-bits.before.before.before in
-    let args = at-start.args in
-    let e = sym after-fraction-bits.fraction-bits.ensures ∙ ap answer_of after-fraction.fraction.given.1 in
-    (at-most-256 args.input.now (argumentOf args.given args.argument.now) _ e, search rules)
+    let at_start = after-fraction-bits.before.before.before in
+    let args = at_start.args in
+    let e = sym after-fraction-bits.fraction_bits.ensures ∙ ap answer_of after-fraction.fraction.given.1 in
+    (at_most_256 args.input.now (argument_of args.given args.argument.now) _ e, search rules)
 
 enum-known-fraction-2 : tie.Need-enum-known-fraction-2
 enum-known-fraction-2 c = search rules
@@ -36,21 +36,21 @@ returns : tie.Need-returns
 returns c =
     let after-fraction = c.before.before.before in
     let after-fraction-bits = after-fraction.before.before in
-    let at-start = after-fraction-bits.before.before.before in
-    let args = at-start.args in
-    let e = sym after-fraction-bits.fraction-bits.ensures ∙ ap answer_of after-fraction.fraction.given.1 in
+    let at_start = after-fraction-bits.before.before.before in
+    let args = at_start.args in
+    let e = sym after-fraction-bits.fraction_bits.ensures ∙ ap answer_of after-fraction.fraction.given.1 in
     let k : area_bytes ≤ length args.out.now = search rules in
-    put-sheet args.input.now (argumentOf args.given args.argument.now) (sheet-given args.input.now (argumentOf args.given args.argument.now) _ e) c.tap-sheet.ensures k
+    put_sheet args.input.now (argument_of args.given args.argument.now) (sheet_given args.input.now (argument_of args.given args.argument.now) _ e) c.tap-sheet.ensures k
 
 returns-2 : tie.Need-returns-2
 returns-2 c =
     let after-fraction2 = c.before.before.before in
     let after-fraction-bits = after-fraction2.before.before in
-    let at-start = after-fraction-bits.before.before.before in
-    let args = at-start.args in
-    let e = sym after-fraction-bits.fraction-bits.ensures ∙ ap answer_of after-fraction2.fraction2.given.1 in
+    let at_start = after-fraction-bits.before.before.before in
+    let args = at_start.args in
+    let e = sym after-fraction-bits.fraction_bits.ensures ∙ ap answer_of after-fraction2.fraction2.given.1 in
     let k : area_bytes ≤ length args.out.now = search rules in
-    put-sheet args.input.now (argumentOf args.given args.argument.now) (sheet-refused args.input.now (argumentOf args.given args.argument.now) _ _ e) c.refused-sheet.ensures k
+    put_sheet args.input.now (argument_of args.given args.argument.now) (sheet_refused args.input.now (argument_of args.given args.argument.now) _ _ e) c.refused-sheet.ensures k
 
 pub sheet-spec : {M : Type 1} → statement M
 sheet-spec =

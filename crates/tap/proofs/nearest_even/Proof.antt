@@ -2,13 +2,13 @@
 use mathlib.Core.Path.{refl}
 use lib.Dec.{lit≤, lit<}
 use lib.Ieee.{of_bits}
-use Rattle.tap.proofs.Even.{rounded-by}
+use Rattle.tap.proofs.Even.{rounded_by}
 use Rattle.tap.proofs.nearest_even.Statement.{statement}
 use Rattle.tap.proofs.nearest_even.Tie as tie
 
 returns : tie.Need-returns
 unfolding of_bits
-returns c = rounded-by c.args.x _ _ c.requires (record {
+returns c = rounded_by c.args.x _ _ c.requires (record {
   large = lit≤ tt;
   room = lit< tt;
   positive = refl;

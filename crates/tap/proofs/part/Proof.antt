@@ -10,7 +10,7 @@ use mir.ValLaws.{to_z-of_z}
 use Rattle.refusal.specs.Answer.{given}
 use Rattle.tap.specs.Rounding.{exact, rounded}
 use Rattle.tap.specs.Inner.{parted}
-use Rattle.tap.proofs.Steps.{parted-yes, parted-no}
+use Rattle.tap.proofs.Steps.{parted_yes, parted_no}
 use Rattle.tap.proofs.part.Statement.{statement}
 use Rattle.tap.proofs.part.Tie as tie
 
@@ -22,20 +22,20 @@ int-to-float-y c = search rules
 
 returns : tie.Need-returns
 returns c =
-    let at-start = c.before.before in
-    let x = at-start.args.x in
-    let n = at-start.args.n in
-    let b = back at-start in
-    ap (λ (z : ℤ). given (exact z)) b ∙ ap given (parted-yes x n (subst (λ (y : ℤ). eq x (of_int binary64 y) ≡ true) b c.if1.true))
+    let at_start = c.before.before in
+    let x = at_start.args.x in
+    let n = at_start.args.n in
+    let b = back at_start in
+    ap (λ (z : ℤ). given (exact z)) b ∙ ap given (parted_yes x n (subst (λ (y : ℤ). eq x (of_int binary64 y) ≡ true) b c.if1.true))
 
 returns-2 : tie.Need-returns-2
 returns-2 c =
-    let at-start = c.before.before in
-    let x = at-start.args.x in
-    let n = at-start.args.n in
-    let b = back at-start in
+    let at_start = c.before.before in
+    let x = at_start.args.x in
+    let n = at_start.args.n in
+    let b = back at_start in
     subst (λ (y : ℤ). given (rounded y (sub binary64 x (of_int binary64 y))) ≡ given (parted x n)) (sym b)
-    (ap given (parted-no x n (subst (λ (y : ℤ). eq x (of_int binary64 y) ≡ false) b c.if1.false)))
+    (ap given (parted_no x n (subst (λ (y : ℤ). eq x (of_int binary64 y) ≡ false) b c.if1.false)))
 
 pub part-spec : {M : Type 1} → statement M
 part-spec = tie.close (tie.spec int-to-float-y returns returns-2)

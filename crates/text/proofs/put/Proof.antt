@@ -6,59 +6,59 @@ use Prim.Native.Nat.{◌≤◌, ◌-◌, ◌+◌}
 use native.Mathlib.Omega.{arith}
 use lib.ListN.{length, length-set, take, set, get_or}
 use lib.Seq.{sets, take_all}
-use Rattle.text.proofs.Puts.{sets-next}
+use Rattle.text.proofs.Puts.{sets_next}
 use Rattle.text.proofs.put.Statement.{statement}
 use Rattle.text.proofs.put.Tie as tie
 
-abbrev invariant-loop : tie.invariant-loop
-invariant-loop out₀ at text i₀ out i = (i ≤ length text) × ((out ≡ sets out₀ at (take i text)) × (length out ≡ length out₀))
+abbrev invariant_loop : tie.invariant_loop
+invariant_loop out₀ at text i₀ out i = (i ≤ length text) × ((out ≡ sets out₀ at (take i text)) × (length out ≡ length out₀))
 
-abbrev decreases-loop : tie.decreases-loop
-decreases-loop out₀ at text i₀ out i = length text - i
+abbrev decreases_loop : tie.decreases_loop
+decreases_loop out₀ at text i₀ out i = length text - i
 
-loop-holds : tie.Need-loop-init invariant-loop decreases-loop
+loop-holds : tie.Need-loop-init invariant_loop decreases_loop
 loop-holds c = search rules
 
-shared-slice-read-out : tie.Need-shared-slice-read-out invariant-loop decreases-loop
+shared-slice-read-out : tie.Need-shared-slice-read-out invariant_loop decreases_loop
 shared-slice-read-out c = search rules
 
-add-out : tie.Need-overflow-add-out invariant-loop decreases-loop
+add-out : tie.Need-overflow-add-out invariant_loop decreases_loop
 add-out c = search rules
 
-slice-write-out : tie.Need-slice-write-out invariant-loop decreases-loop
+slice-write-out : tie.Need-slice-write-out invariant_loop decreases_loop
 slice-write-out c = search rules
 
-add-i : tie.Need-overflow-add-i invariant-loop decreases-loop
+add-i : tie.Need-overflow-add-i invariant_loop decreases_loop
 add-i c = search rules
 
-loop-less : tie.Need-loop-smaller invariant-loop decreases-loop
+loop-less : tie.Need-loop-smaller invariant_loop decreases_loop
 loop-less c = search rules
 
-loop-again : tie.Need-loop-preserved invariant-loop decreases-loop
+loop-again : tie.Need-loop-preserved invariant_loop decreases_loop
 loop-again c =
     let in-loop = c.before in
     let at-loop = in-loop.before in
-    let at-start = at-loop.before in
-    let args = at-start.args in
+    let at_start = at-loop.before in
+    let args = at_start.args in
     let i = at-loop.loop.i in (
       search rules,
       (
-        ap (λ l. set l (args.at + i) (get_or args.text.now i 0)) at-loop.loop.invariant.1.0 ∙ sets-next args.text.now args.out.now args.at i in-loop.loop-test.true,
+        ap (λ l. set l (args.at + i) (get_or args.text.now i 0)) at-loop.loop.invariant.1.0 ∙ sets_next args.text.now args.out.now args.at i in-loop.loop-test.true,
         simp length-set at-loop.loop.invariant.1.1,
       ),
     )
 
-add-result : tie.Need-overflow-add-result invariant-loop decreases-loop
+add-result : tie.Need-overflow-add-result invariant_loop decreases_loop
 add-result c = search rules
 
-same_length : tie.Need-same-length invariant-loop decreases-loop
+same_length : tie.Need-same-length invariant_loop decreases_loop
 same_length c = search rules
 
-returns : tie.Need-returns invariant-loop decreases-loop
+returns : tie.Need-returns invariant_loop decreases_loop
 returns c =
     let at-loop = c.before in
-    let at-start = at-loop.before in
-    let args = at-start.args in
+    let at_start = at-loop.before in
+    let args = at_start.args in
     record {
       next = refl;
       text = at-loop.loop.invariant.1.0 ∙ ap (λ t. sets args.out.now args.at t) (take_all at-loop.loop.i args.text.now c.loop-test.false);
@@ -69,8 +69,8 @@ pub put_spec : {M : Type 1} → statement M
 put_spec =
     tie.close
     (tie.spec
-    invariant-loop
-    decreases-loop
+    invariant_loop
+    decreases_loop
     loop-holds
     shared-slice-read-out
     add-out

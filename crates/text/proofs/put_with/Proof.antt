@@ -1,7 +1,7 @@
 -- `text::put_with` meets its contract. Assumes nothing.
 use borrow.Author.Rules.{rules}
 use native.Mathlib.Omega.{arith}
-use Rattle.text.proofs.Puts.{then-all}
+use Rattle.text.proofs.Puts.{then_all}
 use Rattle.text.proofs.put_with.Statement.{statement}
 use Rattle.text.proofs.put_with.Tie as tie
 
@@ -18,7 +18,7 @@ returns : tie.Need-returns
 returns c =
     let after-put-decimal = c.before.before in
     let after-put = after-put-decimal.before.before.before.before in (
-      then-all after-put.put.ensures after-put-decimal.put-decimal.ensures,
+      then_all after-put.put.ensures after-put-decimal.put-decimal.ensures,
       omega (arith, after-put.put.ensures.next, after-put-decimal.put-decimal.ensures.next),
     )
 

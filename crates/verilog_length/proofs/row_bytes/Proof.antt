@@ -3,13 +3,13 @@ use borrow.Author.Rules.{rules}
 use mathlib.Core.Path.{refl, ap}
 use native.Mathlib.Omega.{arith}
 use lib.ListN.{length}
-use Rattle.text.specs.Numbers.{decimal, decimalBy}
-use Rattle.verilog_text.proofs.Lengths.{later-length, row-later}
+use Rattle.text.specs.Numbers.{decimal, decimal_by}
+use Rattle.verilog_text.proofs.Lengths.{later_length, row_later}
 use Rattle.verilog_length.proofs.row_bytes.Statement.{statement}
 use Rattle.verilog_length.proofs.row_bytes.Tie as tie
 
 returns : tie.Need-returns
-unfolding decimal decimalBy
+unfolding decimal decimal_by
 returns c = record { bytes = rw c.if1.true refl; within = search rules }
 
 digits-requires : tie.Need-digits-requires
@@ -41,8 +41,8 @@ returns-2 c =
         after-left.digits.ensures.0,
         c.before.digits2.ensures.0,
         c.digits3.ensures.0,
-        later-length args.i args.row,
-        ap length (row-later args.i args.row in-else-1.if1.false),
+        later_length args.i args.row,
+        ap length (row_later args.i args.row in-else-1.if1.false),
       );
       within = omega (arith, after-left.digits.ensures.1, c.before.digits2.ensures.1, c.digits3.ensures.1);
     }

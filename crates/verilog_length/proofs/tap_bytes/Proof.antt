@@ -1,7 +1,7 @@
 -- `verilog_length::tap_bytes` meets its contract, by the sign of the tap. Assumes nothing.
 use borrow.Author.Rules.{rules}
 use native.Mathlib.Omega.{arith}
-use Rattle.verilog_text.proofs.Lengths.{tap-plus, tap-minus, tap-none}
+use Rattle.verilog_text.proofs.Lengths.{tap_plus, tap_minus, tap_none}
 use Rattle.verilog_length.proofs.tap_bytes.Statement.{statement}
 use Rattle.verilog_length.proofs.tap_bytes.Tie as tie
 
@@ -23,7 +23,7 @@ returns c =
     let in-then-1 = after-row.before in
     let args = in-then-1.before.before.args in
     record {
-      bytes = omega (arith, after-row.digits.ensures.0, c.digits2.ensures.0, tap-plus args.k args.tap in-then-1.if1.true);
+      bytes = omega (arith, after-row.digits.ensures.0, c.digits2.ensures.0, tap_plus args.k args.tap in-then-1.if1.true);
       within = omega (arith, after-row.digits.ensures.1, c.digits2.ensures.1);
     }
 
@@ -46,7 +46,7 @@ returns-2 c =
     let in-else-1 = in-then-2.before.before in
     let args = in-else-1.before.before.args in
     record {
-      bytes = omega (arith, after-row.digits3.ensures.0, c.digits4.ensures.0, tap-minus args.k args.tap in-else-1.if1.false in-then-2.if2.true);
+      bytes = omega (arith, after-row.digits3.ensures.0, c.digits4.ensures.0, tap_minus args.k args.tap in-else-1.if1.false in-then-2.if2.true);
       within = omega (arith, after-row.digits3.ensures.1, c.digits4.ensures.1);
     }
 
@@ -54,7 +54,7 @@ returns-3 : tie.Need-returns-3
 returns-3 c =
     let in-else-1 = c.before.before in
     let args = in-else-1.before.before.args in
-    record { bytes = omega (arith, tap-none args.k args.tap in-else-1.if1.false c.if2.false); within = search rules }
+    record { bytes = omega (arith, tap_none args.k args.tap in-else-1.if1.false c.if2.false); within = search rules }
 
 pub tap-bytes-spec : {M : Type 1} → statement M
 tap-bytes-spec =

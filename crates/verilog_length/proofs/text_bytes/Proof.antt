@@ -1,10 +1,10 @@
--- `verilog_length::text_bytes` meets its contract: the parts of the text, added up (`text-length`). Assumes nothing.
+-- `verilog_length::text_bytes` meets its contract: the parts of the text, added up (`text_length`). Assumes nothing.
 use borrow.Author.Rules.{rules}
 use mathlib.Core.Path.{ap}
 use native.Mathlib.Omega.{arith}
-use Rattle.sequence.proofs.UpTo.{length-upTo}
-use Rattle.network.specs.Rows.{row_at, tapRowAt, networkOf}
-use Rattle.verilog_text.proofs.Lengths.{digitsFrom, text-length}
+use Rattle.sequence.proofs.UpTo.{length_up_to}
+use Rattle.network.specs.Rows.{row_at, tap_row_at, network_of}
+use Rattle.verilog_text.proofs.Lengths.{digits_from, text_length}
 use Rattle.verilog_length.proofs.text_bytes.Statement.{statement}
 use Rattle.verilog_length.proofs.text_bytes.Tie as tie
 
@@ -56,16 +56,16 @@ returns c =
     let after-wires = after-rows-bytes.before in
     let after-ports = after-wires.before in
     let args = after-ports.before.before.before.args in
-    let n = length-upTo args.n (row_at args.rows.now) in
-    let m = length-upTo args.m (tapRowAt args.taps.now) in
+    let n = length_up_to args.n (row_at args.rows.now) in
+    let m = length_up_to args.m (tap_row_at args.taps.now) in
     omega (
       arith,
-      text-length (networkOf args.rows.now args.n args.taps.now args.m),
+      text_length (network_of args.rows.now args.n args.taps.now args.m),
       n,
       m,
-      ap (digitsFrom 0) n,
-      ap (digitsFrom 0) m,
-      after-ports.digits-below.ensures.0,
+      ap (digits_from 0) n,
+      ap (digits_from 0) m,
+      after-ports.digits_below_lem.ensures.0,
       after-wires.digits-below2.ensures.0,
       after-rows-bytes.rows-bytes.ensures.bytes,
       c.taps-bytes.ensures.bytes,

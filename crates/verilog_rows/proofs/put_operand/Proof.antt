@@ -1,7 +1,7 @@
 -- `verilog_rows::put_operand` meets its contract. Assumes nothing.
 use borrow.Author.Rules.{rules}
 use native.Mathlib.Omega.{arith}
-use Rattle.text.proofs.Puts.{then-all}
+use Rattle.text.proofs.Puts.{then_all}
 use Rattle.verilog_rows.proofs.put_operand.Statement.{statement}
 use Rattle.verilog_rows.proofs.put_operand.Tie as tie
 
@@ -29,11 +29,11 @@ same_length c = search rules
 returns : tie.Need-returns
 returns c =
     let after-right = c.before.before in
-    let after-sign = after-right.before.before.before.before.before in
-    let after-close = after-sign.before.before.before.before in (
-      then-all after-close.put.ensures
-          (then-all after-sign.put_byte.ensures after-right.put-with.ensures.0),
-      omega (arith, after-close.put.ensures.next, after-sign.put_byte.ensures.next, after-right.put-with.ensures.1),
+    let after_sign = after-right.before.before.before.before.before in
+    let after-close = after_sign.before.before.before.before in (
+      then_all after-close.put.ensures
+          (then_all after_sign.put_byte.ensures after-right.put-with.ensures.0),
+      omega (arith, after-close.put.ensures.next, after_sign.put_byte.ensures.next, after-right.put-with.ensures.1),
     )
 
 pub put-operand-spec : {M : Type 1} → statement M

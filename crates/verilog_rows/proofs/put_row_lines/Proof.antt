@@ -9,50 +9,50 @@ use Rattle.network.specs.declared.Row.{Row}
 use Rattle.network.specs.Rows.{row_at, rows_of}
 use Rattle.text.specs.Lines.{lines_from}
 use Rattle.text.specs.Inner.{PutAll}
-use Rattle.text.proofs.Puts.{widen, then-all}
+use Rattle.text.proofs.Puts.{widen, then_all}
 use Rattle.text.proofs.Lines.{lines_next, nothing_put, room_next}
-use Rattle.verilog_text.specs.Text.{rowAssign}
+use Rattle.verilog_text.specs.Text.{row_assign}
 use Rattle.verilog_rows.proofs.put_row_lines.Statement.{statement}
 use Rattle.verilog_rows.proofs.put_row_lines.Tie as tie
 
-abbrev invariant-loop : tie.invariant-loop
-invariant-loop out₀ at rows n to₀ i₀ out to i = (i ≤ n) × (PutAll out₀ at (lines_from rowAssign 0 (rows_of rows i)) out to × (length out ≡ length out₀))
+abbrev invariant_loop : tie.invariant_loop
+invariant_loop out₀ at rows n to₀ i₀ out to i = (i ≤ n) × (PutAll out₀ at (lines_from row_assign 0 (rows_of rows i)) out to × (length out ≡ length out₀))
 
-abbrev decreases-loop : tie.decreases-loop
-decreases-loop out₀ at rows n to₀ i₀ out to i = n - i
+abbrev decreases_loop : tie.decreases_loop
+decreases_loop out₀ at rows n to₀ i₀ out to i = n - i
 
-loop-holds : tie.Need-loop-init invariant-loop decreases-loop
+loop-holds : tie.Need-loop-init invariant_loop decreases_loop
 loop-holds c =
     let args = c.before.before.args in
-    (search rules, (widen (omega arith) (nothing_put rowAssign (row_at args.rows.now) _ _), refl))
+    (search rules, (widen (omega arith) (nothing_put row_assign (row_at args.rows.now) _ _), refl))
 
-cast-put-row-line : tie.Need-overflow-cast-put-row-line invariant-loop decreases-loop
+cast-put-row-line : tie.Need-overflow-cast-put-row-line invariant_loop decreases_loop
 cast-put-row-line c = search rules
 
-read-row-requires : tie.Need-read-row-requires invariant-loop decreases-loop
+read-row-requires : tie.Need-read-row-requires invariant_loop decreases_loop
 read-row-requires c κs = search rules
 
-put-row-line-requires : tie.Need-put-row-line-requires invariant-loop decreases-loop
+put-row-line-requires : tie.Need-put-row-line-requires invariant_loop decreases_loop
 put-row-line-requires c κs =
     let at-loop = c.before.before.before in
-    let at-start = at-loop.before.before.before in
-    let rows = at-start.args.rows.now in
+    let at_start = at-loop.before.before.before in
+    let rows = at_start.args.rows.now in
     omega (
       arith,
-      at-start.requires.1,
+      at_start.requires.1,
       at-loop.loop.invariant.1.0.next,
       at-loop.loop.invariant.1.1,
-      ap (λ (r : Row). length (rowAssign at-loop.loop.i r)) c.read-row.ensures,
-      room_next (λ (j : ℕ). lines_from rowAssign 0 (rows_of rows j)) (λ (j : ℕ). rowAssign j (row_at rows j)) (lines_next rowAssign (row_at rows)) at-loop.loop.i at-start.args.n c.before.before.loop-test.true,
+      ap (λ (r : Row). length (row_assign at-loop.loop.i r)) c.read-row.ensures,
+      room_next (λ (j : ℕ). lines_from row_assign 0 (rows_of rows j)) (λ (j : ℕ). row_assign j (row_at rows j)) (lines_next row_assign (row_at rows)) at-loop.loop.i at_start.args.n c.before.before.loop-test.true,
     )
 
-add-i : tie.Need-overflow-add-i invariant-loop decreases-loop
+add-i : tie.Need-overflow-add-i invariant_loop decreases_loop
 add-i c = search rules
 
-loop-less : tie.Need-loop-smaller invariant-loop decreases-loop
+loop-less : tie.Need-loop-smaller invariant_loop decreases_loop
 loop-less c = search rules
 
-loop-again : tie.Need-loop-preserved invariant-loop decreases-loop
+loop-again : tie.Need-loop-preserved invariant_loop decreases_loop
 loop-again c =
     let after-put = c.before.before in
     let after-read-row = after-put.before in
@@ -60,19 +60,19 @@ loop-again c =
     let rows = at-loop.before.before.before.args.rows.now in
     let line = after-put.put-row-line in
     let i = at-loop.loop.i in
-    let put : PutAll at-loop.loop.out at-loop.loop.to (rowAssign i (row_at rows i)) line.new.0 line.result
-    = subst (λ (r : Row). PutAll at-loop.loop.out at-loop.loop.to (rowAssign i r) line.new.0 line.result) after-read-row.read-row.ensures line.ensures in (
+    let put : PutAll at-loop.loop.out at-loop.loop.to (row_assign i (row_at rows i)) line.new.0 line.result
+    = subst (λ (r : Row). PutAll at-loop.loop.out at-loop.loop.to (row_assign i r) line.new.0 line.result) after-read-row.read-row.ensures line.ensures in (
       search rules,
       (
-        rw (lines_next rowAssign (row_at rows) i) (then-all at-loop.loop.invariant.1.0 put),
+        rw (lines_next row_assign (row_at rows) i) (then_all at-loop.loop.invariant.1.0 put),
         line.auto.0 ∙ at-loop.loop.invariant.1.1,
       ),
     )
 
-same_length : tie.Need-same-length invariant-loop decreases-loop
+same_length : tie.Need-same-length invariant_loop decreases_loop
 same_length c = search rules
 
-returns : tie.Need-returns invariant-loop decreases-loop
+returns : tie.Need-returns invariant_loop decreases_loop
 returns c =
     let at-loop = c.before in
     let start = at-loop.before.before.before.args in
@@ -83,8 +83,8 @@ pub put-row-lines-spec : {M : Type 1} → statement M
 put-row-lines-spec =
     tie.close
     (tie.spec
-    invariant-loop
-    decreases-loop
+    invariant_loop
+    decreases_loop
     loop-holds
     cast-put-row-line
     read-row-requires

@@ -1,6 +1,6 @@
 -- `verilog_rows::put_shifted_first` meets its contract. Assumes nothing.
 use borrow.Author.Rules.{rules}
-use Rattle.text.proofs.Puts.{then-all}
+use Rattle.text.proofs.Puts.{then_all}
 use Rattle.verilog_rows.proofs.put_shifted_first.Statement.{statement}
 use Rattle.verilog_rows.proofs.put_shifted_first.Tie as tie
 
@@ -41,10 +41,10 @@ returns c =
     let after-shift = after-operand.before.before.before.before in
     let after-left = after-shift.before.before.before.before.before in
     let after-number = after-left.before.before.before.before.before in
-    then-all after-number.put-with.ensures.0
-    (then-all after-left.put-with2.ensures.0
-    (then-all after-shift.put-with3.ensures.0
-    (then-all after-operand.put-operand.ensures.0 after-put.put.ensures)))
+    then_all after-number.put-with.ensures.0
+    (then_all after-left.put-with2.ensures.0
+    (then_all after-shift.put-with3.ensures.0
+    (then_all after-operand.put-operand.ensures.0 after-put.put.ensures)))
 
 pub put-shifted-first-spec : {M : Type 1} → statement M
 put-shifted-first-spec =

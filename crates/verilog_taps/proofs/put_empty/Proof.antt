@@ -1,7 +1,7 @@
 -- `verilog_taps::put_empty` meets its contract. Assumes nothing.
 use borrow.Author.Rules.{rules}
-use Rattle.text.proofs.Puts.{then-all, put_as}
-use Rattle.verilog_taps.proofs.Parts.{empty-parts}
+use Rattle.text.proofs.Puts.{then_all, put_as}
+use Rattle.verilog_taps.proofs.Parts.{empty_parts}
 use Rattle.verilog_taps.proofs.put_empty.Statement.{statement}
 use Rattle.verilog_taps.proofs.put_empty.Tie as tie
 
@@ -25,8 +25,8 @@ returns c =
     let after-put = c.before.before in
     let after-number = after-put.before.before.before.before.before in
     let args = after-number.before.before.before.before.args in
-    put_as (empty-parts args.k args.tap)
-    (then-all after-number.put-with.ensures.0
+    put_as (empty_parts args.k args.tap)
+    (then_all after-number.put-with.ensures.0
     after-put.put.ensures)
 
 pub put-empty-spec : {M : Type 1} → statement M

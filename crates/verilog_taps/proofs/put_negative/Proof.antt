@@ -1,7 +1,7 @@
 -- `verilog_taps::put_negative` meets its contract. Assumes nothing.
 use borrow.Author.Rules.{rules}
-use Rattle.text.proofs.Puts.{then-all, put_as}
-use Rattle.verilog_taps.proofs.Parts.{negative-parts}
+use Rattle.text.proofs.Puts.{then_all, put_as}
+use Rattle.verilog_taps.proofs.Parts.{negative_parts}
 use Rattle.verilog_taps.proofs.put_negative.Statement.{statement}
 use Rattle.verilog_taps.proofs.put_negative.Tie as tie
 
@@ -39,10 +39,10 @@ returns c =
     let after-row = after-shift.before.before.before.before.before in
     let after-number = after-row.before.before.before.before.before in
     let args = after-number.before.before.before.before.args in
-    put_as (negative-parts args.k args.tap)
-    (then-all after-number.put-with.ensures.0
-    (then-all after-row.put-with2.ensures.0
-    (then-all after-shift.put-with3.ensures.0
+    put_as (negative_parts args.k args.tap)
+    (then_all after-number.put-with.ensures.0
+    (then_all after-row.put-with2.ensures.0
+    (then_all after-shift.put-with3.ensures.0
     after-put.put.ensures)))
 
 pub put-negative-spec : {M : Type 1} → statement M

@@ -1,7 +1,7 @@
 -- `verilog_taps::put_product` meets its contract. Assumes nothing.
 use borrow.Author.Rules.{rules}
-use Rattle.text.proofs.Puts.{then-all, put_as}
-use Rattle.verilog_taps.proofs.Parts.{product-parts}
+use Rattle.text.proofs.Puts.{then_all, put_as}
+use Rattle.verilog_taps.proofs.Parts.{product_parts}
 use Rattle.verilog_taps.proofs.put_product.Statement.{statement}
 use Rattle.verilog_taps.proofs.put_product.Tie as tie
 
@@ -39,10 +39,10 @@ returns c =
     let after-row = after-shift.before.before.before.before.before in
     let after-number = after-row.before.before.before.before.before in
     let args = after-number.before.before.before.before.args in
-    put_as (product-parts args.k args.tap)
-    (then-all after-number.put-with.ensures.0
-    (then-all after-row.put-with2.ensures.0
-    (then-all after-shift.put-with3.ensures.0
+    put_as (product_parts args.k args.tap)
+    (then_all after-number.put-with.ensures.0
+    (then_all after-row.put-with2.ensures.0
+    (then_all after-shift.put-with3.ensures.0
     after-put.put.ensures)))
 
 pub put-product-spec : {M : Type 1} → statement M

@@ -1,27 +1,27 @@
 -- `verilog_writer::put_text` meets its contract. Assumes nothing.
 use borrow.Author.Rules.{rules}
 use native.Mathlib.Omega.{arith}
-use Rattle.text.proofs.Puts.{then-all, put_as}
-use Rattle.verilog_writer.proofs.Parts.{parts_are, parts-length}
+use Rattle.text.proofs.Puts.{then_all, put_as}
+use Rattle.verilog_writer.proofs.Parts.{parts_are, parts_length}
 use Rattle.verilog_writer.proofs.put_text.Statement.{statement}
 use Rattle.verilog_writer.proofs.put_text.Tie as tie
 
 put-module-line-requires : tie.Need-put-module-line-requires
 put-module-line-requires c κs =
-    let at-start = c.before.before.before.before in
-    let args = at-start.args in
-    (at-start.requires.0.3, omega (arith, at-start.requires.1, parts-length args.rows.now args.n args.taps.now args.m))
+    let at_start = c.before.before.before.before in
+    let args = at_start.args in
+    (at_start.requires.0.3, omega (arith, at_start.requires.1, parts_length args.rows.now args.n args.taps.now args.m))
 
 put-wires-requires : tie.Need-put-wires-requires
 put-wires-requires c κs =
     let after-module = c.before.before.before in
-    let at-start = after-module.before.before.before.before.before in
-    let args = at-start.args in (
-      at-start.requires.0.1,
+    let at_start = after-module.before.before.before.before.before in
+    let args = at_start.args in (
+      at_start.requires.0.1,
       omega (
         arith,
-        at-start.requires.1,
-        parts-length args.rows.now args.n args.taps.now args.m,
+        at_start.requires.1,
+        parts_length args.rows.now args.n args.taps.now args.m,
         after-module.put-module-line.ensures.next,
         after-module.put-module-line.auto.0,
       ),
@@ -31,13 +31,13 @@ put-row-lines-requires : tie.Need-put-row-lines-requires
 put-row-lines-requires c κs =
     let after-wires = c.before.before.before in
     let after-module = after-wires.before.before.before.before in
-    let at-start = after-module.before.before.before.before.before in
-    let args = at-start.args in (
-      (at-start.requires.0.0, at-start.requires.0.1),
+    let at_start = after-module.before.before.before.before.before in
+    let args = at_start.args in (
+      (at_start.requires.0.0, at_start.requires.0.1),
       omega (
         arith,
-        at-start.requires.1,
-        parts-length args.rows.now args.n args.taps.now args.m,
+        at_start.requires.1,
+        parts_length args.rows.now args.n args.taps.now args.m,
         after-module.put-module-line.ensures.next,
         after-module.put-module-line.auto.0,
         after-wires.put-wires.ensures.next,
@@ -50,13 +50,13 @@ put-tap-lines-requires c κs =
     let after-rows = c.before.before.before in
     let after-wires = after-rows.before.before.before.before in
     let after-module = after-wires.before.before.before.before in
-    let at-start = after-module.before.before.before.before.before in
-    let args = at-start.args in (
-      (at-start.requires.0.2, at-start.requires.0.3),
+    let at_start = after-module.before.before.before.before.before in
+    let args = at_start.args in (
+      (at_start.requires.0.2, at_start.requires.0.3),
       omega (
         arith,
-        at-start.requires.1,
-        parts-length args.rows.now args.n args.taps.now args.m,
+        at_start.requires.1,
+        parts_length args.rows.now args.n args.taps.now args.m,
         after-module.put-module-line.ensures.next,
         after-module.put-module-line.auto.0,
         after-wires.put-wires.ensures.next,
@@ -75,12 +75,12 @@ put-requires c κs =
     let after-rows = after-taps.before.before.before.before in
     let after-wires = after-rows.before.before.before.before in
     let after-module = after-wires.before.before.before.before in
-    let at-start = after-module.before.before.before.before.before in
-    let args = at-start.args in
+    let at_start = after-module.before.before.before.before.before in
+    let args = at_start.args in
     omega (
       arith,
-      at-start.requires.1,
-      parts-length args.rows.now args.n args.taps.now args.m,
+      at_start.requires.1,
+      parts_length args.rows.now args.n args.taps.now args.m,
       after-module.put-module-line.ensures.next,
       after-module.put-module-line.auto.0,
       after-wires.put-wires.ensures.next,
@@ -103,10 +103,10 @@ returns c =
     let after-module = after-wires.before.before.before.before in
     let args = after-module.before.before.before.before.before.args in
     put_as (parts_are args.rows.now args.n args.taps.now args.m)
-    (then-all after-module.put-module-line.ensures
-    (then-all after-wires.put-wires.ensures
-    (then-all after-rows.put-row-lines.ensures
-    (then-all after-taps.put-tap-lines.ensures after-end.put.ensures))))
+    (then_all after-module.put-module-line.ensures
+    (then_all after-wires.put-wires.ensures
+    (then_all after-rows.put-row-lines.ensures
+    (then_all after-taps.put-tap-lines.ensures after-end.put.ensures))))
 
 pub put-text-spec : {M : Type 1} → statement M
 put-text-spec =

@@ -8,7 +8,7 @@ use native.Mathlib.Omega.{arith}
 use lib.ListN.{length, drop}
 use lib.Seq.{sets-eq}
 use Rattle.refusal.specs.Answer.{given}
-use Rattle.verilog_text.specs.Written.{textIn}
+use Rattle.verilog_text.specs.Written.{text_in}
 use Rattle.verilog_writer.proofs.write_checked.Statement.{statement}
 use Rattle.verilog_writer.proofs.write_checked.Tie as tie
 
@@ -19,7 +19,7 @@ returns : tie.Need-returns
 returns c =
     let after-text-bytes = c.before in
     let args = after-text-bytes.before.before.before.before.args in
-    let text = textIn args.rows.now args.n args.taps.now args.m in
+    let text = text_in args.rows.now args.n args.taps.now args.m in
     let longer : length args.text.now < length text = omega (arith, c.if1.true, after-text-bytes.text-bytes.ensures) in
     (rw (lt-ltb (length args.text.now) (length text) longer), refl)
 
@@ -35,7 +35,7 @@ returns-2 c =
     let in-else-1 = after-put-text.before.before in
     let after-text-bytes = in-else-1.before in
     let args = after-text-bytes.before.before.before.before.args in
-    let text = textIn args.rows.now args.n args.taps.now args.m in
+    let text = text_in args.rows.now args.n args.taps.now args.m in
     let fits : length text ≤ length args.text.now = omega (arith, in-else-1.if1.false, after-text-bytes.text-bytes.ensures) in
     let put = after-put-text.put-text in
     let long : put.result ≡ length text = omega (arith, put.ensures.next) in

@@ -6,27 +6,27 @@ use Prim.Native.Nat.{ℕ}
 use native.Mathlib.Omega.{arith}
 use lib.ListN.{length}
 use Rattle.refusal.specs.Answer.{Answer, given, filled}
-use Rattle.sequence.proofs.UpTo.{length-upTo}
-use Rattle.network.specs.Rows.{row_at, networkOf}
+use Rattle.sequence.proofs.UpTo.{length_up_to}
+use Rattle.network.specs.Rows.{row_at, network_of}
 use Rattle.network.specs.Coefficients.{coefficients}
-use Rattle.network.specs.Check.{networkAnswer}
-use Rattle.network.proofs.Passed.{given-accepted}
-use Rattle.network.proofs.Given.{outcome-given}
-use Rattle.network.proofs.Refusals.{outcome-refused}
+use Rattle.network.specs.Check.{network_answer}
+use Rattle.network.proofs.Passed.{given_accepted}
+use Rattle.network.proofs.Given.{outcome_given}
+use Rattle.network.proofs.Refusals.{outcome_refused}
 use Rattle.network_check.specs.Checked as Checked
-use Rattle.verilog_text.specs.Written.{textIn, verilogAnswer}
-use Rattle.verilog_text.proofs.Answers.{answer-given, answer-refused}
+use Rattle.verilog_text.specs.Written.{text_in, verilog_answer}
+use Rattle.verilog_text.proofs.Answers.{answer_given, answer_refused}
 use Rattle.verilog_writer.specs.Answer.{answer_of}
 use Rattle.verilog_writer.proofs.write_verilog.Statement.{statement}
 use Rattle.verilog_writer.proofs.write_verilog.Tie as tie
 
 -- a network that passes has coefficients
 passed : (c : tie.After-enum-told) → let args = c.before.before.before.before.before.before.args in
-    networkAnswer false args.rows.now args.row_count args.taps.now args.tap-count ≡ given (coefficients (networkOf args.rows.now args.row_count args.taps.now args.tap-count))
+    network_answer false args.rows.now args.row_count args.taps.now args.tap-count ≡ given (coefficients (network_of args.rows.now args.row_count args.taps.now args.tap-count))
 passed c =
     let after_check = c.before.before in
     let args = after_check.before.before.before.before.args in
-    outcome-given false args.rows.now args.row_count args.taps.now args.tap-count (ap Checked.answer_of (sym c.enum_told.given.1) ∙ after_check.check.ensures.answer)
+    outcome_given false args.rows.now args.row_count args.taps.now args.tap-count (ap Checked.answer_of (sym c.enum_told.given.1) ∙ after_check.check.ensures.answer)
 
 check-requires : tie.Need-check-requires
 check-requires c κs = search rules
@@ -38,8 +38,8 @@ write-checked-requires : tie.Need-write-checked-requires
 write-checked-requires c κs =
     let after-told = c.before in
     let args = after-told.before.before.before.before.before.before.args in
-    let w = given-accepted false args.rows.now args.row_count args.taps.now args.tap-count _ (passed after-told) in
-    (w.rows_long, omega (arith, w.passed.rows-to, length-upTo args.row_count (row_at args.rows.now)), w.taps-long, w.taps-to)
+    let w = given_accepted false args.rows.now args.row_count args.taps.now args.tap-count _ (passed after-told) in
+    (w.rows_long, omega (arith, w.passed.rows_to, length_up_to args.row_count (row_at args.rows.now)), w.taps_long, w.taps_to)
 
 enum-known-answer : tie.Need-enum-known-answer
 enum-known-answer c = search rules
@@ -53,10 +53,10 @@ returns c =
     let after-told = after_write.before.before in
     let args = after-told.before.before.before.before.before.before.args in
     let area = args.text.now in
-    let text = textIn args.rows.now args.row_count args.taps.now args.tap-count in
+    let text = text_in args.rows.now args.row_count args.taps.now args.tap-count in
     let write = after_write.write_checked in
-    let answer : answer_of write.result ≡ verilogAnswer args.rows.now args.row_count args.taps.now args.tap-count (length area)
-    = write.ensures.0 ∙ sym (answer-given args.rows.now args.row_count args.taps.now args.tap-count (length area) _ (passed after-told)) in
+    let answer : answer_of write.result ≡ verilog_answer args.rows.now args.row_count args.taps.now args.tap-count (length area)
+    = write.ensures.0 ∙ sym (answer_given args.rows.now args.row_count args.taps.now args.tap-count (length area) _ (passed after-told)) in
     record { answer = answer; text = write.ensures.1 ∙ ap (λ (a : Answer ℕ). filled a text area) answer }
 
 returns-2 : tie.Need-returns-2
@@ -65,9 +65,9 @@ returns-2 c =
     let after_check = after-answer.before.before in
     let args = after_check.before.before.before.before.args in
     let area = args.text.now in
-    let text = textIn args.rows.now args.row_count args.taps.now args.tap-count in
+    let text = text_in args.rows.now args.row_count args.taps.now args.tap-count in
     let told = ap Checked.answer_of (sym after-answer.answer.given.1) ∙ after_check.check.ensures.answer in
-    let answer = sym (answer-refused args.rows.now args.row_count args.taps.now args.tap-count (length area) _ _ (outcome-refused _ _ _ told)) in
+    let answer = sym (answer_refused args.rows.now args.row_count args.taps.now args.tap-count (length area) _ _ (outcome_refused _ _ _ told)) in
     record { answer = answer; text = ap (λ (a : Answer ℕ). filled a text area) answer }
 
 pub write-verilog-spec : {M : Type 1} → statement M

@@ -1,6 +1,6 @@
 -- `bench_figures::taps::float` is safe and ends. Assumes nothing.
 use borrow.Author.Rules.{rules}
-use Rattle.tap.proofs.Bits.{not-nan}
+use Rattle.tap.proofs.Bits.{not_nan}
 use Rattle.bench_figures.proofs.taps.float.Statement.{statement}
 use Rattle.bench_figures.proofs.taps.float.Tie as tie
 
@@ -14,7 +14,7 @@ returns : tie.Need-returns
 returns c = search rules
 
 float-to-bits-print-hex : tie.Need-float-to-bits-print-hex
-float-to-bits-print-hex c = not-nan _ c.if1.false
+float-to-bits-print-hex c = not_nan _ c.if1.false
 
 print-hex-requires : tie.Need-print-hex-requires
 print-hex-requires c κs = search rules

@@ -3,26 +3,26 @@ use Rattle.std.proofs.Common.{◌-◌, ◌≤◌, rules}
 use Rattle.bench_second.proofs.tap.doubled.Statement.{statement}
 use Rattle.bench_second.proofs.tap.doubled.Tie as tie
 
-abbrev invariant-loop : tie.invariant-loop
-invariant-loop x f y₀ i₀ y i = i ≤ f
+abbrev invariant_loop : tie.invariant_loop
+invariant_loop x f y₀ i₀ y i = i ≤ f
 
-abbrev decreases-loop : tie.decreases-loop
-decreases-loop x f y₀ i₀ y i = f - i
+abbrev decreases_loop : tie.decreases_loop
+decreases_loop x f y₀ i₀ y i = f - i
 
-loop-holds : tie.Need-loop-init invariant-loop decreases-loop
+loop-holds : tie.Need-loop-init invariant_loop decreases_loop
 loop-holds c = search rules
 
-add-i : tie.Need-overflow-add-i invariant-loop decreases-loop
+add-i : tie.Need-overflow-add-i invariant_loop decreases_loop
 add-i c = search rules
 
-loop-less : tie.Need-loop-smaller invariant-loop decreases-loop
+loop-less : tie.Need-loop-smaller invariant_loop decreases_loop
 loop-less c = search rules
 
-loop-again : tie.Need-loop-preserved invariant-loop decreases-loop
+loop-again : tie.Need-loop-preserved invariant_loop decreases_loop
 loop-again c = search rules
 
-returns : tie.Need-returns invariant-loop decreases-loop
+returns : tie.Need-returns invariant_loop decreases_loop
 returns c = search rules
 
 pub doubled-spec : {M : Type 1} → statement M
-doubled-spec = tie.close (tie.spec invariant-loop decreases-loop loop-holds add-i loop-less loop-again returns)
+doubled-spec = tie.close (tie.spec invariant_loop decreases_loop loop-holds add-i loop-less loop-again returns)

@@ -16,45 +16,45 @@ step t xs i h = ap (added t) (drop-cons xs i nan h) ∙ ap (λ (k : ℕ). added 
 done : (t : Float) (xs : List Float) (i : ℕ) → length xs ≤ i → added t (drop i xs) ≡ t
 done t xs i h = ap (added t) (drop_of_length-le xs h)
 
-abbrev invariant-loop : tie.invariant-loop
-invariant-loop taps s₀ i₀ i-end s i = (i ≤ length taps) × (i-end ≡ length taps) × (added s (drop i taps) ≡ added nought taps)
+abbrev invariant_loop : tie.invariant_loop
+invariant_loop taps s₀ i₀ i-end s i = (i ≤ length taps) × (i-end ≡ length taps) × (added s (drop i taps) ≡ added nought taps)
 
-abbrev decreases-loop : tie.decreases-loop
-decreases-loop taps s₀ i₀ i-end s i = length taps - i
+abbrev decreases_loop : tie.decreases_loop
+decreases_loop taps s₀ i₀ i-end s i = length taps - i
 
-loop-holds : tie.Need-loop-init invariant-loop decreases-loop
+loop-holds : tie.Need-loop-init invariant_loop decreases_loop
 loop-holds c = (search rules, search rules, ap (λ (t : Float). added t c.args.taps.now) zero_is)
 
-mul-s : tie.Need-overflow-mul-s invariant-loop decreases-loop
+mul-s : tie.Need-overflow-mul-s invariant_loop decreases_loop
 mul-s c = search rules
 
-shared-slice-read-s : tie.Need-shared-slice-read-s invariant-loop decreases-loop
+shared-slice-read-s : tie.Need-shared-slice-read-s invariant_loop decreases_loop
 shared-slice-read-s c = search rules
 
-add-i : tie.Need-overflow-add-i invariant-loop decreases-loop
+add-i : tie.Need-overflow-add-i invariant_loop decreases_loop
 add-i c = search rules
 
-loop-less : tie.Need-loop-smaller invariant-loop decreases-loop
+loop-less : tie.Need-loop-smaller invariant_loop decreases_loop
 loop-less c = search rules
 
-loop-again : tie.Need-loop-preserved invariant-loop decreases-loop
+loop-again : tie.Need-loop-preserved invariant_loop decreases_loop
 loop-again c =
     let at-loop = c.before.before in
-    let at-start = at-loop.before in
-    (search rules, search rules, sym (step at-loop.loop.s at-start.args.taps.now at-loop.loop.i (omega arith)) ∙ at-loop.loop.invariant.2)
+    let at_start = at-loop.before in
+    (search rules, search rules, sym (step at-loop.loop.s at_start.args.taps.now at-loop.loop.i (omega arith)) ∙ at-loop.loop.invariant.2)
 
-returns : tie.Need-returns invariant-loop decreases-loop
+returns : tie.Need-returns invariant_loop decreases_loop
 returns c =
     let at-loop = c.before in
-    let at-start = at-loop.before in
-    record { sum = sym (done at-loop.loop.s at-start.args.taps.now at-loop.loop.i (omega arith)) ∙ at-loop.loop.invariant.2 }
+    let at_start = at-loop.before in
+    record { sum = sym (done at-loop.loop.s at_start.args.taps.now at-loop.loop.i (omega arith)) ∙ at-loop.loop.invariant.2 }
 
 pub sum-spec : {M : Type 1} → statement M
 sum-spec =
     tie.close
     (tie.spec
-    invariant-loop
-    decreases-loop
+    invariant_loop
+    decreases_loop
     loop-holds
     mul-s
     shared-slice-read-s

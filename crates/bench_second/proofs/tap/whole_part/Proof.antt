@@ -3,28 +3,28 @@ use Rattle.std.proofs.Common.{◌^◌, ◌≤◌, rules}
 use Rattle.bench_second.proofs.tap.whole_part.Statement.{statement}
 use Rattle.bench_second.proofs.tap.whole_part.Tie as tie
 
-abbrev invariant-loop : tie.invariant-loop
-invariant-loop x whole₀ rest₀ power₀ weight₀ whole rest power weight = weight ≤ 2 ^ 31
+abbrev invariant_loop : tie.invariant_loop
+invariant_loop x whole₀ rest₀ power₀ weight₀ whole rest power weight = weight ≤ 2 ^ 31
 
-abbrev decreases-loop : tie.decreases-loop
-decreases-loop x whole₀ rest₀ power₀ weight₀ whole rest power weight = weight
+abbrev decreases_loop : tie.decreases_loop
+decreases_loop x whole₀ rest₀ power₀ weight₀ whole rest power weight = weight
 
-loop-holds : tie.Need-loop-init invariant-loop decreases-loop
+loop-holds : tie.Need-loop-init invariant_loop decreases_loop
 loop-holds c = search rules
 
-wrapping-add-u64-requires : tie.Need-wrapping-add-u64-requires invariant-loop decreases-loop
+wrapping-add-u64-requires : tie.Need-wrapping-add-u64-requires invariant_loop decreases_loop
 wrapping-add-u64-requires c κs = search rules
 
-loop-less : tie.Need-loop-smaller invariant-loop decreases-loop
+loop-less : tie.Need-loop-smaller invariant_loop decreases_loop
 loop-less c = search rules
 
-loop-again : tie.Need-loop-preserved invariant-loop decreases-loop
+loop-again : tie.Need-loop-preserved invariant_loop decreases_loop
 loop-again c = search rules
 
-returns : tie.Need-returns invariant-loop decreases-loop
+returns : tie.Need-returns invariant_loop decreases_loop
 returns c = search rules
 
 pub whole-part-spec : {M : Type 1} → statement M
 whole-part-spec =
     tie.close
-    (tie.spec invariant-loop decreases-loop loop-holds wrapping-add-u64-requires loop-less loop-again returns)
+    (tie.spec invariant_loop decreases_loop loop-holds wrapping-add-u64-requires loop-less loop-again returns)

@@ -10,7 +10,7 @@ use mir.Val.{to_z, of_z}
 use mir.ValLaws.{to_z-of_z}
 use Rattle.signed_digit.specs.Forms.{listing}
 use Rattle.form_masks.specs.Form.{form_of}
-use Rattle.build_steps.specs.Chain.{chosenForm}
+use Rattle.build_steps.specs.Chain.{chosen_form_of}
 use Rattle.build_chain.proofs.chosen.chosen_form.Statement.{statement}
 use Rattle.build_chain.proofs.chosen.chosen_form.Tie as tie
 
@@ -23,14 +23,14 @@ cast-form-at c = search rules
 
 form-at-requires : tie.Need-form-at-requires
 form-at-requires c κs =
-    let at-start = c in
-    subst (λ (z : ℤ). at-start.args.choice < length (listing 32 z)) (sym (same at-start)) at-start.requires.1
+    let at_start = c in
+    subst (λ (z : ℤ). at_start.args.choice < length (listing 32 z)) (sym (same at_start)) at_start.requires.1
 
 returns : tie.Need-returns
-unfolding chosenForm
+unfolding chosen_form_of
 returns c =
-    let at-start = c.before in
-    c.form-at.ensures ∙ ap (λ (z : ℤ). form_of (get_or (listing 32 z) at-start.args.choice [])) (same at-start)
+    let at_start = c.before in
+    c.form_at.ensures ∙ ap (λ (z : ℤ). form_of (get_or (listing 32 z) at_start.args.choice [])) (same at_start)
 
 pub chosen-form-spec : {M : Type 1} → statement M
 chosen-form-spec = tie.close (tie.spec cast-form-at form-at-requires returns)

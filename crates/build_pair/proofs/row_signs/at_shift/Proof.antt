@@ -1,11 +1,11 @@
--- `build_pair::row_signs::at_shift` meets its contract. The three signs in a row are the first fit over the list of signs (`three-signs`); what stands
+-- `build_pair::row_signs::at_shift` meets its contract. The three signs in a row are the first fit over the list of signs (`three_signs`); what stands
 -- behind a fit does not count. Assumes nothing.
 use mathlib.Core.Path.{refl, sym, ap, ◌∙◌}
 use borrow.Author.Rules.{rules}
 use Rattle.network.specs.Rows.{minus, reversed, rows_of}
-use Rattle.build_steps.specs.Search.{fit, none-fits, or_else, tried}
-use Rattle.build_pair.specs.Inner.{fitOf}
-use Rattle.build_pair.proofs.Signs.{three-signs}
+use Rattle.build_steps.specs.Search.{fit, none_fits, or_else, tried}
+use Rattle.build_pair.specs.Inner.{fit_of}
+use Rattle.build_pair.proofs.Signs.{three_signs}
 use Rattle.build_pair.proofs.row_signs.at_shift.Statement.{statement}
 use Rattle.build_pair.proofs.row_signs.at_shift.Tie as tie
 
@@ -35,12 +35,12 @@ unfolding or_else
 returns c =
     let after-row = c.before in
     let after-with-sign = after-row.before.before in
-    let at-start = after-with-sign.before.before.before.before in
-    let args = at-start.args in
+    let at_start = after-with-sign.before.before.before.before in
+    let args = at_start.args in
     let rows = rows_of args.table.now args.n in
     sym
-    (three-signs rows args.v args.left args.shift (fit after-row.row.given.0.0) (tried rows args.v args.left args.shift minus) (tried rows args.v args.left args.shift reversed)
-    (sym after-with-sign.with-sign.ensures ∙ ap fitOf after-row.row.given.1) refl refl)
+    (three_signs rows args.v args.left args.shift (fit after-row.row.given.0.0) (tried rows args.v args.left args.shift minus) (tried rows args.v args.left args.shift reversed)
+    (sym after-with-sign.with-sign.ensures ∙ ap fit_of after-row.row.given.1) refl refl)
 
 returns-2 : tie.Need-returns-2
 unfolding or_else
@@ -49,12 +49,12 @@ returns-2 c =
     let after-with-sign2 = after-row2.before.before in
     let after-enum-told = after-with-sign2.before in
     let after-with-sign = after-enum-told.before.before in
-    let at-start = after-with-sign.before.before.before.before in
-    let args = at-start.args in
+    let at_start = after-with-sign.before.before.before.before in
+    let args = at_start.args in
     let rows = rows_of args.table.now args.n in
     sym
-    (three-signs rows args.v args.left args.shift none-fits (fit after-row2.row2.given.0.0) (tried rows args.v args.left args.shift reversed)
-    (sym after-with-sign.with-sign.ensures ∙ ap fitOf after-enum-told.enum_told.given.1) (sym after-with-sign2.with-sign2.ensures ∙ ap fitOf after-row2.row2.given.1) refl)
+    (three_signs rows args.v args.left args.shift none_fits (fit after-row2.row2.given.0.0) (tried rows args.v args.left args.shift reversed)
+    (sym after-with-sign.with-sign.ensures ∙ ap fit_of after-enum-told.enum_told.given.1) (sym after-with-sign2.with-sign2.ensures ∙ ap fit_of after-row2.row2.given.1) refl)
 
 returns-3 : tie.Need-returns-3
 unfolding or_else
@@ -63,12 +63,12 @@ returns-3 c =
     let after-with-sign2 = after-enum-told2.before.before in
     let after-enum-told = after-with-sign2.before in
     let after-with-sign = after-enum-told.before.before in
-    let at-start = after-with-sign.before.before.before.before in
-    let args = at-start.args in
+    let at_start = after-with-sign.before.before.before.before in
+    let args = at_start.args in
     let rows = rows_of args.table.now args.n in
     sym
-    (three-signs rows args.v args.left args.shift none-fits none-fits (fitOf c.with-sign3.result)
-    (sym after-with-sign.with-sign.ensures ∙ ap fitOf after-enum-told.enum_told.given.1) (sym after-with-sign2.with-sign2.ensures ∙ ap fitOf after-enum-told2.enum-told2.given.1) (sym c.with-sign3.ensures))
+    (three_signs rows args.v args.left args.shift none_fits none_fits (fit_of c.with-sign3.result)
+    (sym after-with-sign.with-sign.ensures ∙ ap fit_of after-enum-told.enum_told.given.1) (sym after-with-sign2.with-sign2.ensures ∙ ap fit_of after-enum-told2.enum-told2.given.1) (sym c.with-sign3.ensures))
 
 pub at-shift-spec : {M : Type 1} → statement M
 at-shift-spec =

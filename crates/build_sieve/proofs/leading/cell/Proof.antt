@@ -10,7 +10,7 @@ use lib.Ieee.{binary64, of_int, to_bits, is_nan}
 use mir.Syntax.{w32}
 use mir.Val.{SFits, to_z, of_z}
 use mir.ValLaws.{to_z-of_z}
-use Rattle.build_sieve.proofs.Cells.{cell-of, whole-number, high_half}
+use Rattle.build_sieve.proofs.Cells.{cell_of_lem, whole_number, high_half}
 use Rattle.build_sieve.proofs.leading.cell.Statement.{statement}
 use Rattle.build_sieve.proofs.leading.cell.Tie as tie
 
@@ -25,7 +25,7 @@ float-to-bits-high : tie.Need-float-to-bits-high
 float-to-bits-high c =
     let x = c.before.args.x in
     let fits = c.before.ranges.x in
-    subst (λ (z : ℤ). T (not (is_nan (of_int binary64 z)))) (sym (to_z-of_z w32 x fits)) (whole-number x (small x fits))
+    subst (λ (z : ℤ). T (not (is_nan (of_int binary64 z)))) (sym (to_z-of_z w32 x fits)) (whole_number x (small x fits))
 
 cast-high : tie.Need-overflow-cast-high
 cast-high c = record { fits = high_half (to_z w32 (of_z w32 c.before.args.x)) }
@@ -38,7 +38,7 @@ returns c =
     let x = c.before.args.x in
     let shift = c.before.args.shift in
     let fits = c.before.ranges.x in
-    ap (λ (z : ℤ). to_bits binary64 (of_int binary64 z) / 2 ^ 32 * 2 ^ 12 % 2 ^ 32 / 2 ^ shift) (to_z-of_z w32 x fits) ∙ cell-of shift x (small x fits)
+    ap (λ (z : ℤ). to_bits binary64 (of_int binary64 z) / 2 ^ 32 * 2 ^ 12 % 2 ^ 32 / 2 ^ shift) (to_z-of_z w32 x fits) ∙ cell_of_lem shift x (small x fits)
 
 pub cell-spec : {M : Type 1} → statement M
 cell-spec = tie.close (tie.spec int-to-float-high float-to-bits-high cast-high shr-result returns)

@@ -16,8 +16,8 @@ cell-requires c κs = search rules
 
 returns : tie.Need-returns
 returns c =
-    let at-start = c.before in
-    c.cell.ensures ∙ ap (λ (z : ℤ). cell_of at-start.args.shift (nat_abs z)) (to_z-of_z w32 (pos at-start.args.x) (record { sfits = at-start.requires.1 }))
+    let at_start = c.before in
+    c.cell.ensures ∙ ap (λ (z : ℤ). cell_of at_start.args.shift (nat_abs z)) (to_z-of_z w32 (pos at_start.args.x) (record { sfits = at_start.requires.1 }))
 
 pub cell-of-spec : {M : Type 1} → statement M
 cell-of-spec = tie.close (tie.spec cast-cell cell-requires returns)

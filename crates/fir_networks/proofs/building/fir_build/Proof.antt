@@ -4,7 +4,7 @@ use mathlib.Core.Path.{sym, ap, ◌∙◌}
 use Prim.Native.Nat.{ℕ}
 use Rattle.refusal.specs.Answer.{Answer, stored}
 use Rattle.build_network.specs.Answer.{answer_of}
-use Rattle.fir_words.specs.Words.{refusalWord}
+use Rattle.fir_words.specs.Words.{refusal_word_of}
 use Rattle.fir_networks.proofs.building.fir_build.Statement.{statement}
 use Rattle.fir_networks.proofs.building.fir_build.Tie as tie
 
@@ -39,9 +39,9 @@ returns c =
     let after-rows = after-answer.before.before.before.before.before in
     let after-build = after-rows.before in
     let after-build-arg = after-build.before.before in
-    let at-start = after-build-arg.before.before.before.before in
+    let at_start = after-build-arg.before.before.before.before in
     let e = ap answer_of after-answer.answer.given.1 in
-    record { answer = answer_of after-build.build.result; word = c.refusal-word.ensures ∙ sym (ap refusalWord e); row_count = sym (ap (counted at-start.args.row_count.now) e); built = after-build.build.ensures }
+    record { answer = answer_of after-build.build.result; word = c.refusal-word.ensures ∙ sym (ap refusal_word_of e); row_count = sym (ap (counted at_start.args.row_count.now) e); built = after-build.build.ensures }
 
 same-length-3 : tie.Need-same-length-3
 same-length-3 c = search rules
@@ -55,9 +55,9 @@ returns-2 c =
     let after-rows = after-answer2.before.before.before.before.before in
     let after-build = after-rows.before in
     let after-build-arg = after-build.before.before in
-    let at-start = after-build-arg.before.before.before.before in
+    let at_start = after-build-arg.before.before.before.before in
     let e = ap answer_of after-answer2.answer2.given.1 in
-    record { answer = answer_of after-build.build.result; word = sym (ap refusalWord e); row_count = sym (ap (counted at-start.args.row_count.now) e); built = after-build.build.ensures }
+    record { answer = answer_of after-build.build.result; word = sym (ap refusal_word_of e); row_count = sym (ap (counted at_start.args.row_count.now) e); built = after-build.build.ensures }
 
 pub fir-build-spec : {M : Type 1} → statement M
 fir-build-spec =

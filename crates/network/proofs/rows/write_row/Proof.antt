@@ -4,7 +4,7 @@ use Prim.Native.Nat.{suc, ◌+◌, ◌*◌}
 use native.Mathlib.Omega.{arith}
 use lib.ListN.{length-set}
 use borrow.Author.Rules.{rules}
-use Rattle.network.specs.Rows.{rowWords}
+use Rattle.network.specs.Rows.{row_words}
 use Rattle.network.proofs.rows.write_row.Statement.{statement}
 use Rattle.network.proofs.rows.write_row.Tie as tie
 
@@ -58,7 +58,7 @@ same_length c = search rules
 
 returns : tie.Need-returns
 returns c =
-    let at = rowWords * c.args.i in
+    let at = row_words * c.args.i in
     let one : at + 1 ≡ suc at = omega arith in
     let two : at + 2 ≡ suc (suc at) = omega arith in
     let three : at + 3 ≡ suc (suc (suc at)) = omega arith in

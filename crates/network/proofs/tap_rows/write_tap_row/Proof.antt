@@ -4,7 +4,7 @@ use mathlib.Core.Path.{◌≡◌}
 use Prim.Native.Nat.{suc, ◌+◌, ◌*◌}
 use native.Mathlib.Omega.{arith}
 use lib.ListN.{length-set}
-use Rattle.network.specs.Rows.{tapWords}
+use Rattle.network.specs.Rows.{tap_words}
 use Rattle.network.proofs.tap_rows.write_tap_row.Statement.{statement}
 use Rattle.network.proofs.tap_rows.write_tap_row.Tie as tie
 
@@ -40,7 +40,7 @@ same_length c = search rules
 
 returns : tie.Need-returns
 returns c =
-    let at = tapWords * c.args.j in
+    let at = tap_words * c.args.j in
     let one : at + 1 ≡ suc at = omega arith in
     let two : at + 2 ≡ suc (suc at) = omega arith in
     cc (one, two)

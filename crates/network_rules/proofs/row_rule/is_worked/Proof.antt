@@ -4,7 +4,7 @@ use mathlib.Core.Path.{ap, ◌∙◌}
 use Prim.Native.Nat.{◌+◌}
 use native.Mathlib.Omega.{arith}
 use lib.Dec.{eqb}
-use Rattle.network_rules.proofs.SumTests.{total-is, total_twice, total-worked}
+use Rattle.network_rules.proofs.SumTests.{total_is, total_twice, total_worked}
 use Rattle.network_rules.proofs.row_rule.is_worked.Statement.{statement}
 use Rattle.network_rules.proofs.row_rule.is_worked.Tie as tie
 
@@ -27,12 +27,12 @@ returns : tie.Need-returns
 returns c n =
     let after-choose-wide2 = c.before in
     let after-choose-wide = after-choose-wide2.before in
-    let at-start = after-choose-wide.before in
-    let args = at-start.args in
-    let e = total-is args.sign args.a args.b args.v after-choose-wide.choose-wide.result after-choose-wide2.choose-wide2.result c.choose-wide3.result
+    let at_start = after-choose-wide.before in
+    let args = at_start.args in
+    let e = total_is args.sign args.a args.b args.v after-choose-wide.choose-wide.result after-choose-wide2.choose-wide2.result c.choose-wide3.result
     after-choose-wide.choose-wide.ensures after-choose-wide2.choose-wide2.ensures c.choose-wide3.ensures in
-    let f = total_twice args.sign args.a args.b args.v c.choose-wide3.result e at-start.requires.0 (omega arith) (omega arith) in
-    ap (eqb (args.a + args.b + args.v)) f ∙ total-worked args.sign args.a args.b args.v n
+    let f = total_twice args.sign args.a args.b args.v c.choose-wide3.result e at_start.requires.0 (omega arith) (omega arith) in
+    ap (eqb (args.a + args.b + args.v)) f ∙ total_worked args.sign args.a args.b args.v n
 
 pub is-worked-spec : {M : Type 1} → statement M
 is-worked-spec =

@@ -6,37 +6,37 @@ use Prim.Native.Nat.{◌+◌, ◌*◌, ◌-◌, ◌≤◌, min}
 use native.Mathlib.Omega.{arith}
 use lib.ListN.{length}
 use Rattle.sequence.specs.Inner.{front}
-use Rattle.sequence.proofs.Front.{front-start}
-use Rattle.plane_masks.specs.Planes.{cellMask}
-use Rattle.plane_cells.proofs.Masks.{all-masks}
+use Rattle.sequence.proofs.Front.{front_start}
+use Rattle.plane_masks.specs.Planes.{cell_mask}
+use Rattle.plane_cells.proofs.Masks.{all_masks}
 use Rattle.plane_cells.proofs.reading.by_blocks.Statement.{statement}
 use Rattle.plane_cells.proofs.reading.by_blocks.Tie as tie
 
-abbrev invariant-loop : tie.invariant-loop
-invariant-loop table cells masks₀ block₀ masks block = (block ≤ 8) × (masks ≡ front (cellMask table) masks₀ (min (32 * block) cells)) × (length masks ≡ length masks₀)
+abbrev invariant_loop : tie.invariant_loop
+invariant_loop table cells masks₀ block₀ masks block = (block ≤ 8) × (masks ≡ front (cell_mask table) masks₀ (min (32 * block) cells)) × (length masks ≡ length masks₀)
 
-abbrev decreases-loop : tie.decreases-loop
-decreases-loop table cells masks₀ block₀ masks block = 8 - block
+abbrev decreases_loop : tie.decreases_loop
+decreases_loop table cells masks₀ block₀ masks block = 8 - block
 
-loop-holds : tie.Need-loop-init invariant-loop decreases-loop
+loop-holds : tie.Need-loop-init invariant_loop decreases_loop
 loop-holds c =
     let args = c.before.before.args in
     let none : 0 ≡ min (32 * 0) args.cells = omega arith in
-    (search rules, sym (front-start (cellMask args.table.now) args.masks.now) ∙ ap (front (cellMask args.table.now) args.masks.now) none, refl)
+    (search rules, sym (front_start (cell_mask args.table.now) args.masks.now) ∙ ap (front (cell_mask args.table.now) args.masks.now) none, refl)
 
-mul-loop : tie.Need-overflow-mul-loop invariant-loop decreases-loop
+mul-loop : tie.Need-overflow-mul-loop invariant_loop decreases_loop
 mul-loop c = search rules
 
-mul-in-block : tie.Need-overflow-mul-in-block invariant-loop decreases-loop
+mul-in-block : tie.Need-overflow-mul-in-block invariant_loop decreases_loop
 mul-in-block c = search rules
 
-sub-in-block : tie.Need-overflow-sub-in-block invariant-loop decreases-loop
+sub-in-block : tie.Need-overflow-sub-in-block invariant_loop decreases_loop
 sub-in-block c = search rules
 
-in-block-requires : tie.Need-in-block-requires invariant-loop decreases-loop
+in-block-requires : tie.Need-in-block-requires invariant_loop decreases_loop
 in-block-requires c κs = search rules
 
-read-block-requires : tie.Need-read-block-requires invariant-loop decreases-loop
+read-block-requires : tie.Need-read-block-requires invariant_loop decreases_loop
 read-block-requires c κs =
     let after-in-block = c.before in
     let in-loop = after-in-block.before in
@@ -49,45 +49,45 @@ read-block-requires c κs =
       omega (arith, n, pre.2, in-loop.loop-test.true, at-loop.loop.invariant.2),
     )
 
-add-block : tie.Need-overflow-add-block invariant-loop decreases-loop
+add-block : tie.Need-overflow-add-block invariant_loop decreases_loop
 add-block c = search rules
 
-loop-less : tie.Need-loop-smaller invariant-loop decreases-loop
+loop-less : tie.Need-loop-smaller invariant_loop decreases_loop
 loop-less c = search rules
 
-loop-again : tie.Need-loop-preserved invariant-loop decreases-loop
+loop-again : tie.Need-loop-preserved invariant_loop decreases_loop
 loop-again c =
     let after-read-block = c.before.before in
     let after-in-block = after-read-block.before.before in
     let in-loop = after-in-block.before in
     let at-loop = in-loop.before in
-    let at-start = at-loop.before.before.before in
-    let args = at-start.args in
+    let at_start = at-loop.before.before.before in
+    let args = at_start.args in
     let block = at-loop.loop.block in
     let n = after-in-block.in_block in
     let here : min (32 * block) args.cells ≡ 32 * block = omega (arith, in-loop.loop-test.true) in
     let there : 32 * block + n.result ≡ min (32 * (block + 1)) args.cells = omega (arith, n.ensures, in-loop.loop-test.true) in (
-      omega (arith, at-start.requires.1, in-loop.loop-test.true),
-      after-read-block.read-block.ensures args.masks.now (at-loop.loop.invariant.1 ∙ ap (front (cellMask args.table.now) args.masks.now) here)
-          ∙ ap (front (cellMask args.table.now) args.masks.now) there,
+      omega (arith, at_start.requires.1, in-loop.loop-test.true),
+      after-read-block.read-block.ensures args.masks.now (at-loop.loop.invariant.1 ∙ ap (front (cell_mask args.table.now) args.masks.now) here)
+          ∙ ap (front (cell_mask args.table.now) args.masks.now) there,
       search rules,
     )
 
-same_length : tie.Need-same-length invariant-loop decreases-loop
+same_length : tie.Need-same-length invariant_loop decreases_loop
 same_length c = search rules
 
-returns : tie.Need-returns invariant-loop decreases-loop
+returns : tie.Need-returns invariant_loop decreases_loop
 returns c =
     let at-loop = c.before in
     let args = at-loop.before.before.before.args in
-    all-masks args.table.now at-loop.loop.masks args.masks.now (min (32 * at-loop.loop.block) args.cells) args.cells at-loop.loop.invariant.1 (omega (arith, c.loop-test.false))
+    all_masks args.table.now at-loop.loop.masks args.masks.now (min (32 * at-loop.loop.block) args.cells) args.cells at-loop.loop.invariant.1 (omega (arith, c.loop-test.false))
 
 pub by-blocks-spec : {M : Type 1} → statement M
 by-blocks-spec =
     tie.close
     (tie.spec
-    invariant-loop
-    decreases-loop
+    invariant_loop
+    decreases_loop
     loop-holds
     mul-loop
     mul-in-block

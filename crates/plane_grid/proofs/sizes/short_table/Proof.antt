@@ -4,41 +4,41 @@ use mathlib.Core.Bool.{Bool, ◌||◌}
 use Prim.Native.Nat.{ℕ, ◌≤◌}
 use borrow.Author.Tests.{lt-ltb, le-ltb}
 use lib.Dec.{ltb}
-use Rattle.plane_masks.specs.Grid.{shortTable}
-use Rattle.plane_grid.proofs.Tests.{or-first, or-next}
+use Rattle.plane_masks.specs.Grid.{short_table_of}
+use Rattle.plane_grid.proofs.Tests.{or_first, or_next_lem}
 use Rattle.plane_grid.proofs.sizes.short_table.Statement.{statement}
 use Rattle.plane_grid.proofs.sizes.short_table.Tie as tie
 
 -- past the test of the first table, and of both
 module _ (cells plus minus first second : ℕ) (t : Bool) where
-  past-plus : 128 ≤ plus → t ≡ (ltb minus 128 || (ltb first cells || ltb second cells)) → t ≡ shortTable cells plus minus first second
-  past-plus h e = or-next (ltb plus 128) (ltb minus 128 || (ltb first cells || ltb second cells)) t (le-ltb plus 128 h) e
+  past_plus : 128 ≤ plus → t ≡ (ltb minus 128 || (ltb first cells || ltb second cells)) → t ≡ short_table_of cells plus minus first second
+  past_plus h e = or_next_lem (ltb plus 128) (ltb minus 128 || (ltb first cells || ltb second cells)) t (le-ltb plus 128 h) e
 
-  past-both : 128 ≤ plus → 128 ≤ minus → t ≡ (ltb first cells || ltb second cells) → t ≡ shortTable cells plus minus first second
-  past-both h k e = past-plus h (or-next (ltb minus 128) (ltb first cells || ltb second cells) t (le-ltb minus 128 k) e)
+  past_both : 128 ≤ plus → 128 ≤ minus → t ≡ (ltb first cells || ltb second cells) → t ≡ short_table_of cells plus minus first second
+  past_both h k e = past_plus h (or_next_lem (ltb minus 128) (ltb first cells || ltb second cells) t (le-ltb minus 128 k) e)
 
 returns : tie.Need-returns
 returns c =
     let a = c.before.args in
-    or-first (ltb a.plus 128) (ltb a.minus 128 || (ltb a.first a.cells || ltb a.second a.cells)) (lt-ltb a.plus 128 c.if1.true)
+    or_first (ltb a.plus 128) (ltb a.minus 128 || (ltb a.first a.cells || ltb a.second a.cells)) (lt-ltb a.plus 128 c.if1.true)
 
 returns-2 : tie.Need-returns-2
 returns-2 c =
     let a = c.before.before.args in
-    past-plus a.cells a.plus a.minus a.first a.second _ c.before.if1.false
-    (or-first (ltb a.minus 128) (ltb a.first a.cells || ltb a.second a.cells) (lt-ltb a.minus 128 c.if2.true))
+    past_plus a.cells a.plus a.minus a.first a.second _ c.before.if1.false
+    (or_first (ltb a.minus 128) (ltb a.first a.cells || ltb a.second a.cells) (lt-ltb a.minus 128 c.if2.true))
 
 returns-3 : tie.Need-returns-3
 returns-3 c =
     let a = c.before.before.before.args in
-    past-both a.cells a.plus a.minus a.first a.second _ c.before.before.if1.false c.before.if2.false
-    (or-first (ltb a.first a.cells) (ltb a.second a.cells) (lt-ltb a.first a.cells c.if3.true))
+    past_both a.cells a.plus a.minus a.first a.second _ c.before.before.if1.false c.before.if2.false
+    (or_first (ltb a.first a.cells) (ltb a.second a.cells) (lt-ltb a.first a.cells c.if3.true))
 
 returns-4 : tie.Need-returns-4
 returns-4 c =
     let a = c.before.before.before.args in
-    past-both a.cells a.plus a.minus a.first a.second _ c.before.before.if1.false c.before.if2.false
-    (or-next (ltb a.first a.cells) (ltb a.second a.cells) (ltb a.second a.cells) (le-ltb a.first a.cells c.if3.false) refl)
+    past_both a.cells a.plus a.minus a.first a.second _ c.before.before.if1.false c.before.if2.false
+    (or_next_lem (ltb a.first a.cells) (ltb a.second a.cells) (ltb a.second a.cells) (le-ltb a.first a.cells c.if3.false) refl)
 
 pub short-table-spec : {M : Type 1} → statement M
 short-table-spec = tie.close (tie.spec returns returns-2 returns-3 returns-4)

@@ -1,6 +1,6 @@
 -- `run_tables::width::eight_idle` meets its contract: four places and four more, first of the registers, then of the coefficients. Assumes nothing.
 use borrow.Author.Rules.{rules}
-use Rattle.run_tables.proofs.ZeroFrom.{eight-less}
+use Rattle.run_tables.proofs.ZeroFrom.{eight_less}
 use Rattle.run_tables.proofs.width.eight_idle.Statement.{statement}
 use Rattle.run_tables.proofs.width.eight_idle.Tie as tie
 
@@ -27,9 +27,9 @@ returns c =
     let after-coefficients-idle = c.before in
     let after-registers-idle2 = after-coefficients-idle.before in
     let after-registers-idle = after-registers-idle2.before in
-    let at-start = after-registers-idle.before.before in
-    let args = at-start.args in
-    eight-less args.k args.h.now args.registers.now after-registers-idle.registers-idle.result after-registers-idle2.registers-idle2.result
+    let at_start = after-registers-idle.before.before in
+    let args = at_start.args in
+    eight_less args.k args.h.now args.registers.now after-registers-idle.registers-idle.result after-registers-idle2.registers-idle2.result
     after-coefficients-idle.coefficients-idle.result c.coefficients-idle2.result after-registers-idle.registers-idle.ensures after-registers-idle2.registers-idle2.ensures
     after-coefficients-idle.coefficients-idle.ensures c.coefficients-idle2.ensures
 

@@ -9,7 +9,7 @@ use lib.Dec.{eqb}
 use lib.ListN.{get_or}
 use Rattle.run_convolution.specs.Sums.{held}
 use Rattle.run_convolution.proofs.Steps.{held_low}
-use Rattle.run_tables.proofs.ZeroFrom.{four-less}
+use Rattle.run_tables.proofs.ZeroFrom.{four_less}
 use Rattle.run_tables.proofs.width.registers_idle.Statement.{statement}
 use Rattle.run_tables.proofs.width.registers_idle.Tie as tie
 
@@ -48,12 +48,12 @@ shared-slice-read-result-4 c = search rules
 
 returns : tie.Need-returns
 returns c =
-    let at-start = c.before.before.before.before in
-    let registers = at-start.args.registers.now in
-    let k = at-start.args.k in
+    let at_start = c.before.before.before.before in
+    let registers = at_start.args.registers.now in
+    let k = at_start.args.k in
     let n : ℕ → ℕ = λ j. get_or registers j 0 in
     let at : (j : ℕ) → j < 256 → eqb (n j) 0 ≡ true → held registers j ≡ 0 = λ j l e. held_low registers j l ∙ eqb-true (n j) 0 e in
-    four-less (held registers) 0 k (eqb (n k) 0) (eqb (n (k + 1)) 0) (eqb (n (k + 2)) 0) (eqb (n (k + 3)) 0)
+    four_less (held registers) 0 k (eqb (n k) 0) (eqb (n (k + 1)) 0) (eqb (n (k + 2)) 0) (eqb (n (k + 3)) 0)
     (at k (omega arith)) (at (k + 1) (omega arith)) (at (k + 2) (omega arith)) (at (k + 3) (omega arith))
 
 pub registers-idle-spec : {M : Type 1} → statement M

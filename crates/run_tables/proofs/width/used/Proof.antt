@@ -8,83 +8,83 @@ use lib.IntN.{pos}
 use mir.Syntax.{w32}
 use mir.ValLaws.{to_z-of_z}
 use Rattle.run_tables.specs.Inner.{ZeroFrom}
-use Rattle.run_tables.proofs.ZeroFrom.{zero-from-less}
+use Rattle.run_tables.proofs.ZeroFrom.{zero_from_less}
 use mir.Val.{to_z}
 use Rattle.run_tables.proofs.width.used.Statement.{statement}
 use Rattle.run_tables.proofs.width.used.Tie as tie
 
-abbrev invariant-loop : tie.invariant-loop
-invariant-loop h registers w₀ w = (w ≤ 256) × (ZeroFrom w h registers)
+abbrev invariant_loop : tie.invariant_loop
+invariant_loop h registers w₀ w = (w ≤ 256) × (ZeroFrom w h registers)
 
-abbrev decreases-loop : tie.decreases-loop
-decreases-loop h registers w₀ w = w
+abbrev decreases_loop : tie.decreases_loop
+decreases_loop h registers w₀ w = w
 
-used-eights-requires : tie.Need-used-eights-requires invariant-loop decreases-loop
+used-eights-requires : tie.Need-used-eights-requires invariant_loop decreases_loop
 used-eights-requires c κs = search rules
 
-loop-holds : tie.Need-loop-init invariant-loop decreases-loop
+loop-holds : tie.Need-loop-init invariant_loop decreases_loop
 loop-holds c = c.used-eights.ensures
 
-sub-if1 : tie.Need-overflow-sub-if1 invariant-loop decreases-loop
+sub-if1 : tie.Need-overflow-sub-if1 invariant_loop decreases_loop
 sub-if1 c = search rules
 
-mul-if1 : tie.Need-overflow-mul-if1 invariant-loop decreases-loop
+mul-if1 : tie.Need-overflow-mul-if1 invariant_loop decreases_loop
 mul-if1 c = search rules
 
-shared-slice-read-if1 : tie.Need-shared-slice-read-if1 invariant-loop decreases-loop
+shared-slice-read-if1 : tie.Need-shared-slice-read-if1 invariant_loop decreases_loop
 shared-slice-read-if1 c = search rules
 
-returns : tie.Need-returns invariant-loop decreases-loop
+returns : tie.Need-returns invariant_loop decreases_loop
 returns c =
     let at-loop = c.before.before.before in
     at-loop.loop.invariant
 
-sub-if2 : tie.Need-overflow-sub-if2 invariant-loop decreases-loop
+sub-if2 : tie.Need-overflow-sub-if2 invariant_loop decreases_loop
 sub-if2 c = search rules
 
-mul-if2 : tie.Need-overflow-mul-if2 invariant-loop decreases-loop
+mul-if2 : tie.Need-overflow-mul-if2 invariant_loop decreases_loop
 mul-if2 c = search rules
 
-element-copy-out-if2 : tie.Need-element-copy-out-if2 invariant-loop decreases-loop
+element-copy-out-if2 : tie.Need-element-copy-out-if2 invariant_loop decreases_loop
 element-copy-out-if2 c = search rules
 
-returns-2 : tie.Need-returns-2 invariant-loop decreases-loop
+returns-2 : tie.Need-returns-2 invariant_loop decreases_loop
 returns-2 c =
     let at-loop = c.before.before.before.before.before in
     at-loop.loop.invariant
 
-sub-w : tie.Need-overflow-sub-w invariant-loop decreases-loop
+sub-w : tie.Need-overflow-sub-w invariant_loop decreases_loop
 sub-w c = search rules
 
-loop-less : tie.Need-loop-smaller invariant-loop decreases-loop
+loop-less : tie.Need-loop-smaller invariant_loop decreases_loop
 loop-less c = search rules
 
-loop-again : tie.Need-loop-preserved invariant-loop decreases-loop
+loop-again : tie.Need-loop-preserved invariant_loop decreases_loop
 loop-again c =
     let after-if22 = c.before in
     let in-else-1 = after-if22.before in
     let at-loop = in-else-1.before.before.before in
-    let at-start = at-loop.before.before.before in
+    let at_start = at-loop.before.before.before in
     let w = at-loop.loop.w in
-    let h = at-start.args.h.now in
-    let registers = at-start.args.registers.now in
+    let h = at_start.args.h.now in
+    let registers = at_start.args.registers.now in
     let e : w ≡ suc (w - 1) = omega arith in
     let z : get_or h (w - 1) (pos 0) ≡ pos 0 = sym (to_z-of_z w32 (get_or h (w - 1) (pos 0)) (record { sfits = after-if22.if22.given })) ∙ ap (to_z w32) c.if2.false in
-    (search rules, zero-from-less h registers (w - 1) (omega arith) in-else-1.if1.false z (subst (λ k. ZeroFrom k h registers) e at-loop.loop.invariant.1))
+    (search rules, zero_from_less h registers (w - 1) (omega arith) in-else-1.if1.false z (subst (λ k. ZeroFrom k h registers) e at-loop.loop.invariant.1))
 
-returns-3 : tie.Need-returns-3 invariant-loop decreases-loop
+returns-3 : tie.Need-returns-3 invariant_loop decreases_loop
 returns-3 c =
     let at-loop = c.before in
-    let at-start = at-loop.before.before.before in
+    let at_start = at-loop.before.before.before in
     let e : at-loop.loop.w ≡ 0 = omega arith in
-    (search rules, subst (λ k. ZeroFrom k at-start.args.h.now at-start.args.registers.now) e at-loop.loop.invariant.1)
+    (search rules, subst (λ k. ZeroFrom k at_start.args.h.now at_start.args.registers.now) e at-loop.loop.invariant.1)
 
 pub used-spec : {M : Type 1} → statement M
 used-spec =
     tie.close
     (tie.spec
-    invariant-loop
-    decreases-loop
+    invariant_loop
+    decreases_loop
     used-eights-requires
     loop-holds
     sub-if1

@@ -1,8 +1,8 @@
--- `sheet_input::taps::four_bytes` meets its contract: each byte is below 256, so that no sum is too large, and `low-four` says what number four bytes make.
+-- `sheet_input::taps::four_bytes` meets its contract: each byte is below 256, so that no sum is too large, and `low_four` says what number four bytes make.
 -- Assumes nothing.
 use borrow.Author.Rules.{rules}
 use native.Mathlib.Omega.{arith}
-use Rattle.sheet_input.proofs.Bytes.{low-four}
+use Rattle.sheet_input.proofs.Bytes.{low_four}
 use Rattle.sheet_input.proofs.taps.four_bytes.Statement.{statement}
 use Rattle.sheet_input.proofs.taps.four_bytes.Tie as tie
 
@@ -62,8 +62,8 @@ returns c =
     let after-byte-643 = c.before.before in
     let after-byte-642 = after-byte-643.before.before in
     let after-byte-64 = after-byte-642.before.before in
-    let at-start = after-byte-64.before.before.before in
-    let e = low-four at-start.args.input.now at-start.args.at at-start.requires in
+    let at_start = after-byte-64.before.before.before in
+    let e = low_four at_start.args.input.now at_start.args.at at_start.requires in
     let byte-64-ensures = after-byte-64.byte-64.ensures in
     let byte-642-ensures = after-byte-642.byte-642.ensures in
     let byte-643-ensures = after-byte-643.byte-643.ensures in

@@ -4,8 +4,8 @@ use mathlib.Core.Path.{ap, ◌∙◌}
 use Prim.Native.Nat.{◌*◌}
 use native.Mathlib.Omega.{arith}
 use lib.Ieee.{binary64, of_bits}
-use Rattle.sheet_input.specs.Taps.{tapAt}
-use Rattle.sheet_input.proofs.Bytes.{low-eight}
+use Rattle.sheet_input.specs.Taps.{tap_at_of}
+use Rattle.sheet_input.proofs.Bytes.{low_eight}
 use Rattle.sheet_input.proofs.taps.tap_at.Statement.{statement}
 use Rattle.sheet_input.proofs.taps.tap_at.Tie as tie
 
@@ -31,12 +31,12 @@ of-bits-requires : tie.Need-of-bits-requires
 of-bits-requires c κs = search rules
 
 returns : tie.Need-returns
-unfolding tapAt
+unfolding tap_at_of
 returns c =
     let after-four-bytes2 = c.before in
     let after-four-bytes = after-four-bytes2.before in
-    let at-start = after-four-bytes.before.before in
-    let e = low-eight at-start.args.input.now (8 * at-start.args.i) at-start.requires in
+    let at_start = after-four-bytes.before.before in
+    let e = low_eight at_start.args.input.now (8 * at_start.args.i) at_start.requires in
     c.of-bits.ensures ∙ ap (of_bits binary64) (omega (arith, e, after-four-bytes.four_bytes.ensures.0, after-four-bytes2.four-bytes2.ensures.0))
 
 pub tap-at-spec : {M : Type 1} → statement M

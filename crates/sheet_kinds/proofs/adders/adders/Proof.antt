@@ -3,13 +3,13 @@ use Prim.Native.Nat.{◌≤◌}
 use native.Mathlib.Omega.{arith}
 use borrow.Author.Rules.{rules}
 use lib.ListN.{length}
-use Rattle.sequence.proofs.Count.{count-few}
-use Rattle.network.specs.Adders.{isNonzero}
+use Rattle.sequence.proofs.Count.{count_few}
+use Rattle.network.specs.Adders.{is_nonzero}
 use Rattle.sheet_kinds.proofs.adders.adders.Statement.{statement}
 use Rattle.sheet_kinds.proofs.adders.adders.Tie as tie
 
 few : (c : tie.After-joining-adders) → c.joining-adders.result ≤ length c.before.args.coefficients.now
-few c = omega (arith, c.joining-adders.ensures, count-few isNonzero c.before.args.coefficients.now)
+few c = omega (arith, c.joining-adders.ensures, count_few is_nonzero c.before.args.coefficients.now)
 
 joining-adders-requires : tie.Need-joining-adders-requires
 joining-adders-requires c κs = search rules

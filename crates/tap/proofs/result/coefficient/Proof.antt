@@ -6,12 +6,12 @@ use mir.Syntax.{w32}
 use mir.ValLaws.{to_z-of_z}
 use Rattle.tap.specs.declared.RoundedTap.{RoundedTap}
 use Rattle.tap.specs.Rounding.{answer_of}
-use Rattle.tap.specs.Inner.{wholeIn}
+use Rattle.tap.specs.Inner.{whole_in}
 use Rattle.tap.proofs.result.coefficient.Statement.{statement}
 use Rattle.tap.proofs.result.coefficient.Tie as tie
 
 whole : RoundedTap → ℤ
-whole t = wholeIn (answer_of t)
+whole t = whole_in (answer_of t)
 
 enum-known-tap : tie.Need-enum-known-tap
 enum-known-tap c = search rules

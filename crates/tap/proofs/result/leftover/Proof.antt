@@ -5,12 +5,12 @@ use lib.Ieee.{Float}
 use Rattle.tap.specs.declared.RoundedTap.{RoundedTap}
 use Rattle.tap.specs.Rounding.{answer_of}
 use Rattle.tap.proofs.Value.{zero_is}
-use Rattle.tap.specs.Inner.{leftIn}
+use Rattle.tap.specs.Inner.{left_in}
 use Rattle.tap.proofs.result.leftover.Statement.{statement}
 use Rattle.tap.proofs.result.leftover.Tie as tie
 
 left : RoundedTap → Float
-left t = leftIn (answer_of t)
+left t = left_in (answer_of t)
 
 enum_told : tie.Need-enum-told
 enum_told c = search rules

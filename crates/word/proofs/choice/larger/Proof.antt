@@ -24,15 +24,15 @@ cast-if1-2 c = search rules
 
 returns : tie.Need-returns
 returns c =
-    let at-start = c.before in
-    let args = at-start.args in
-    omega (arith, ltb-true args.a args.b (compared args.a args.b true at-start.requires.0 at-start.requires.1 c.if1.true))
+    let at_start = c.before in
+    let args = at_start.args in
+    omega (arith, ltb-true args.a args.b (compared args.a args.b true at_start.requires.0 at_start.requires.1 c.if1.true))
 
 returns-2 : tie.Need-returns-2
 returns-2 c =
-    let at-start = c.before in
-    let args = at-start.args in
-    omega (arith, ltb-false args.a args.b (compared args.a args.b false at-start.requires.0 at-start.requires.1 c.if1.false))
+    let at_start = c.before in
+    let args = at_start.args in
+    omega (arith, ltb-false args.a args.b (compared args.a args.b false at_start.requires.0 at_start.requires.1 c.if1.false))
 
 pub larger-spec : {M : Type 1} → statement M
 larger-spec = tie.close (tie.spec cast-if1 cast-if1-2 returns returns-2)
