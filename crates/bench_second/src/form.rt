@@ -3,7 +3,7 @@
 ghost use Rattle.std.specs.Prelude.{◌≡◌, ◌+◌, ◌^◌, ◌<◌, ◌≤◌};
 ghost use Rattle.bench_second.specs.Inner.{of_odd_of, LeastFound};
 
-#[derive(Drop)]
+#[derive(Clone, Copy)]
 pub struct LeastWeight {
     pub weight: u32,
     pub count: u32,

@@ -2,7 +2,7 @@
 ghost use Rattle.std.specs.Prelude.{◌≡◌, ◌-◌, ◌^◌, ◌≤◌, false, length};
 ghost use Rattle.bench_second.specs.Inner.{RoundedByDigits, Summed, LargestFound, SetJudged, Judged};
 
-#[derive(Drop)]
+#[derive(Clone, Copy)]
 pub struct Rounded {
     // The refusal number, 0 for none.
     pub refusal: u32,
@@ -34,7 +34,7 @@ fn doubled(x: f64, f: u32) -> f64 {
 }
 
 // A whole number and the rest of what it was taken from.
-#[derive(Drop)]
+#[derive(Clone, Copy)]
 pub struct Parts {
     pub whole: u64,
     pub rest: f64,
@@ -147,7 +147,7 @@ pub fn largest_leftover(taps: &[f64], divisor: f64, f: u32) -> f64
     largest
 }
 
-#[derive(Drop)]
+#[derive(Clone, Copy)]
 pub struct SetRefusal {
     pub refusal: u32,
     pub place: usize,

@@ -1,5 +1,7 @@
 // Step 3 of building: a chosen form read from its highest nonzero digit down, with a row for each value
 // on the way, over rows with their index.
+#![tactic(auto)]
+
 mod chosen;
 
 ghost use Rattle.std.specs.Prelude.{◌≡◌, suc, ◌+◌, ◌*◌, ◌-◌, ◌^◌, ◌≤◌, ◌<◌, length};
@@ -16,7 +18,7 @@ use form_masks::Form;
 use network::Row;
 
 // The number of rows, and the row that was wanted.
-#[derive(Drop)]
+#[derive(Clone, Copy)]
 struct Place {
     rows: usize,
     row: u32,
@@ -24,7 +26,7 @@ struct Place {
 
 // A form that is being read: the number of rows; the row and the value of the digits that are read; the
 // place of the last of these, and the nonzero digits below it.
-#[derive(Drop)]
+#[derive(Clone, Copy)]
 struct Chain {
     rows: usize,
     row: u32,
@@ -35,7 +37,7 @@ struct Chain {
 
 // The next nonzero digit: its distance, the sign and the value of its row, its place, and the nonzero
 // digits below it.
-#[derive(Drop)]
+#[derive(Clone, Copy)]
 struct Step {
     gap: u32,
     sign: u32,

@@ -1,5 +1,7 @@
 // Rows written to a table one after the other, and found again by their values: an index has the last
 // row of each bucket of values, and for each row the one before it in its bucket.
+#![tactic(auto)]
+
 ghost use Rattle.std.specs.Prelude.{◌≡◌, [], ◌∷◌, ◌++◌, ◌+◌, ◌*◌, ◌≤◌, ◌<◌, length, get_or, set};
 ghost use Rattle.refusal.specs.Answer.{nowhere};
 ghost use Rattle.network.specs.Rows.{row_words, rows_of};
@@ -9,7 +11,7 @@ ghost use Rattle.build_index.specs.Inner.{bucket_of, Indexed, Grown, found_at};
 use network::Row;
 
 // What a look-up finds: the number of a row, or none.
-#[derive(Drop)]
+#[derive(Clone, Copy)]
 pub enum Found {
     At(usize),
     Missing,

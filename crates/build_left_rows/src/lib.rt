@@ -1,5 +1,7 @@
 // Step 2 of building: the turns of the search that no right row goes with, by one pass over the right
 // rows. Left row i at shift s is turn 32·i + s.
+#![tactic(auto)]
+
 ghost use Rattle.std.specs.Prelude.{◌≡◌, true, false, ◌⊎◌, ℕ, ◌+◌, ◌*◌, ◌-◌, ◌/◌, ◌%◌, ◌^◌, ◌≤◌, ◌<◌, length, get_or};
 ghost use Rattle.build_index.specs.Inner.{value_at, Indexed};
 ghost use Rattle.build_sieve.specs.Inner.{mark_at};

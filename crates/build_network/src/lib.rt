@@ -1,4 +1,6 @@
 // A network built from coefficients and chosen forms.
+#![tactic(auto)]
+
 mod form_choices;
 
 ghost use Rattle.build_steps.specs.Built.{BuiltInto};
@@ -7,7 +9,7 @@ ghost use Rattle.build_network.specs.Answer.{answer_of};
 use refusal::Refusal;
 
 // The number of rows, or a refusal.
-#[derive(Drop)]
+#[derive(Clone, Copy)]
 pub enum Built {
     Rows(u32),
     Refused(Refusal),

@@ -1,4 +1,6 @@
 // Step 2 of building: the search for one new row from two that are there, over rows with their index.
+#![tactic(auto)]
+
 mod row_signs;
 
 ghost use Rattle.std.specs.Prelude.{◌≡◌, ◌⊎◌, ◌≤◌};

@@ -9,7 +9,7 @@ use build_index::Found;
 use network::{MINUS, PLUS, REVERSED, Row};
 
 // What the search finds: a row to add, or none.
-#[derive(Drop)]
+#[derive(Clone, Copy)]
 pub enum NewRow {
     Fits(Row),
     NoneFits,

@@ -1,4 +1,6 @@
 // Steps 1 to 3 of building, for one odd part.
+#![tactic(auto)]
+
 ghost use Rattle.network.specs.Rows.{rows_of};
 ghost use Rattle.build_steps.specs.Steps.{step};
 ghost use Rattle.build_index.specs.Inner.{Grown};

@@ -1,4 +1,6 @@
 // The rows of a network, built odd part by odd part.
+#![tactic(auto)]
+
 ghost use Rattle.std.specs.Prelude.{◌≡◌, [], ◌∷◌, map, ◌≤◌, max, length, take};
 ghost use Rattle.network.specs.Rows.{rows_of, first_row_of};
 ghost use Rattle.build_steps.specs.Steps.{step, steps};

@@ -1,4 +1,6 @@
 // A sieve for the search of step 2: which sums and differences may have a row of their odd part.
+#![tactic(auto)]
+
 mod leading;
 
 ghost use Rattle.std.specs.Prelude.{◌≡◌, ℕ, ◌+◌, ◌*◌, ◌/◌, ◌%◌, ◌^◌, ◌≤◌, ◌<◌, max, leb, length};

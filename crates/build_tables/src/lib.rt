@@ -1,4 +1,6 @@
 // A network written into its two tables.
+#![tactic(auto)]
+
 ghost use Rattle.std.specs.Prelude.{◌≡◌, map, ◌*◌, ◌≤◌, length, take};
 ghost use Rattle.network.specs.Rows.{tap_words};
 ghost use Rattle.build_steps.specs.Parts.{parts_to_build};

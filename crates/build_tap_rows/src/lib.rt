@@ -1,4 +1,6 @@
 // The tap rows of a built network, over rows with their index.
+#![tactic(auto)]
+
 ghost use Rattle.std.specs.Prelude.{◌≡◌, ◌*◌, ◌≤◌, length};
 ghost use Rattle.refusal.specs.Answer.{place_or};
 ghost use Rattle.coefficient.specs.Parts.{parts_of, sign_if};

@@ -1,4 +1,6 @@
 // A coefficient's sign, odd part and shift, and a filter without the zeros at its ends.
+#![tactic(auto)]
+
 mod trim;
 
 ghost use Rattle.coefficient.specs.Parts.{parts_in, ReducedTo};
@@ -6,7 +8,7 @@ ghost use Rattle.coefficient.specs.Parts.{parts_in, ReducedTo};
 pub use trim::{end_of_nonzero, first_nonzero, trimmed};
 
 // The coefficient is sign * odd part * 2^shift.
-#[derive(Drop)]
+#[derive(Clone, Copy)]
 pub struct Reduction {
     pub negative: bool,
     pub odd_part: u32,
@@ -14,7 +16,7 @@ pub struct Reduction {
 }
 
 // Zero has no odd part.
-#[derive(Drop)]
+#[derive(Clone, Copy)]
 pub enum Reduced {
     Zero,
     Split(Reduction),

@@ -1,4 +1,6 @@
 // Minimal signed-digit forms and reduction: functions for C, declared in include/fir.h.
+#![tactic(auto)]
+
 ghost use Rattle.fir_forms.specs.Form.{FormValuedWord, FormWeighedWord, InCanonicalFormWord};
 ghost use Rattle.fir_forms.specs.Listing.{FormsListedWord, FormsCountedWord};
 

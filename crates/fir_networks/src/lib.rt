@@ -1,5 +1,7 @@
 // Networks: building, the check, the coefficients of one that passes, and running. Functions for C,
 // declared in include/fir.h.
+#![tactic(auto)]
+
 ghost use Rattle.std.specs.Prelude.{◌≡◌};
 ghost use Rattle.network_check.specs.Checked.{answer_of};
 ghost use Rattle.fir_words.specs.Words.{refusal_word_of};

@@ -1,5 +1,7 @@
 // Digit planes: a grid written as planes, and planes read back. Functions for C, declared in
 // include/fir.h.
+#![tactic(auto)]
+
 ghost use Rattle.std.specs.Prelude.{◌≡◌};
 ghost use Rattle.plane_grid.specs.Answer.{answer_of};
 ghost use Rattle.fir_words.specs.Words.{refusal_word_of};

@@ -1,4 +1,6 @@
 // Rounding taps: functions for C, declared in include/fir.h.
+#![tactic(auto)]
+
 ghost use Rattle.std.specs.Prelude.{◌≡◌};
 ghost use Rattle.tap.specs.Rounding as Tap;
 ghost use Rattle.fir_taps.specs.Rounding.{tap_word_of, TapRoundedWord, TapsRoundedWord};

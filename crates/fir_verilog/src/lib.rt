@@ -1,4 +1,6 @@
 // A network as Verilog text: a function for C, declared in include/fir.h.
+#![tactic(auto)]
+
 ghost use Rattle.fir_verilog.specs.Written.{WrittenWord};
 
 use fir_words::refusal_word;

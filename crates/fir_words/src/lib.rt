@@ -1,4 +1,6 @@
 // A refusal as the 64-bit word that a function for C answers.
+#![tactic(auto)]
+
 ghost use Rattle.std.specs.Prelude.{◌≡◌, ◌+◌, ◌*◌, ◌^◌};
 ghost use Rattle.refusal.specs.Table.{number_of, place_of};
 

@@ -1,4 +1,6 @@
 // Every minimal form of a coefficient, in order, and their number.
+#![tactic(auto)]
+
 ghost use Rattle.std.specs.Prelude.{◌≡◌, ◌+◌, ◌-◌, ◌/◌, ◌%◌, ◌^◌, ◌<◌, ◌≤◌, ◌++◌, map, length, drop};
 ghost use Rattle.signed_digit.specs.Masks.{plus_mask, minus_mask};
 ghost use Rattle.signed_digit.specs.Forms.{listing};
@@ -10,7 +12,7 @@ use form_walk::{Walk, next, skip, start};
 use refusal::Refusal;
 
 // The number of forms, or a refusal.
-#[derive(Drop)]
+#[derive(Clone, Copy)]
 pub enum Listing {
     Count(u32),
     Refused(Refusal),

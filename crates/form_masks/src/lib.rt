@@ -1,4 +1,6 @@
 // A form as two masks: its value, its weight, and the canonical form of a coefficient.
+#![tactic(auto)]
+
 ghost use Rattle.std.specs.Prelude.{◌≡◌, ◌≤◌, ◌<◌, ◌^◌};
 ghost use Rattle.std.specs.Int.Count as Count;
 ghost use Rattle.refusal.specs.Answer.{at_place};
@@ -11,21 +13,21 @@ ghost use Rattle.form_masks.specs.Weight as Weight;
 use refusal::Refusal;
 
 // The places holding 1 and the places holding -1.
-#[derive(Drop)]
+#[derive(Clone, Copy)]
 pub struct Form {
     pub plus: u32,
     pub minus: u32,
 }
 
 // The value, or a refusal.
-#[derive(Drop)]
+#[derive(Clone, Copy)]
 pub enum FormValue {
     Value(i64),
     Refused(Refusal),
 }
 
 // The weight, or a refusal.
-#[derive(Drop)]
+#[derive(Clone, Copy)]
 pub enum FormWeight {
     Weight(u32),
     Refused(Refusal),

@@ -1,4 +1,6 @@
 // A form by its number in the listing of a coefficient, without the listing.
+#![tactic(auto)]
+
 ghost use Rattle.std.specs.Prelude.{◌≡◌, ◌-◌, ◌/◌, ◌%◌, ◌^◌, ◌<◌, ◌≤◌, [], length, slice_index_or};
 ghost use Rattle.signed_digit.specs.Forms.{listing};
 ghost use Rattle.form_masks.specs.Form.{form_of};

@@ -1,4 +1,6 @@
 // The walk over the links of a coefficient.
+#![tactic(auto)]
+
 ghost use Rattle.std.specs.Prelude.{◌≡◌, ◌≢◌, ◌*◌, ◌≤◌, ◌<◌, ◌^◌};
 ghost use Rattle.form_walk.specs.Inner.{ahead_of, IsTaken, IsStart, skip_of, next_of};
 
@@ -14,7 +16,7 @@ use word::choose_index;
 // still to come, all of them and those between opposite digits; the link in the lowest bit has its
 // upper digit at bit. forms is the number of forms of the digits passed, and moved is the number of
 // forms in which a link comes next that touches the last one and is taken.
-#[derive(Drop)]
+#[derive(Clone, Copy)]
 pub struct Walk {
     pub links: usize,
     pub opposite: usize,
@@ -25,7 +27,7 @@ pub struct Walk {
 
 // The links known to be taken by some form, and those that are taken where the link at the distance
 // looked ahead is.
-#[derive(Drop)]
+#[derive(Clone, Copy)]
 struct Chains {
     taken: u32,
     chained: u32,

@@ -1,5 +1,7 @@
 // The rows and tap rows of a network, and how tables of words hold them: no other crate knows which
 // words they have.
+#![tactic(auto)]
+
 mod rows;
 mod tap_rows;
 
@@ -21,7 +23,7 @@ pub const REVERSED: u32 = 114;
 pub const NONE: u32 = 0;
 
 // Its value is worked out from the values of the rows left and right.
-#[derive(Drop)]
+#[derive(Clone, Copy)]
 pub struct Row {
     pub left: u32,
     pub right: u32,
@@ -39,7 +41,7 @@ pub const FIRST: Row = Row {
     value: 1,
 };
 
-#[derive(Drop)]
+#[derive(Clone, Copy)]
 pub struct TapRow {
     pub sign: u32,
     pub row: u32,

@@ -1,4 +1,6 @@
 // Checking a network, and the coefficients of one that passes.
+#![tactic(auto)]
+
 ghost use Rattle.std.specs.Prelude.{◌≡◌, ◌++◌, ◌*◌, ◌≤◌, pos, length, drop, replicate};
 ghost use Rattle.refusal.specs.Answer.{lowest, place_or};
 ghost use Rattle.network.specs.Rows.{row_words, tap_words, rows_of, tap_rows_of, network_of, row_table, tap_table};
@@ -11,7 +13,7 @@ ghost use Rattle.network_check.specs.Inner.{is_given, Holds};
 use network_rules::TapProduct;
 use refusal::Refusal;
 
-#[derive(Drop)]
+#[derive(Clone, Copy)]
 pub enum Checked {
     Passed,
     Refused(Refusal),

@@ -1,4 +1,6 @@
 // Whether a row keeps the row rule, and a tap row its own.
+#![tactic(auto)]
+
 mod row_rule;
 mod tap_row_rule;
 

@@ -12,7 +12,7 @@ use network::{MINUS, NONE, PLUS};
 use word::choose_wide;
 
 // The product of a tap row, where it is a coefficient.
-#[derive(Drop)]
+#[derive(Clone, Copy)]
 pub enum TapProduct {
     Coefficient(i32),
     Broken,

@@ -1,4 +1,6 @@
 // Planes and masks 32 cells at a time: 32 rows of 32 bits are transposed, so that columns become rows.
+#![tactic(auto)]
+
 ghost use Rattle.std.specs.Prelude.{◌≡◌, List, ◌++◌, ℕ, ◌+◌, ◌*◌, ◌≤◌, ◌<◌, length, get_or, drop};
 ghost use Rattle.sequence.specs.UpTo.{up_to};
 ghost use Rattle.sequence.specs.Inner.{front};

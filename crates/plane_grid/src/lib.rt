@@ -1,4 +1,6 @@
 // A grid of coefficients as digit planes, and planes back to the masks of each cell.
+#![tactic(auto)]
+
 mod choices;
 mod sizes;
 
@@ -12,7 +14,7 @@ use plane_cells::writing::write_cells;
 use plane_words::first_overlap;
 use refusal::Refusal;
 
-#[derive(Drop)]
+#[derive(Clone, Copy)]
 pub enum Converted {
     Done,
     Refused(Refusal),

@@ -1,1 +1,2 @@
 // Digit planes and the masks of their cells: definitions in specs/, theorems in proofs/, and no code.
+#![tactic(auto)]

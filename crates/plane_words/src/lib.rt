@@ -1,5 +1,7 @@
 // The words of a mask table: one cell at a time written into them and read from them, and the cells of
 // two tables that overlap.
+#![tactic(auto)]
+
 ghost use Rattle.std.specs.Prelude.{◌≡◌, [], ◌++◌, ◌≢◌, ℕ, ◌+◌, ◌*◌, ◌/◌, ◌%◌, ◌^◌, ◌≤◌, ◌<◌, length, get_or, drop};
 ghost use Rattle.refusal.specs.Answer.{place_or};
 ghost use Rattle.plane_masks.specs.Planes.{cell_mask, plane_words_of};

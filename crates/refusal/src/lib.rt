@@ -1,11 +1,13 @@
 // Why an entry turned its input down: one case for each number of document 01's table "Turned down", and for 13
 // and 14, which document 02 adds.
+#![tactic(auto)]
+
 ghost use Rattle.std.specs.Prelude.{◌≡◌};
 ghost use Rattle.refusal.specs.Table.{number_of, place_of};
 
 // A case holds its place where the table has one other than 0. That of overlapping masks is a digit, or a cell
 // where planes are read; that of a missing form is a tap, or a cell where planes are written.
-#[derive(Drop)]
+#[derive(Clone, Copy)]
 pub enum Refusal {
     NoTaps,
     TooManyTaps,

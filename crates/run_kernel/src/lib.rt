@@ -1,5 +1,7 @@
 // Samples through 256 coefficients and 256 registers, four samples a pass. The registers and
 // coefficients past the last that is not 0 are left out of the work.
+#![tactic(auto)]
+
 ghost use Rattle.std.specs.Prelude.{◌≡◌, List, ◌++◌, ℕ, ◌≤◌, length, drop};
 ghost use Rattle.std.proofs.lemmas.List.Edits.{sets};
 ghost use Rattle.run_convolution.specs.Running.{outputs_of, registers_of};

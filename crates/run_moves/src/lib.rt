@@ -1,5 +1,7 @@
 // The registers in passes of four samples, raised, as words. Place j holds output j for j below 4,
 // and then register j - 4.
+#![tactic(auto)]
+
 ghost use Rattle.std.specs.Prelude.{◌≡◌, List, ℕ, ◌≤◌, ◌<◌, ◌+◌, length, get_or};
 ghost use Rattle.sequence.specs.Inner.{front};
 ghost use Rattle.run_convolution.specs.Sums.{held};

@@ -1,4 +1,6 @@
 // Running samples through a network.
+#![tactic(auto)]
+
 ghost use Rattle.network_check.specs.Checked.{answer_of};
 ghost use Rattle.run_calls.specs.Run.{Ran};
 

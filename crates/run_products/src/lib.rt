@@ -3,6 +3,8 @@
 // multiplication without a sign. What the added halves bring in is not taken off product by product:
 // for as long as samples pass, a sum stays raised by an offset, which the 2^15 in every sample leaves,
 // and by a bias, which the 2^31 in every coefficient leaves.
+#![tactic(auto)]
+
 ghost use Rattle.std.specs.Prelude.{◌≡◌, ◌+◌, ◌*◌, ◌%◌, ◌^◌, ◌≤◌, pos, ◌+ℤ◌, ◌*ℤ◌};
 ghost use Rattle.std.specs.Int.{w64};
 ghost use Rattle.std.proofs.Common.{to_z};

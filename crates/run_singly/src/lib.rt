@@ -1,4 +1,6 @@
 // Samples through 256 coefficients and 256 registers, one by one.
+#![tactic(auto)]
+
 ghost use Rattle.std.specs.Prelude.{◌≡◌, ◌≤◌, min, length, drop};
 ghost use Rattle.std.proofs.lemmas.List.Edits.{sets};
 ghost use Rattle.run_convolution.specs.Running.{next, outputs_of, registers_of};

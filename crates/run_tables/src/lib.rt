@@ -1,5 +1,7 @@
 // The tables of a running call: its coefficients in offset binary, with four zeros before and after
 // them, and the offsets that samples in offset binary leave in the registers.
+#![tactic(auto)]
+
 ghost use Rattle.std.specs.Prelude.{◌≡◌, ℕ, ◌^◌, ◌≤◌, pos, length, get_or, replicate};
 ghost use Rattle.run_tables.specs.Inner.{coefficients_in, Padded, StoredZeroFrom, OffsetsOf};
 

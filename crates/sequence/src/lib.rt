@@ -1,5 +1,7 @@
 // Sums and tables given place by place: definitions in specs/ and their laws in proofs/; and a copy
 // from table to table.
+#![tactic(auto)]
+
 ghost use Rattle.std.specs.Prelude.{◌≡◌, ◌++◌, ◌≤◌, length, take, drop};
 
 // The first n elements, from one table to the other.

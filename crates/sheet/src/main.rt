@@ -1,4 +1,6 @@
 // Prints the sheet of the taps on standard input. Reading and writing are all that is not proved.
+#![tactic(auto)]
+
 use libc::{STDIN_FILENO, STDOUT_FILENO};
 
 fn main() {

@@ -1,4 +1,6 @@
 // What the program reads: F from its argument, and taps from bytes.
+#![tactic(auto)]
+
 mod argument;
 mod taps;
 
@@ -9,7 +11,7 @@ ghost use Rattle.sheet_input.specs.Input.{input_answer, answer_of};
 use refusal::Refusal;
 pub use taps::read_taps;
 
-#[derive(Drop)]
+#[derive(Clone, Copy)]
 pub enum Fraction {
     Bits(u32),
     Refused(Refusal),

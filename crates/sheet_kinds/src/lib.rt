@@ -1,4 +1,6 @@
 // The two kinds of sheet, of a network and of a refusal, written at the start of a lent area.
+#![tactic(auto)]
+
 mod adders;
 
 ghost use Rattle.std.specs.Prelude.{◌+◌, ◌≤◌, length};

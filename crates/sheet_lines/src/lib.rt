@@ -1,4 +1,6 @@
 // The columns of a sheet, written: the header, and what the lines below it share.
+#![tactic(auto)]
+
 ghost use Rattle.std.specs.Prelude.{[], ◌∷◌, ◌++◌, ◌+◌, ◌≤◌, ◌<◌, length};
 ghost use Rattle.text.specs.Numbers.{decimal};
 ghost use Rattle.text.specs.Inner.{Put, number_bytes};

@@ -1,4 +1,6 @@
 // Tap lines.
+#![tactic(auto)]
+
 ghost use Rattle.std.specs.Prelude.{◌+◌, ◌*◌, ◌≤◌, ◌<◌, length};
 ghost use Rattle.network.specs.Rows.{tap_rows_of};
 ghost use Rattle.text.specs.Lines.{lines_from};

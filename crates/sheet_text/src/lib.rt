@@ -1,4 +1,6 @@
 // The sheet of the taps in some bytes.
+#![tactic(auto)]
+
 ghost use Rattle.std.specs.Prelude.{◌≤◌, length};
 ghost use Rattle.build_steps.specs.TapRows.{built};
 ghost use Rattle.text.specs.Inner.{Put};

@@ -1,4 +1,6 @@
 // One binary64 tap rounded to a whole coefficient.
+#![tactic(auto)]
+
 pub mod finite;
 pub mod pattern;
 mod result;
@@ -15,7 +17,7 @@ pub use result::{coefficient, is_refused, leftover};
 
 // What a tap comes back as: N with nothing left over, N with the leftover tap * 2^F - N, or a
 // refusal.
-#[derive(Drop)]
+#[derive(Clone, Copy)]
 pub enum RoundedTap {
     Exact(i32),
     Rounded(i32, f64),

@@ -1,4 +1,6 @@
 // Normalised mode: the sum of the taps, and their quotients by it.
+#![tactic(auto)]
+
 ghost use Rattle.std.specs.Prelude.{◌≡◌, not, ◌++◌, ◌≤◌, length, drop, Float};
 ghost use Rattle.refusal.specs.Answer.{lowest, place_or};
 ghost use Rattle.tap.specs.Rounding.{finite};

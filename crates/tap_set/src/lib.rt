@@ -1,4 +1,6 @@
 // A set of binary64 taps rounded to whole coefficients, as they are or normalised.
+#![tactic(auto)]
+
 ghost use Rattle.std.specs.Prelude.{◌≡◌, true, false, not, ◌≤◌, length, Float};
 ghost use Rattle.refusal.specs.Answer.{refused, refuse_at, lowest, filled};
 ghost use Rattle.tap.specs.Rounding as Tap;
@@ -11,13 +13,13 @@ use refusal::Refusal;
 use tap::RoundedTap;
 
 // The divisor, and the largest leftover by magnitude with its sign.
-#[derive(Drop)]
+#[derive(Clone, Copy)]
 pub struct Report {
     pub divisor: f64,
     pub leftover: f64,
 }
 
-#[derive(Drop)]
+#[derive(Clone, Copy)]
 pub enum RoundedTaps {
     Given(Report),
     Refused(Refusal),

@@ -1,5 +1,7 @@
 // A writer of text into a lent area: each function puts some bytes at index `at`, and answers the index
 // past them.
+#![tactic(auto)]
+
 ghost use Rattle.std.specs.Prelude.{◌≡◌, ◌∷◌, [], ◌++◌, ◌+◌, ◌≤◌, ◌<◌, length};
 ghost use Rattle.text.specs.Numbers.{decimal, integer};
 ghost use Rattle.text.specs.Inner.{Put, PutAll, pair_of, number_bytes, integer_bytes};

@@ -1,5 +1,7 @@
 // How many bytes the text of a network has, counted before any is written. The numbers of rows and taps,
 // which count up from 0, are counted by themselves, and all else beside them.
+#![tactic(auto)]
+
 ghost use Rattle.std.specs.Prelude.{◌≡◌, ◌*◌, ◌-◌, ◌≤◌, length};
 ghost use Rattle.network.specs.Rows.{rows_of, tap_rows_of, network_of, row_table, tap_table};
 ghost use Rattle.text.specs.Numbers.{decimal};

@@ -1,5 +1,7 @@
 // The wires and the assigns of rows, written into an area that may have room for just these bytes: each
 // function puts them at index `at`, and answers the index past them.
+#![tactic(auto)]
+
 ghost use Rattle.std.specs.Prelude.{◌≡◌, ◌+◌, ◌≤◌, ◌<◌, length};
 ghost use Rattle.network.specs.Rows.{rows_of, row_table};
 ghost use Rattle.text.specs.Numbers.{decimal};

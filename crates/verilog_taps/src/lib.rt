@@ -1,5 +1,7 @@
 // The ports and the assigns of taps, written into an area that may have room for just these bytes: each
 // function puts them at index `at`, and answers the index past them.
+#![tactic(auto)]
+
 ghost use Rattle.std.specs.Prelude.{true, false, ◌+◌, ◌≤◌, length};
 ghost use Rattle.network.specs.Rows.{tap_rows_of, tap_table};
 ghost use Rattle.text.specs.Lines.{lines_from, numbered_from};

@@ -1,4 +1,6 @@
 // Writing a network as Verilog text.
+#![tactic(auto)]
+
 ghost use Rattle.std.specs.Prelude.{◌≡◌, ◌+◌, ◌≤◌, length};
 ghost use Rattle.refusal.specs.Answer.{filled};
 ghost use Rattle.network.specs.Rows.{row_table, tap_table};
@@ -11,7 +13,7 @@ use network_check::Checked;
 use refusal::Refusal;
 use text::put;
 
-#[derive(Drop)]
+#[derive(Clone, Copy)]
 pub enum Written {
     Length(usize),
     Refused(Refusal),

@@ -1,4 +1,6 @@
 // Numbers as machine words.
+#![tactic(auto)]
+
 mod casts;
 mod choice;
 
