@@ -1,0 +1,25 @@
+-- `sequence::copy` meets its contract. The invariant of its loop: the first `i` elements of `to` are those of `from`, and the rest are as they were.
+-- The measure is `n - i`. Assumes nothing.
+use borrow.Author.Rules.{rules}
+use mathlib.Core.Path.{◌≡◌, refl, sym, ap, ◌∙◌}
+use mathlib.Core.List.{List, ◌++◌}
+use Prim.Native.Nat.{ℕ, ◌-◌, ◌≤◌}
+use native.Mathlib.Omega.{arith}
+use lib.IntN.{ℤ, pos}
+use lib.ListN.{length, length-set, drop, set, get_or}
+use mir.Syntax.{w32}
+use mir.ValLaws.{to_z-of_z}
+use Rattle.sequence.specs.Inner.{front}
+use Rattle.sequence.proofs.UpTo.{up_to_take}
+use Rattle.sequence.proofs.Front.{front_start, front_next}
+use Rattle.sequence.proofs.copy.Given as goal
+
+-- what stands at each place
+abbrev pub at : List ℤ → ℕ → ℤ
+at from k = get_or from k (pos 0)
+
+abbrev pub invariant-loop-i : goal.invariant-loop-i
+invariant-loop-i l = (l.i ≤ l.n) × (l.to ≡ front (at l.from) l.initial.to l.i) × (length l.to ≡ length l.initial.to)
+
+abbrev pub decreases-loop-i : goal.decreases-loop-i
+decreases-loop-i l = l.n - l.i

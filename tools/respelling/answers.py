@@ -1,0 +1,272 @@
+#!/usr/bin/env python3
+"""Turns the Proof.antt of a crate's functions into Invariants.antt and Answers.antt.
+
+usage: answers.py NAMES CRATE [FUNCTION..]    NAMES: the names.json of rt check --generated DIR --old-names
+
+A place of the older form, reached by '.before', is a step of the one record c. What the check proves alone is left out.
+"""
+import json
+import os
+import re
+import sys
+
+ID = r"[A-Za-zα-ωΑ-Ωκ_◌][\w'₀-₉ℕℤ◌]*(?:-[\w'₀-₉ℕℤ]+)*"
+PATH = re.compile(r"(?<![\w.'-])(" + ID + r")((?:\.(?:" + ID + r"|\d+))+)?")
+
+
+def norm(s):
+    return s.replace("_", "-")
+
+
+class Function:
+    def __init__(self, data):
+        self.parent, self.step, self.new_place = {}, {}, {}
+        for (name, parent, step, *_), new in zip(data["places"], data["places_by_name"]):
+            self.parent[norm(name)] = norm(parent) if parent else None
+            self.step[norm(name)] = step
+            self.new_place[norm(name)] = new
+        self.needs = {}
+        for (old, new), place in zip(data["needs"], data["asked_at"]):
+            self.needs.setdefault(norm(old), (new, norm(place[0])))
+        self.loops = [((norm(a), b), names) for (a, b), names in data["loops"]]
+        self.changed = data["changed"]
+
+    def need(self, old):
+        o = norm(old)
+        for k in (o, re.sub(r"^overflow-", "", o), re.sub(r"^nonzero-", "", o)):
+            if k in self.needs:
+                return self.needs[k]
+        return None
+
+
+class Body:
+    """Rewrites a term: places known by variable."""
+
+    def __init__(self, fn, root, place):
+        self.fn, self.vars, self.root = fn, {root: place}, root
+
+    def path(self, m):
+        head, rest = m.group(1), m.group(2)
+        if head not in self.vars:
+            if head == "tie" and rest:
+                w = rest[1:]
+                if norm(w) in self.fn.new_place:
+                    return "goal." + self.fn.new_place[norm(w)]
+            return m.group(0)
+        place = self.vars[head]
+        base = "c" if not isinstance(place, tuple) else head
+        fields = rest.split(".")[1:] if rest else []
+        if isinstance(place, tuple):
+            place = place[0]
+        while fields and fields[0] == "before":
+            place = self.fn.parent.get(place)
+            fields = fields[1:]
+            if place is None:
+                return m.group(0) + "{-before-}"
+        self.last = place
+        if fields:
+            old, new = self.fn.step.get(place, ("", ""))
+            if old and norm(fields[0]) == norm(old):
+                fields[0] = new
+            elif place != "Start":
+                # a step that the place itself has not: search the steps of this name
+                for p, (o, n) in self.fn.step.items():
+                    if o and norm(o) == norm(fields[0]):
+                        fields[0] = n
+                        break
+        return ".".join([base] + fields)
+
+    def run(self, text):
+        out, i = [], 0
+        let = re.compile(r"let\s+(" + ID + r")\s*=\s*(" + ID + r")((?:\.before)*)\s+in\b[ \t]*\n?[ \t]*")
+        while True:
+            m = let.search(text, i)
+            if not m:
+                out.append(PATH.sub(self.path, text[i:]))
+                return "".join(out)
+            out.append(PATH.sub(self.path, text[i:m.start()]))
+            name, head, befores = m.groups()
+            if head in self.vars:
+                place = self.vars[head]
+                tup = isinstance(place, tuple)
+                p = place[0] if tup else place
+                for _ in range(befores.count(".before")):
+                    p = self.fn.parent.get(p)
+                self.vars[name] = (p, 1) if tup else p
+                if tup:
+                    out.append(f"let {name} = {head} in ")
+            else:
+                out.append(m.group(0))
+            i = m.end()
+
+
+def blocks(text):
+    items, cur, open_ = [], [], False
+    for line in text.split("\n"):
+        starts = line and not line[0].isspace()
+        if starts and (line.startswith("--") or not open_continues(cur, line)):
+            if cur and not all(l.startswith("--") for l in cur if l):
+                items.append("\n".join(cur).rstrip())
+                cur = []
+        cur.append(line)
+    if cur:
+        items.append("\n".join(cur).rstrip())
+    return [i for i in items if i.strip()]
+
+
+def open_continues(cur, line):
+    """Whether the line goes on with the declaration in cur: the equation or the unfolding line of the name that cur declares."""
+    names = [m.group(1) for l in cur for m in [re.match(r"(?:abbrev |unfoldable |pub |private )*(" + ID + r")\s*(?:\s.*)?:", l)] if m]
+    if line.startswith("unfolding "):
+        return True
+    word = line.split(" ")[0]
+    return bool(names) and word == names[-1]
+
+
+def convert(text, fn, crate, module):
+    items = blocks(text)
+    head, uses, rest = [], [], []
+    for it in items:
+        lines = it.split("\n")
+        k = 0
+        while k < len(lines) and lines[k].startswith("--"):
+            k += 1
+        if not rest and k < len(lines) and lines[k].startswith("use "):
+            if not uses:
+                head = lines[:k]
+            uses += lines[k:]
+        elif not rest and k == len(lines):
+            head = lines
+        else:
+            rest.append(it)
+    uses = [u for u in uses if u.strip()]
+    drop = re.compile(r"use Rattle\." + re.escape(module) + r"\.(Statement|Tie)\b")
+    uses = [u for u in uses if not drop.match(u)]
+    inv, helpers, ans, missing = [], [], [], []
+    for it in rest:
+        m = re.search(r"^(?:abbrev )?(?:pub )?(" + ID + r")\s*:\s*tie\.(invariant|decreases)[-_](" + ID + r")", it, re.M)
+        if m:
+            inv.append((m.group(1), m.group(2), m.group(3), it))
+            continue
+        m = re.search(r"^(?:pub )?(" + ID + r")\s*:\s*((?:\{[^}]*\}|\([^)]*\))?\s*(?:→\s*)?)tie\.Need-(" + ID + r")", it, re.M)
+        if m:
+            ans.append((m.group(1), m.group(3), it))
+            continue
+        if "tie.close" in it:
+            continue
+        helpers.append(it)
+    out_inv = []
+    loopmap = {}
+    for name, kind, loop, it in inv:
+        k = next((i for i, ((o, n), _) in enumerate(fn.loops) if norm(o) == norm(loop)), None)
+        comment = [l for l in it.split("\n") if l.startswith("--")]
+        eq = re.search(r"^" + re.escape(name) + r"((?:[ \t]+(?!:)[^=\s]+)*)[ \t]*=(.*)", it, re.M | re.S)
+        if k is None or not eq:
+            missing.append(f"{kind} {loop}")
+            continue
+        (o, n), names = fn.loops[k]
+        changed = fn.changed[k]
+        params = eq.group(1).split()
+        targets = [(f"l.initial.{v}" if ch else f"l.{v}") for v, ch in zip(names, changed)]
+        targets += [f"l.{v}" for v, ch in zip(names, changed) if ch]
+        sub = dict(zip(params, targets)) if len(params) == len(targets) else None
+        body = eq.group(2)
+        if sub is None:
+            missing.append(f"{kind} {loop}: {params} for {targets}")
+            sub = {}
+        body = re.sub(r"(?<![\w.'-])(" + ID + r")(?![\w'])", lambda m: sub.get(m.group(1), m.group(1)), body)
+        new = f"{kind}-{n}"
+        loopmap[name] = new
+        unf = [l for l in it.split("\n") if l.startswith("unfolding ")]
+        out_inv.append("\n".join(comment + [f"abbrev pub {new} : goal.{new}"] + unf + [f"{new} l ={body}"]))
+    out_ans = []
+    for name, old, it in ans:
+        got = fn.need(old)
+        eq = re.search(r"^" + re.escape(name) + r"((?:[ \t]+(?!:)[^=\s]+)*)[ \t]*=(.*)", it, re.M | re.S)
+        if not eq:
+            missing.append(f"answer {old}: no equation")
+            continue
+        params, body = eq.group(1).split(), eq.group(2)
+        if body.strip() == "search rules":
+            continue
+        if got is None:
+            missing.append(f"answer {old}")
+            out_ans.append(f"-- LEFT {old}\n" + "\n".join("-- " + l for l in it.split("\n")))
+            continue
+        new, place = got
+        root = "c" if "c" in params else (params[-1] if params else "c")
+        comment = [l for l in it.split("\n") if l.startswith("--")]
+        unf = [l for l in it.split("\n") if l.startswith("unfolding ")]
+        b = Body(fn, root, place).run(body)
+        args = " ".join(p if p != root else "c" for p in params if p != "κs") or "c"
+        out_ans.append("\n".join(comment + [f"pub {new} : goal.{new}"] + unf + [f"{new} {args} ={b}"]))
+    out_help = []
+    for h in helpers:
+        roots = {}
+        for m in re.finditer(r"\((" + ID + r")\s*:\s*tie\.(" + ID + r")\)", h):
+            roots[m.group(1)] = (norm(m.group(2)), 1)
+        # equations name their own parameters
+        b = Body(fn, "\0", "Start")
+        b.vars.update(roots)
+        m = re.search(r":\s*(?:[^\n]*?)tie\.", h)
+        if m and not roots:
+            types = re.findall(r"tie\.(" + ID + r")", h.split("\n")[0])
+            nm = re.match(r"(?:abbrev |unfoldable |pub )*(" + ID + r")", h.split("\n")[0])
+            eq = re.search(r"^" + re.escape(nm.group(1)) + r"((?:\s+[^=\s]+)*)\s*=", h, re.M) if nm else None
+            if eq and len(types) == 1:
+                for p in eq.group(1).split()[:1]:
+                    b.vars[p] = (norm(types[0]), 1)
+        out_help.append(b.run(h))
+    return head, uses, out_inv, out_help, out_ans, missing
+
+
+def main():
+    names = json.load(open(sys.argv[1]))
+    crate = sys.argv[2]
+    only = set(sys.argv[3:])
+    top = f"crates/{crate}/proofs"
+    for folder, _, fs in sorted(os.walk(top)):
+        if "Proof.antt" not in fs:
+            continue
+        rel = os.path.relpath(folder, top).replace(os.sep, ".")
+        if only and rel not in only and rel.split(".")[-1] not in only:
+            continue
+        key = next((k for k in names if k == f"Rattle-{crate}-proofs.{rel}.Lts"), None)
+        if key is None:
+            print(f"left: {crate} {rel}: no names")
+            continue
+        fn = Function(names[key])
+        text = open(f"{folder}/Proof.antt").read()
+        module = f"{crate}.proofs.{rel}"
+        head, uses, inv, helpers, ans, missing = convert(text, fn, crate, module)
+        goal = f"use Rattle.{module}"
+        if inv:
+            invtext = "\n\n".join(inv)
+            mine = [h for h in helpers if (m := re.search(r"^(?:abbrev |unfoldable |pub )*(" + ID + r")", re.sub(r"^--.*\n", "", h, flags=re.M))) and re.search(r"(?<![\w.'-])" + re.escape(m.group(1)) + r"(?![\w'-])", invtext)]
+            helpers_left = [h for h in helpers if h not in mine]
+            pubs = []
+            for h in mine:
+                h = re.sub(r"^(abbrev |unfoldable )?(?!--|pub|abbrev|unfoldable|unfolding)(" + ID + r")(\s*:|\s)", lambda m: m.group(0), h)
+                lines = h.split("\n")
+                for i, l in enumerate(lines):
+                    if l.startswith("--") or l.startswith("unfolding"):
+                        continue
+                    if "pub " not in l:
+                        lines[i] = re.sub(r"^(abbrev |unfoldable )?", lambda m: (m.group(1) or "") + "pub ", l, count=1)
+                    break
+                pubs.append("\n".join(lines))
+            got = [re.search(r"^(?:abbrev |unfoldable )?pub (" + ID + r")", h, re.M).group(1) for h in pubs]
+            with open(f"{folder}/Invariants.antt", "w") as f:
+                f.write("\n".join(head + uses + [f"{goal}.Given as goal"]) + "\n\n" + "\n\n".join(pubs + inv) + "\n")
+            helpers = helpers_left
+            if got:
+                uses = uses + [f"use Rattle.{module}.Invariants.{{{', '.join(got)}}}"]
+        if ans or helpers:
+            with open(f"{folder}/Answers.antt", "w") as f:
+                f.write("\n".join(head + uses + [f"{goal}.Goals as goal"]) + "\n\n" + "\n\n".join(helpers + ans) + "\n")
+        os.rename(f"{folder}/Proof.antt", f"/tmp/w/old-{crate}-{rel}.antt")
+        for m in missing:
+            print(f"left: {crate} {rel}: {m}")
+
+
+main()
