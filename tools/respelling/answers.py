@@ -25,6 +25,8 @@ class Function:
             self.parent[norm(name)] = norm(parent) if parent else None
             self.step[norm(name)] = step
             self.new_place[norm(name)] = new
+        self.used = set()
+        self.arms = {norm(p[0]): a for p, a in zip(data["places"], data["arms"])}
         self.needs = {}
         for (old, new), place in zip(data["needs"], data["asked_at"]):
             self.needs.setdefault(norm(old), (new, norm(place[0])))
@@ -33,9 +35,27 @@ class Function:
 
     def need(self, old):
         o = norm(old)
-        for k in (o, re.sub(r"^overflow-", "", o), re.sub(r"^nonzero-", "", o)):
+        for k in (o, re.sub(r"^overflow-", "", o), re.sub(r"^nonzero-", "", o), re.sub(r"^slice-bounds-", "part-", o)):
             if k in self.needs:
                 return self.needs[k]
+        for new, place in self.needs.values():
+            if norm(new) == o:
+                return new, place
+        return None
+
+    def arm(self, root, step, fields):
+        """What an arm's record has for the fields of an older step: its label, the field and how many fields it stands for."""
+        place, best = root, None
+        while place:
+            a = self.arms.get(place)
+            if a:
+                for new, old, path in a[2]:
+                    if norm(old) == norm(step) and [norm(x) for x in fields[: len(path)]] == [norm(x) for x in path]:
+                        if best is None or len(path) > best[2]:
+                            best = (a[0], new, len(path))
+                if best:
+                    return best
+            place = self.parent.get(place)
         return None
 
 
@@ -43,7 +63,7 @@ class Body:
     """Rewrites a term: places known by variable."""
 
     def __init__(self, fn, root, place):
-        self.fn, self.vars, self.root = fn, {root: place}, root
+        self.fn, self.vars, self.root, self.depth = fn, {root: place}, root, {root: 0}
 
     def path(self, m):
         head, rest = m.group(1), m.group(2)
@@ -51,21 +71,33 @@ class Body:
             if head == "tie" and rest:
                 w = rest[1:]
                 if norm(w) in self.fn.new_place:
-                    return "goal." + self.fn.new_place[norm(w)]
+                    self.fn.used.add(self.fn.new_place[norm(w)])
+                    return self.fn.new_place[norm(w)]
             return m.group(0)
         place = self.vars[head]
         base = "c" if not isinstance(place, tuple) else head
         fields = rest.split(".")[1:] if rest else []
         if isinstance(place, tuple):
             place = place[0]
+        steps = self.depth.get(head, 0)
         while fields and fields[0] == "before":
             place = self.fn.parent.get(place)
             fields = fields[1:]
+            steps += 1
             if place is None:
                 return m.group(0) + "{-before-}"
-        self.last = place
+        if not fields:
+            return ".".join([base] + ["before"] * steps)
+        fields = [{"type-inv": "type_inv", "well-formed": "well_formed"}.get(x, x) for x in fields]
+        root = self.vars[self.root] if self.root in self.vars else place
+        if fields and fields[0].endswith("_lem"):
+            fields[0] = fields[0][:-4]
         if fields:
             old, new = self.fn.step.get(place, ("", ""))
+            if old and norm(fields[0]) == norm(old):
+                got = self.fn.arm(root if not isinstance(root, tuple) else root[0], old, fields[1:])
+                if got:
+                    return ".".join([base, got[0], got[1]] + fields[1 + got[2] :])
             if old and norm(fields[0]) == norm(old):
                 fields[0] = new
             elif place != "Start":
@@ -93,8 +125,10 @@ class Body:
                 for _ in range(befores.count(".before")):
                     p = self.fn.parent.get(p)
                 self.vars[name] = (p, 1) if tup else p
+                self.depth[name] = self.depth.get(head, 0) + befores.count(".before")
                 if tup:
-                    out.append(f"let {name} = {head} in ")
+                    self.depth[name] = 0
+                    out.append(f"let {name} = {head}{befores} in ")
             else:
                 out.append(m.group(0))
             i = m.end()
@@ -117,7 +151,7 @@ def blocks(text):
 def open_continues(cur, line):
     """Whether the line goes on with the declaration in cur: the equation or the unfolding line of the name that cur declares."""
     names = [m.group(1) for l in cur for m in [re.match(r"(?:abbrev |unfoldable |pub |private )*(" + ID + r")\s*(?:\s.*)?:", l)] if m]
-    if line.startswith("unfolding "):
+    if line.startswith("unfolding ") or line[0] in ")}]":
         return True
     word = line.split(" ")[0]
     return bool(names) and word == names[-1]
@@ -220,6 +254,11 @@ def convert(text, fn, crate, module):
     return head, uses, out_inv, out_help, out_ans, missing
 
 
+def words(text):
+    text = text.replace(".type-inv", ".type_inv").replace(".well-formed", ".well_formed")
+    return re.sub(r"(\.wrapping_\w+(?:-[\w]+)*\.ensures)(?![\w.])", r"\1.value", text)
+
+
 def main():
     names = json.load(open(sys.argv[1]))
     crate = sys.argv[2]
@@ -232,6 +271,8 @@ def main():
         if only and rel not in only and rel.split(".")[-1] not in only:
             continue
         key = next((k for k in names if k == f"Rattle-{crate}-proofs.{rel}.Lts"), None)
+        if rel.split(".")[-1].startswith("+"):
+            key = None
         if key is None:
             print(f"left: {crate} {rel}: no names")
             continue
@@ -240,6 +281,7 @@ def main():
         module = f"{crate}.proofs.{rel}"
         head, uses, inv, helpers, ans, missing = convert(text, fn, crate, module)
         goal = f"use Rattle.{module}"
+        places = f".{{{', '.join(sorted(fn.used))}}}" if fn.used else ""
         if inv:
             invtext = "\n\n".join(inv)
             mine = [h for h in helpers if (m := re.search(r"^(?:abbrev |unfoldable |pub )*(" + ID + r")", re.sub(r"^--.*\n", "", h, flags=re.M))) and re.search(r"(?<![\w.'-])" + re.escape(m.group(1)) + r"(?![\w'-])", invtext)]
@@ -263,7 +305,7 @@ def main():
                 uses = uses + [f"use Rattle.{module}.Invariants.{{{', '.join(got)}}}"]
         if ans or helpers:
             with open(f"{folder}/Answers.antt", "w") as f:
-                f.write("\n".join(head + uses + [f"{goal}.Goals as goal"]) + "\n\n" + "\n\n".join(helpers + ans) + "\n")
+                f.write("\n".join(head + uses + ([f"{goal}.Goals{places}"] if places else []) + [f"{goal}.Goals as goal"]) + "\n\n" + "\n\n".join([words(x) for x in helpers + ans]) + "\n")
         os.rename(f"{folder}/Proof.antt", f"/tmp/w/old-{crate}-{rel}.antt")
         for m in missing:
             print(f"left: {crate} {rel}: {m}")

@@ -7,9 +7,10 @@ use lib.Bits.{bit_xor}
 use Rattle.signed_digit.specs.Masks.{plus_mask, minus_mask}
 use Rattle.signed_digit.specs.CanonicalForm.{canonical_nat}
 use Rattle.form_masks.proofs.CanonicalMasks.{Masks, canonical_masks}
+use Rattle.form_masks.proofs.canonical_of.Goals.{Start}
 use Rattle.form_masks.proofs.canonical_of.Goals as goal
 
-masks : (c : goal.Start) → Masks 32 c.args.m (bit_xor (3 * c.args.m) c.args.m / 2) (plus_mask (canonical_nat 32 c.args.m)) (minus_mask (canonical_nat 32 c.args.m))
+masks : (c : Start) → Masks 32 c.args.m (bit_xor (3 * c.args.m) c.args.m / 2) (plus_mask (canonical_nat 32 c.args.m)) (minus_mask (canonical_nat 32 c.args.m))
 masks c = canonical_masks 32 c.args.m (omega (arith, c.requires))
 
 pub returns : goal.returns

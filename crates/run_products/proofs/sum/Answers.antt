@@ -9,8 +9,8 @@ pub returns : goal.returns
 returns c =
     let product = c.product in
     let z = c.args.c *ℤ c.args.x in
-    let p : c.pattern_64.result ≡ of_z w64 product.result = c.pattern_64.ensures ∙ ap (of_z w64) (to_z-of_z w64 product.result (record { sfits = product.type-inv })) in
+    let p : c.pattern_64.result ≡ of_z w64 product.result = c.pattern_64.ensures ∙ ap (of_z w64) (to_z-of_z w64 product.result (record { sfits = product.type_inv })) in
     let q : product.result ≡ z =
     simp (to_z-of_z w32 c.args.c c.ranges.c, to_z-of_z w16 c.args.x c.ranges.x) at product.ensures in
-    c.wrapping_add_u64.ensures ∙ ap (λ n. (c.args.register + n) % 2 ^ 64) (p ∙ ap (of_z w64) q)
+    c.wrapping_add_u64.ensures.value ∙ ap (λ n. (c.args.register + n) % 2 ^ 64) (p ∙ ap (of_z w64) q)
     ∙ wrapped_sum c.args.register z (omega arith) (product_fits c.args.c c.args.x c.ranges.c c.ranges.x)

@@ -5,8 +5,6 @@ use lib.Ieee.{of_bits}
 use Rattle.tap.proofs.Even.{rounded_by}
 use Rattle.tap.proofs.nearest_even.Goals as goal
 
-}) refl
-
 pub returns : goal.returns
 unfolding of_bits
 returns c = rounded_by c.args.x _ _ c.requires (record {
@@ -15,3 +13,4 @@ returns c = rounded_by c.args.x _ _ c.requires (record {
   positive = refl;
   whole = refl;
   even = refl;
+}) refl

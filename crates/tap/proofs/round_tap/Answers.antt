@@ -14,26 +14,27 @@ use Rattle.tap.specs.Inner.{nearest_of, rounds_within_of, parted}
 use Rattle.tap.proofs.Value.{two_to}
 use Rattle.tap.proofs.Even.{rounds_i32}
 use Rattle.tap.proofs.Answer.{refused_bits, refused_tap, refused_size, accepted}
+use Rattle.tap.proofs.round_tap.Goals.{After-rounds_within, Start}
 use Rattle.tap.proofs.round_tap.Goals as goal
 
-held : (s : goal.Start) → T (fits binary64 s.args.tap)
-held s = subst T (sym s.well-formed.0.1) tt
+held : (s : Start) → T (fits binary64 s.args.tap)
+held s = subst T (sym s.well_formed.0.1) tt
 
 -- tap × 2^F, as the laws have it, and its test
-abbrev product : goal.Start → Float
+abbrev product : Start → Float
 product s = mul binary64 s.args.tap (two_to s.args.fraction_bits)
 
-tested : (c : goal.After-rounds_within) (b : Bool) → c.rounds_within.result ≡ b → rounds_within_of c.scaled-x.result ≡ b
+tested : (c : After-rounds_within) (b : Bool) → c.rounds_within.result ≡ b → rounds_within_of c.scaled-x.result ≡ b
 tested c b h = sym c.rounds_within.ensures ∙ h
 
-tested_product : (c : goal.After-rounds_within) (b : Bool) → c.rounds_within.result ≡ b → rounds_within_of (product c) ≡ b
+tested_product : (c : After-rounds_within) (b : Bool) → c.rounds_within.result ≡ b → rounds_within_of (product c.before.before.before) ≡ b
 tested_product c b h = ap rounds_within_of (sym c.scaled-x.ensures) ∙ tested c b h
 
 pub returns-then-fraction_bits-gt31 : goal.returns-then-fraction_bits-gt31
 returns-then-fraction_bits-gt31 c = record { answer = refused_bits c.args.fraction_bits c.args.tap c.if-fraction_bits-gt31.true }
 
 pub nearest-requires : goal.nearest-requires
-nearest-requires c = tested c true c.if-rounds_within.true
+nearest-requires c = tested c.before true c.if-rounds_within.true
 
 pub returns-then-rounds_within : goal.returns-then-rounds_within
 returns-then-rounds_within c =
@@ -41,17 +42,17 @@ returns-then-rounds_within c =
     record {
       answer = c.part.ensures
           ∙ ap (λ (z : ℤ). given (parted x (to_z w32 (of_z w32 z)))) c.nearest.ensures
-          ∙ ap (λ (z : ℤ). given (parted x z)) (to_z-of_z w32 (nearest_of x) (rounds_i32 x (tested c true c.if-rounds_within.true)))
+          ∙ ap (λ (z : ℤ). given (parted x z)) (to_z-of_z w32 (nearest_of x) (rounds_i32 x (tested c.before.before.before true c.if-rounds_within.true)))
           ∙ ap (λ (y : Float). given (parted y (nearest_of y))) c.scaled-x.ensures
-          ∙ accepted c.args.fraction_bits c.args.tap (held c) c.if-fraction_bits-gt31.false (tested_product c true c.if-rounds_within.true);
+          ∙ accepted c.args.fraction_bits c.args.tap (held c.before.before.before.before.before.before) c.if-fraction_bits-gt31.false (tested_product c.before.before.before true c.if-rounds_within.true);
     }
 
 pub returns-then-is_finite : goal.returns-then-is_finite
 returns-then-is_finite c =
     record {
-      answer = refused_size c.args.fraction_bits c.args.tap (held c) c.if-fraction_bits-gt31.false (sym c.is_finite_lem.ensures ∙ c.if-is_finite.true) (tested_product c false c.if-rounds_within.false);
+      answer = refused_size c.args.fraction_bits c.args.tap (held c.before.before.before.before.before.before) c.if-fraction_bits-gt31.false (sym c.is_finite.ensures ∙ c.if-is_finite.true) (tested_product c.before.before.before false c.if-rounds_within.false);
     }
 
 pub returns-else-is_finite : goal.returns-else-is_finite
 returns-else-is_finite c =
-    record { answer = refused_tap c.args.fraction_bits c.args.tap c.if-fraction_bits-gt31.false (sym c.is_finite_lem.ensures ∙ c.if-is_finite.false) }
+    record { answer = refused_tap c.args.fraction_bits c.args.tap c.if-fraction_bits-gt31.false (sym c.is_finite.ensures ∙ c.if-is_finite.false) }

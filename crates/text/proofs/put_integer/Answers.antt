@@ -18,7 +18,7 @@ returns-then-n-lt0 c =
     let magnitude = c.magnitude-size in
     let args = c.args in
     let e = negative args.n (low w32 w32 args.n c.ranges.n (lit≤ tt) c.if-n-lt0.true) in
-    rw e (subst (λ k. Put args.out.now args.at (45 ∷ decimal k) integer_bytes c.put_number.new.0 c.put_number.result) (magnitude.ensures ∙ ap nat_abs (to_z-of_z w32 args.n c.ranges.n))
+    rw e (subst (λ k. Put args.out.now args.at (45 ∷ decimal k) integer_bytes c.put_number.new.out c.put_number.result) (magnitude.ensures ∙ ap nat_abs (to_z-of_z w32 args.n c.ranges.n))
     (then c.put_byte-a.ensures c.put_number.ensures))
 
 pub returns : goal.returns
@@ -26,5 +26,5 @@ returns c =
     let magnitude = c.magnitude-size in
     let args = c.args in
     let e = not_negative args.n (high w32 w32 args.n c.ranges.n (lit≤ tt) c.if-n-lt0.false) in
-    rw e (subst (λ k. Put args.out.now args.at (decimal k) integer_bytes c.put_number-2.new.0 c.put_number-2.result) (magnitude.ensures ∙ ap nat_abs (to_z-of_z w32 args.n c.ranges.n))
+    rw e (subst (λ k. Put args.out.now args.at (decimal k) integer_bytes c.put_number-2.new.out c.put_number-2.result) (magnitude.ensures ∙ ap nat_abs (to_z-of_z w32 args.n c.ranges.n))
     (widen (lit≤ tt) c.put_number-2.ensures))

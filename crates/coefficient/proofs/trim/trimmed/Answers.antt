@@ -14,22 +14,18 @@ pub slice_bounds-result-count : goal.slice_bounds-result-count
 slice_bounds-result-count c =
     let t = trimmed_is c.args.h.now in omega (arith, t.in_order)
 
--- LEFT slice-bounds-result-start
--- part-result-start : tie.Need-slice-bounds-result-start
--- part-result-start c =
---     let at_start = c.before.before in
---     let t = trimmed_is at_start.args.h.now in omega (arith, t.in_order)
+pub slice_bounds-result-start : goal.slice_bounds-result-start
+slice_bounds-result-start c =
+    let t = trimmed_is c.args.h.now in omega (arith, t.in_order)
 
--- LEFT slice-bounds-result-end
--- part-result-end : tie.Need-slice-bounds-result-end
--- part-result-end c =
---     let at_start = c.before.before in
---     let t = trimmed_is at_start.args.h.now in omega (arith, t.within)
+pub slice_bounds-result-end : goal.slice_bounds-result-end
+slice_bounds-result-end c =
+    let t = trimmed_is c.args.h.now in omega (arith, t.within)
 
 pub returns : goal.returns
 returns c =
     let s = c.args.h in
     record {
       contents = ap₂ (stretch s.now) c.first_nonzero-start.ensures.first c.end_of_nonzero-end.ensures.past_last;
-      place = ap (further s.ptr) c.first_nonzero-start.ensures.first;
+      place = ap (further s.ref_ptr) c.first_nonzero-start.ensures.first;
     }

@@ -13,5 +13,5 @@ signed-requires c =
 pub returns : goal.returns
 returns c =
     let args = c.args in
-    to_z-of_z w32 c.signed.result (record { sfits = c.signed.type-inv }) ∙ c.signed.ensures
+    to_z-of_z w32 c.signed.result (record { sfits = c.signed.type_inv }) ∙ c.signed.ensures
     ∙ signed_word args.sign args.p c.choose_wide.result c.requires.0 c.choose_wide.ensures c.requires.1

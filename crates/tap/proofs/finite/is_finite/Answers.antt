@@ -12,4 +12,4 @@ pub float_to_bits-bits : goal.float_to_bits-bits
 float_to_bits-bits c = not_nan _ c.if-x.false
 
 pub returns : goal.returns
-returns c = bits_finite c.args.x (subst T (sym c.well-formed.0.1) tt)
+returns c = bits_finite c.args.x (subst T (sym c.well_formed.0.1) tt)

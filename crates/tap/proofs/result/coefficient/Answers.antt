@@ -14,12 +14,12 @@ whole t = whole_in (answer_of t)
 
 pub returns-in-Exact : goal.returns-in-Exact
 unfolding whole
-returns-in-Exact c = to_z-of_z w32 c.tap-1.given.0.0 (record { sfits = c.known_told-1.given.0.1 }) ∙ ap whole (sym c.tap-1.given.1)
+returns-in-Exact c = to_z-of_z w32 c.in-Exact.n (record { sfits = c.in-Exact.known_told-1-own.given.0.1 }) ∙ ap whole (sym c.in-Exact.is)
 
 pub returns-in-Rounded : goal.returns-in-Rounded
 unfolding whole
-returns-in-Rounded c = to_z-of_z w32 c.tap-in-Rounded-1.given.0.0 (record { sfits = c.known_told-in-Rounded-1.given.0.1 }) ∙ ap whole (sym c.tap-in-Rounded-1.given.1)
+returns-in-Rounded c = to_z-of_z w32 c.in-Rounded.n (record { sfits = c.in-Rounded.known_told-in-Rounded-1-own.given.0.1 }) ∙ ap whole (sym c.in-Rounded.is)
 
 pub returns-in-Refused : goal.returns-in-Refused
 unfolding whole
-returns-in-Refused c = ap whole (sym c.enum_told-1.given.1)
+returns-in-Refused c = ap whole (sym c.in-Refused.is)

@@ -13,8 +13,8 @@ left t = left_in (answer_of t)
 
 pub returns-in-Exact : goal.returns-in-Exact
 unfolding left
-returns-in-Exact c = zero_is ∙ ap left (sym c.enum_told-1.given.1)
+returns-in-Exact c = zero_is ∙ ap left (sym c.in-Exact.is)
 
 pub returns-in-Refused : goal.returns-in-Refused
 unfolding left
-returns-in-Refused c = zero_is ∙ ap left (sym c.enum_told-in-Refused-1.given.1)
+returns-in-Refused c = zero_is ∙ ap left (sym c.in-Refused.is)
