@@ -26,12 +26,17 @@ class Function:
             self.step[norm(name)] = step
             self.new_place[norm(name)] = new
         self.used = set()
+        self.typed = {norm(p[0]): t for p, t in zip(data["places"], data["typed"])}
         self.arms = {norm(p[0]): a for p, a in zip(data["places"], data["arms"])}
         self.needs = {}
         for (old, new), place in zip(data["needs"], data["asked_at"]):
             self.needs.setdefault(norm(old), (new, norm(place[0])))
         self.loops = [((norm(a), b), names) for (a, b), names in data["loops"]]
         self.changed = data["changed"]
+
+    def viewed(self, place):
+        """Whether the place is seen by a view, which has what types say of its variables."""
+        return bool(self.typed.get(place)) or bool(self.arms.get(place))
 
     def need(self, old):
         o = norm(old)
@@ -62,7 +67,8 @@ class Function:
 class Body:
     """Rewrites a term: places known by variable."""
 
-    def __init__(self, fn, root, place):
+    def __init__(self, fn, root, place, goal=None):
+        self.goal = goal
         self.fn, self.vars, self.root, self.depth = fn, {root: place}, root, {root: 0}
 
     def path(self, m):
@@ -75,18 +81,18 @@ class Body:
                     return self.fn.new_place[norm(w)]
             return m.group(0)
         place = self.vars[head]
-        base = "c" if not isinstance(place, tuple) else head
+        base = "c" if not isinstance(place, tuple) else place[1]
         fields = rest.split(".")[1:] if rest else []
         if isinstance(place, tuple):
             place = place[0]
         steps = self.depth.get(head, 0)
         while fields and fields[0] == "before":
-            place = self.fn.parent.get(place)
+            place = self.fn.parent.get(place) or "Start"
             fields = fields[1:]
             steps += 1
-            if place is None:
-                return m.group(0) + "{-before-}"
         if not fields:
+            if steps and self.goal and self.fn.viewed(place):
+                return f"(goal.at-{self.goal} {base}).{self.fn.new_place[place]}"
             return ".".join([base] + ["before"] * steps)
         fields = [{"type-inv": "type_inv", "well-formed": "well_formed"}.get(x, x) for x in fields]
         root = self.vars[self.root] if self.root in self.vars else place
@@ -123,12 +129,9 @@ class Body:
                 tup = isinstance(place, tuple)
                 p = place[0] if tup else place
                 for _ in range(befores.count(".before")):
-                    p = self.fn.parent.get(p)
-                self.vars[name] = (p, 1) if tup else p
+                    p = self.fn.parent.get(p) or "Start"
+                self.vars[name] = (p, place[1]) if tup else p
                 self.depth[name] = self.depth.get(head, 0) + befores.count(".before")
-                if tup:
-                    self.depth[name] = 0
-                    out.append(f"let {name} = {head}{befores} in ")
             else:
                 out.append(m.group(0))
             i = m.end()
@@ -231,17 +234,18 @@ def convert(text, fn, crate, module):
         root = "c" if "c" in params else (params[-1] if params else "c")
         comment = [l for l in it.split("\n") if l.startswith("--")]
         unf = [l for l in it.split("\n") if l.startswith("unfolding ")]
-        b = Body(fn, root, place).run(body)
+        b = Body(fn, root, place, new).run(body)
         args = " ".join(p if p != root else "c" for p in params if p != "κs") or "c"
         out_ans.append("\n".join(comment + [f"pub {new} : goal.{new}"] + unf + [f"{new} {args} ={b}"]))
     out_help = []
     for h in helpers:
         roots = {}
         for m in re.finditer(r"\((" + ID + r")\s*:\s*tie\.(" + ID + r")\)", h):
-            roots[m.group(1)] = (norm(m.group(2)), 1)
+            roots[m.group(1)] = (norm(m.group(2)), m.group(1))
         # equations name their own parameters
         b = Body(fn, "\0", "Start")
         b.vars.update(roots)
+        h = re.sub(r"(tie\." + ID + r")((?: (?:invariant|decreases)[-_]" + ID + r")+)", r"\1", h)
         m = re.search(r":\s*(?:[^\n]*?)tie\.", h)
         if m and not roots:
             types = re.findall(r"tie\.(" + ID + r")", h.split("\n")[0])
@@ -249,7 +253,7 @@ def convert(text, fn, crate, module):
             eq = re.search(r"^" + re.escape(nm.group(1)) + r"((?:\s+[^=\s]+)*)\s*=", h, re.M) if nm else None
             if eq and len(types) == 1:
                 for p in eq.group(1).split()[:1]:
-                    b.vars[p] = (norm(types[0]), 1)
+                    b.vars[p] = (norm(types[0]), p)
         out_help.append(b.run(h))
     return head, uses, out_inv, out_help, out_ans, missing
 
@@ -285,6 +289,19 @@ def main():
         if inv:
             invtext = "\n\n".join(inv)
             mine = [h for h in helpers if (m := re.search(r"^(?:abbrev |unfoldable |pub )*(" + ID + r")", re.sub(r"^--.*\n", "", h, flags=re.M))) and re.search(r"(?<![\w.'-])" + re.escape(m.group(1)) + r"(?![\w'-])", invtext)]
+            def name_of(h):
+                m = re.search(r"^(?:abbrev |unfoldable |pub )*(" + ID + r")", re.sub(r"^--.*\n", "", h, flags=re.M))
+                return m.group(1) if m else None
+
+            more = True
+            while more:
+                more = False
+                for h in helpers:
+                    n = name_of(h)
+                    if h not in mine and n and any(re.search(r"(?<![\w.'-])" + re.escape(n) + r"(?![\w'-])", x) for x in mine):
+                        mine.append(h)
+                        more = True
+            mine = [h for h in helpers if h in mine]
             helpers_left = [h for h in helpers if h not in mine]
             pubs = []
             for h in mine:

@@ -18,30 +18,23 @@ use mir.ValLaws.{to_z-of_z}
 use mathlib.Core.Path.{◌≡◌, sym, ap, ◌∙◌}
 use native.Mathlib.Omega.{arith}
 use borrow.Author.Rules.{rules}
-use Rattle.network_rules.proofs.tap_row_rule.tap_product.Goals.{After-is_product, After-read_tap_row-tap, Start}
+use Rattle.network_rules.proofs.tap_row_rule.tap_product.Goals.{After-is_product}
 use Rattle.network_rules.proofs.tap_row_rule.tap_product.Goals as goal
 
--- before the product was tested
-abbrev read : After-is_product → After-read_tap_row-tap
-read c = c.before.before.before.before.before.before.before.before
-
-abbrev start : After-is_product → Start
-start c = (read c).before.before.before
-
 -- what the test told
-told : (c : After-is_product) → product_if c.is_product.result (with_sign (read c).read-tap-row.result.sign (pos c.lift-p.result))
-    ≡ product_of (rows_of (start c).args.rows.now (start c).args.n) (tap_row_at (start c).args.taps.now (start c).args.j)
+told : (c : After-is_product) → product_if c.is_product.result (with_sign c.read_tap_row-tap.result.sign (pos c.lift-p.result))
+    ≡ product_of (rows_of c.args.rows.now c.args.n) (tap_row_at c.args.taps.now c.args.j)
 told c =
-    let after-lift = c.before in let after-read-value = after-lift.before in let in-else-3 = after-read-value.before.before in let in-else-1 = in-else-3.before in let after-index = in-else-1.before.before in let after-read-tap-row = after-index.before in let at_start = after-read-tap-row.before.before.before in let args = at_start.args in
+    let args = c.args in
     let table = args.rows.now in
     let rows = rows_of table args.n in
-    let tap = after-read-tap-row.read_tap_row-tap.result in
-    let h : tap.row < args.n = omega (arith, in-else-3.if-row-n.false, after-index.index-row.ensures) in
-    let v = after-read-value.read_value.ensures ∙ ap (λ (k : ℕ). (row_at table k).value) after-index.index-row.ensures ∙ ap (λ (r : Row). r.value) (sym (get_d_up_to args.n (row_at table) no_row tap.row h)) in
-    let e : after-lift.lift-p.result ≡ lifted (tap.shift % 32) (row_in rows tap.row).value = after-lift.lift-p.ensures.0 ∙ ap (lifted (tap.shift % 32)) v in
-    ap (λ (b : Bool). product_if b (with_sign tap.sign (pos after-lift.lift-p.result))) c.is_product.ensures.0
-    ∙ tap_tests rows tap in-else-1.if-tap-eq-NONE.false (omega (arith, h, length_up_to args.n (row_at table))) after-lift.lift-p.result e
-    ∙ ap (product_of rows) after-read-tap-row.read_tap_row-tap.ensures
+    let tap = c.read_tap_row-tap.result in
+    let h : tap.row < args.n = omega (arith, c.if-row-n.false, c.index-row.ensures) in
+    let v = c.read_value.ensures ∙ ap (λ (k : ℕ). (row_at table k).value) c.index-row.ensures ∙ ap (λ (r : Row). r.value) (sym (get_d_up_to args.n (row_at table) no_row tap.row h)) in
+    let e : c.lift-p.result ≡ lifted (tap.shift % 32) (row_in rows tap.row).value = c.lift-p.ensures.0 ∙ ap (lifted (tap.shift % 32)) v in
+    ap (λ (b : Bool). product_if b (with_sign tap.sign (pos c.lift-p.result))) c.is_product.ensures.0
+    ∙ tap_tests rows tap c.if-tap-eq-NONE.false (omega (arith, h, length_up_to args.n (row_at table))) c.lift-p.result e
+    ∙ ap (product_of rows) c.read_tap_row-tap.ensures
 
 pub returns-then-row-tap : goal.returns-then-row-tap
 returns-then-row-tap c =
@@ -63,20 +56,17 @@ returns-then-row-n c =
 
 pub with_sign-requires : goal.with_sign-requires
 with_sign-requires c =
-    let after-read-tap-row = read c.before in
-    let tap = after-read-tap-row.read-tap-row.result in
+    let tap = c.read_tap_row-tap.result in
     let e = c.is_product.ensures in
     (e.1 c.if-is_product.true, last_two (leb tap.shift 31) (is_tap_sign tap.sign) (within_bounds (with_sign tap.sign (pos c.lift-p.result))) (sym e.0 ∙ c.if-is_product.true))
 
 pub returns-then-is_product : goal.returns-then-is_product
 returns-then-is_product c =
-    let after-read-tap-row = read c.before.before in
-    let z = with_sign after-read-tap-row.read-tap-row.result.sign (pos c.lift-p.result) in
+    let z = with_sign c.read_tap_row-tap.result.sign (pos c.lift-p.result) in
     ap Coefficient (to_z-of_z w32 c.with_sign.result (record { sfits = c.with_sign.type_inv }) ∙ c.with_sign.ensures)
-    ∙ ap (λ (b : Bool). product_if b z) (sym c.if-is_product.true) ∙ told c.before.before
+    ∙ ap (λ (b : Bool). product_if b z) (sym c.if-is_product.true) ∙ told (goal.at-returns-then-is_product c).After-is_product
 
 pub returns : goal.returns
 returns c =
-    let after-read-tap-row = read c.before in
-    let z = with_sign after-read-tap-row.read-tap-row.result.sign (pos c.lift-p.result) in
-    ap (λ (b : Bool). product_if b z) (sym c.if-is_product.false) ∙ told c.before
+    let z = with_sign c.read_tap_row-tap.result.sign (pos c.lift-p.result) in
+    ap (λ (b : Bool). product_if b z) (sym c.if-is_product.false) ∙ told (goal.at-returns c).After-is_product

@@ -1,0 +1,75 @@
+#!/usr/bin/env python3
+"""Mends answers by what a check says of them: parts of a clause or of a call's new values by number, and places seen by a view.
+
+usage: mend.py CRATE SAID     SAID: what rt check printed in the crate's folder; run it at the top of the repository
+"""
+import os
+import re
+import sys
+
+PART = re.compile(r"\.(new|requires|ensures|type_inv|auto|invariant)((?:\.\d)+)")
+
+
+def part(kind, path, fields):
+    parts = path.split(".")[1:]
+    k = 0
+    if kind in ("new", "auto", "type_inv"):
+        while k < len(parts) and parts[k] == "1":
+            k += 1
+        rest = parts[k + 1 :]
+    else:
+        while k < len(parts) and parts[k] == "1" and k < len(fields) - 1:
+            k += 1
+        rest = parts[k + 1 :] if k < len(fields) - 1 else parts[k:]
+    if k >= len(fields) and len(fields) == 1:
+        return 0, rest
+    return (k, rest) if k < len(fields) else None
+
+
+def main():
+    crate, said = sys.argv[1:3]
+    out = open(said).read().split("\n")
+    by = {}
+    for i, l in enumerate(out):
+        m = re.match(r"(?:.*?)\./(proofs/\S+?\.antt):(\d+):(\d+): error: `([^`]*)`(.*)", l)
+        if m:
+            ext = "\n".join(out[i : i + 6])
+            nxt = re.search(r"\n\S*proofs/\S+?:\d+:\d+: error", ext)
+            by.setdefault(m.group(1), []).append((int(m.group(2)), int(m.group(3)), m.group(4), ext[: nxt.start()] if nxt else ext))
+    n = 0
+    for f, es in by.items():
+        p = f"crates/{crate}/{f}"
+        if not os.path.exists(p):
+            continue
+        lines = open(p).read().split("\n")
+        was = list(lines)
+        for ln, col, goal, ext in sorted(es, reverse=True):
+            line = lines[ln - 1]
+            m = re.search(r"has no field `(\d)`.*?(?:the fields that can be named here are|its fields are|its field is|the field that can be named here is) ((?:`[^`]+`(?:,| and)? ?)+)", ext, re.S)
+            if m:
+                fields = re.findall(r"`([^`]+)`", m.group(2))
+                for mm in PART.finditer(line):
+                    if mm.end() < col - 1:
+                        continue
+                    got = part(mm.group(1), mm.group(2), fields)
+                    if got:
+                        lines[ln - 1] = line[: mm.start()] + f".{mm.group(1)}." + ".".join([fields[got[0]]] + got[1]) + line[mm.end() :]
+                        n += 1
+                    break
+                continue
+            m = re.search(r"expected type `(?:goal\.)?([\w-]+)`, but this has type `", ext)
+            if m:
+                rest = line[col - 1 :]
+                mm = re.match(r"\(?(\w+)((?:\.before)*)\b", rest)
+                mm = mm or re.match(r"(\w+)", rest)
+                if mm and re.match(r"(\w+)((?:\.before)+)", rest):
+                    decl = next((d for d in (re.match(re.escape(goal) + r" : .*?\(" + mm.group(1) + r" : ([\w-]+)\)", x) for x in lines) if d), None)
+                    at = decl.group(1) if decl else goal
+                    lines[ln - 1] = line[: col - 1] + f"(goal.at-{at} {mm.group(1)}).{m.group(1)}" + rest[mm.end() :]
+                    n += 1
+        if lines != was:
+            open(p, "w").write("\n".join(lines))
+    print(f"mend: {crate}: {n} places")
+
+
+main()
