@@ -259,6 +259,7 @@ def convert(text, fn, crate, module):
 
 
 def words(text):
+    text = re.sub(r"(?<![\w'-])(args\.[\w-]+)", lambda m: m.group(1).replace("-", "_"), text)
     text = text.replace(".type-inv", ".type_inv").replace(".well-formed", ".well_formed")
     return re.sub(r"(\.wrapping_\w+(?:-[\w]+)*\.ensures)(?![\w.])", r"\1.value", text)
 
