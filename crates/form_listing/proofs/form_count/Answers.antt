@@ -1,7 +1,7 @@
 -- `form_listing::form_count` meets its contract. The invariant of its loop: the walk over the links stands where a walk over the canonical digits of the
 -- magnitude stands too, with the forms of the digits passed as its `forms`; a number and its negative have as many. At the end, where no link is left, these are
 -- all forms. The measure is `links`, since the next link is taken out of it in each turn. Assumes nothing.
-use Rattle.std.proofs.Common.{◌≡◌, ◌^◌, ◌≤◌, length, ℤ, nat_abs, ap, ◌∙◌, arith, w32, SFits, to_z, of_z, rules}
+use Rattle.std.proofs.Common.{◌≡◌, ◌^◌, ◌≤◌, length, ℤ, nat_abs, ap, ◌∙◌, arith, w32, SFits, to_z, of_z}
 use Rattle.signed_digit.specs.Forms.{listing}
 use Rattle.word.proofs.Bounds.{i32_coefficient, coefficient_magnitude}
 use Rattle.signed_digit.proofs.Coefficients.{at_most_1597}

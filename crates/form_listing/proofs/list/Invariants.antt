@@ -11,13 +11,7 @@
 -- The measure is `links`, since the next link is taken out of it in each turn. Where no link is left, the digits that remain add no form, and the front of the
 -- tables is the listing. There is room for each copy, since the forms passed with those that follow them are at most all forms, and these at most 1597.
 -- Assumes nothing.
-use Rattle.std.proofs.Common.{◌≡◌, ℕ, ◌^◌, ◌≤◌, List, ◌++◌, map, length, drop, set, ℤ, nat_abs, ap, ◌∙◌, arith, length-set, w32, to_z, of_z, rules}
-use Rattle.signed_digit.specs.Masks.{plus_mask, minus_mask}
-use Rattle.signed_digit.specs.Forms.{listing}
-use Rattle.word.proofs.Bounds.{i32_coefficient, coefficient_magnitude}
-use Rattle.form_listing.proofs.Machine.{read_once}
-use Rattle.form_walk.proofs.Counted.{fewer}
-use Rattle.form_listing.proofs.Listed.{Ready, ready, Listing, list_start, list_skip, list_link, widen_fits, link_fits, list_next, same_lengths, list_end, past_front}
+use Rattle.form_listing.proofs.Listed.{Ready, Listing}
 use Rattle.form_listing.proofs.list.Given as goal
 
 -- where the tables are ready, the walk stands on its way

@@ -1,6 +1,6 @@
 -- `form_listing::minimal_forms` meets its contract. A table under 1597 elements is turned down and left as it was; else `list` writes the listing of n and
 -- returns its length, which a u32 holds, being at most 1597. Assumes nothing.
-use Rattle.std.proofs.Common.{◌≡◌, ℕ, List, ◌++◌, map, length, drop, ℤ, sym, ap, ◌∙◌, arith, rules}
+use Rattle.std.proofs.Common.{◌≡◌, ℕ, List, ◌++◌, map, length, drop, ℤ, sym, ap, ◌∙◌, arith}
 use Rattle.signed_digit.specs.String.{DigitString}
 use Rattle.signed_digit.specs.Masks.{plus_mask, minus_mask}
 use Rattle.signed_digit.specs.Forms.{listing}
