@@ -258,7 +258,26 @@ def convert(text, fn, crate, module):
     return head, uses, out_inv, out_help, out_ans, missing
 
 
+def negated(text):
+    """`ap not (sym e) ∙ c.if-not-x.true` as `ap not (sym e ∙ c.if-not-x.true)`: the test of `!x` now speaks of x."""
+    i = 0
+    while (k := text.find("ap not (sym ", i)) >= 0:
+        j, depth = k + len("ap not "), 0
+        while j < len(text):
+            depth += {"(": 1, ")": -1}.get(text[j], 0)
+            j += 1
+            if depth == 0:
+                break
+        m = re.compile(r" ∙ c\.if-not-[\w-]+\.(true|false)").match(text, j)
+        if m:
+            text = text[: j - 1] + m.group(0) + ")" + text[m.end() :]
+        i = j
+    return text
+
+
 def words(text):
+    text = negated(text)
+    text = re.sub(r"(?<![\w'-])(args\.[\w-]+)", lambda m: m.group(1).replace("-", "_"), text)
     text = text.replace(".type-inv", ".type_inv").replace(".well-formed", ".well_formed")
     return re.sub(r"(\.wrapping_\w+(?:-[\w]+)*\.ensures)(?![\w.])", r"\1.value", text)
 

@@ -57,6 +57,12 @@ def main():
                         n += 1
                     break
                 continue
+            m = re.search(r"has no field `([\w-]+)` \(nearest: \.([\w-]+)", ext)
+            if m and m.group(1).replace("-", "_") == m.group(2).replace("-", "_"):
+                new = re.sub(r"\." + re.escape(m.group(1)) + r"(?![\w'-])", "." + m.group(2), line)
+                n += new != line
+                lines[ln - 1] = new
+                continue
             m = re.search(r"expected type `(?:goal\.)?([\w-]+)`, but this has type `", ext)
             if m:
                 rest = line[col - 1 :]
