@@ -11,34 +11,24 @@ use mir.Syntax.{w32}
 use mir.Val.{SFits, to_z, of_z}
 use mir.ValLaws.{to_z-of_z}
 use Rattle.build_sieve.proofs.Cells.{cell_of_lem, whole_number, high_half}
-use Rattle.build_sieve.proofs.leading.cell.Statement.{statement}
-use Rattle.build_sieve.proofs.leading.cell.Tie as tie
+use Rattle.build_sieve.proofs.leading.cell.Goals as goal
 
 small : (z : ℤ) → SFits w32 z → nat_abs z < 2 ^ 32
 small (pos n) h = lt_of_lt_of_le h.sfits (lit≤ tt)
 small (negsuc k) h = lt_of_le_of_lt h.sfits (lit< tt)
 
-int-to-float-high : tie.Need-int-to-float-high
-int-to-float-high c = search rules
-
-float-to-bits-high : tie.Need-float-to-bits-high
-float-to-bits-high c =
-    let x = c.before.args.x in
-    let fits = c.before.ranges.x in
+pub float_to_bits-high : goal.float_to_bits-high
+float_to_bits-high c =
+    let x = c.args.x in
+    let fits = c.ranges.x in
     subst (λ (z : ℤ). T (not (is_nan (of_int binary64 z)))) (sym (to_z-of_z w32 x fits)) (whole_number x (small x fits))
 
-cast-high : tie.Need-overflow-cast-high
-cast-high c = record { fits = high_half (to_z w32 (of_z w32 c.before.args.x)) }
+pub overflow_cast-high : goal.overflow_cast-high
+overflow_cast-high c = record { fits = high_half (to_z w32 (of_z w32 c.args.x)) }
 
-shr-result : tie.Need-overflow-shr-result
-shr-result c = search rules
-
-returns : tie.Need-returns
+pub returns : goal.returns
 returns c =
-    let x = c.before.args.x in
-    let shift = c.before.args.shift in
-    let fits = c.before.ranges.x in
+    let x = c.args.x in
+    let shift = c.args.shift in
+    let fits = c.ranges.x in
     ap (λ (z : ℤ). to_bits binary64 (of_int binary64 z) / 2 ^ 32 * 2 ^ 12 % 2 ^ 32 / 2 ^ shift) (to_z-of_z w32 x fits) ∙ cell_of_lem shift x (small x fits)
-
-pub cell-spec : {M : Type 1} → statement M
-cell-spec = tie.close (tie.spec int-to-float-high float-to-bits-high cast-high shr-result returns)
