@@ -32,7 +32,7 @@ pub loop-j-preserved : goal.loop-j-preserved
 loop-j-preserved c =
     let args = c.args in
     let z = get_or args.coefficients.now c.loop-j.j (pos 0) in
-    let e = c.tap_row-row.ensures ∙ ap (λ (x : ℤ). tap_row_of (rows_of args.table.now args.n) (parts_of x)) (to_z-of_z w32 z c.tap_row-row.RANGE) in (
+    let e = c.tap_row-row.ensures ∙ ap (λ (x : ℤ). tap_row_of (rows_of args.table.now args.n) (parts_of x)) (to_z-of_z w32 z (record { sfits = c.tap_row-arg-1.given })) in (
       omega (arith, c.loop-j-test.true),
       subst (λ (x : List ℕ). Filling (λ (y : ℤ). tap_row_of (rows_of args.table.now args.n) (parts_of y)) args.coefficients.now args.taps.now x (c.loop-j.j + 1)) (sym c.write_tap_row.ensures)
           (filling_next (λ (y : ℤ). tap_row_of (rows_of args.table.now args.n) (parts_of y)) args.coefficients.now args.taps.now c.requires.1 c.loop-j.taps c.loop-j.j c.tap_row-row.result c.loop-j-test.true e c.loop-j.invariant.1),
