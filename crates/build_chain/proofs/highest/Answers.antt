@@ -3,17 +3,13 @@ use mathlib.Core.Path.{◌≡◌}
 use Prim.Native.Nat.{◌-◌}
 use native.Mathlib.Omega.{arith}
 use lib.Count.{count_leading_zeros, leading_top}
-use Rattle.build_chain.proofs.highest.Statement.{statement}
-use Rattle.build_chain.proofs.highest.Tie as tie
+use Rattle.build_chain.proofs.highest.Goals as goal
 
-sub-result : tie.Need-overflow-sub-result
-sub-result c = let t = leading_top 32 c.args.mask c.requires c.ranges.mask.fits in omega (arith, t.1)
+pub overflow_sub-result : goal.overflow_sub-result
+overflow_sub-result c = let t = leading_top 32 c.args.mask c.requires c.ranges.mask.fits in omega (arith, t.1)
 
-returns : tie.Need-returns
+pub returns : goal.returns
 returns c =
     let t = leading_top 32 c.args.mask c.requires c.ranges.mask.fits in
     let e : 31 - count_leading_zeros 32 c.args.mask ≡ t.0 = omega (arith, t.1) in
     (rw e t.2, rw e t.3, omega (arith, t.1))
-
-pub highest-spec : {M : Type 1} → statement M
-highest-spec = tie.close (tie.spec sub-result returns)
