@@ -1,5 +1,4 @@
 -- `verilog_rows::put_operand` meets its contract. Assumes nothing.
-use borrow.Author.Rules.{rules}
 use native.Mathlib.Omega.{arith}
 use Rattle.text.proofs.Puts.{then_all}
 use Rattle.verilog_rows.proofs.put_operand.Goals as goal

@@ -1,5 +1,4 @@
 -- `verilog_rows::put_right_first` meets its contract. Assumes nothing.
-use borrow.Author.Rules.{rules}
 use Rattle.text.proofs.Puts.{then_all}
 use Rattle.verilog_rows.proofs.put_right_first.Goals as goal
 

@@ -1,5 +1,4 @@
 -- `verilog_rows::put_row_line` meets its contract, by the number and the sign of the row. Assumes nothing.
-use borrow.Author.Rules.{rules}
 use mathlib.Core.Path.{◌≡◌, ap}
 use native.Mathlib.Omega.{arith}
 use lib.ListN.{length}

@@ -1,16 +1,11 @@
 -- `verilog_rows::put_row_lines` meets its contract. The invariant of its loop: the assigns of the first i rows stand from `at` to `to`. The measure is the number of rows left. Assumes
 -- nothing.
-use borrow.Author.Rules.{rules}
-use mathlib.Core.Path.{◌≡◌, refl, ap, subst, ◌∙◌}
-use Prim.Native.Nat.{ℕ, ◌-◌, ◌≤◌}
-use native.Mathlib.Omega.{arith}
+use mathlib.Core.Path.{◌≡◌}
+use Prim.Native.Nat.{◌-◌, ◌≤◌}
 use lib.ListN.{length}
-use Rattle.network.specs.declared.Row.{Row}
-use Rattle.network.specs.Rows.{row_at, rows_of}
+use Rattle.network.specs.Rows.{rows_of}
 use Rattle.text.specs.Lines.{lines_from}
 use Rattle.text.specs.Inner.{PutAll}
-use Rattle.text.proofs.Puts.{widen, then_all}
-use Rattle.text.proofs.Lines.{lines_next, nothing_put, room_next}
 use Rattle.verilog_text.specs.Text.{row_assign}
 use Rattle.verilog_rows.proofs.put_row_lines.Given as goal
 

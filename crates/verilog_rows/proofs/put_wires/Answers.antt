@@ -2,13 +2,10 @@
 use borrow.Author.Rules.{rules}
 use mathlib.Core.Path.{◌≡◌, refl, sym, ◌∙◌}
 use mathlib.Core.List.{append_assoc}
-use Prim.Native.Nat.{◌-◌, ◌≤◌}
 use native.Mathlib.Omega.{arith}
-use lib.ListN.{length}
 use Rattle.text.specs.Ascii.{ascii}
 use Rattle.text.specs.Numbers.{decimal}
 use Rattle.text.specs.Lines.{numbered_from}
-use Rattle.text.specs.Inner.{PutAll}
 use Rattle.text.proofs.Puts.{then_all, put_as}
 use Rattle.text.proofs.Lines.{numbered_next, none_put, room_next}
 use Rattle.verilog_text.specs.Text.{wire_line}

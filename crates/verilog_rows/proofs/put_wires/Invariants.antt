@@ -1,18 +1,10 @@
 -- `verilog_rows::put_wires` meets its contract. The invariant of its loop: the wires of the numbers below `row` stand from `at` to `to`. The measure is the count of numbers left. Assumes nothing.
-use borrow.Author.Rules.{rules}
-use mathlib.Core.Path.{◌≡◌, refl, sym, ◌∙◌}
-use mathlib.Core.List.{append_assoc}
+use mathlib.Core.Path.{◌≡◌}
 use Prim.Native.Nat.{◌-◌, ◌≤◌}
-use native.Mathlib.Omega.{arith}
 use lib.ListN.{length}
-use Rattle.text.specs.Ascii.{ascii}
-use Rattle.text.specs.Numbers.{decimal}
 use Rattle.text.specs.Lines.{numbered_from}
 use Rattle.text.specs.Inner.{PutAll}
-use Rattle.text.proofs.Puts.{then_all, put_as}
-use Rattle.text.proofs.Lines.{numbered_next, none_put, room_next}
 use Rattle.verilog_text.specs.Text.{wire_line}
-use Rattle.verilog_text.proofs.Lengths.{wire_length}
 use Rattle.verilog_rows.proofs.put_wires.Given as goal
 
 abbrev pub invariant-loop-row : goal.invariant-loop-row
