@@ -25,7 +25,7 @@ loop-c-init c =
 pub form_at-requires : goal.form_at-requires
 form_at-requires c =
     let args = c.args in
-    choice_below args.coefficients.now args.choices.now c.loop-c.c (record { sfits = c.form_at-arg-1.given })
+    choice_below args.coefficients.now args.choices.now c.loop-c.c (search rules)
     (c.requires.have_forms c.loop-c.c c.loop-c-test.true)
 
 pub add_form-requires : goal.add_form-requires
@@ -50,7 +50,7 @@ pub loop-c-preserved : goal.loop-c-preserved
 loop-c-preserved c =
     let args = c.args in
     let added = c.add_form.ensures in
-    let form = form_chosen args.coefficients.now args.choices.now c.loop-c.c (record { sfits = c.form_at-arg-1.given }) c.form_at.result c.form_at.ensures in (
+    let form = form_chosen args.coefficients.now args.choices.now c.loop-c.c (search rules) c.form_at.result c.form_at.ensures in (
       search rules,
       added.plus ∙ cell_added plus_mask args.coefficients.now args.choices.now (drop 128 args.plus.now) c.loop-c.c c.form_at.result.plus c.loop-c.plus c.loop-c.invariant.1 (ap (λ (g : Form). g.plus) form),
       search rules,
