@@ -203,7 +203,7 @@ def convert(text, fn, crate, module):
             continue
         (o, n), names = fn.loops[k]
         changed = fn.changed[k]
-        params = eq.group(1).split()
+        params = [p for p in eq.group(1).split() if p in names or not re.fullmatch(r"t\d+₀?", p)]
         targets = [(f"l.initial.{v}" if ch else f"l.{v}") for v, ch in zip(names, changed)]
         targets += [f"l.{v}" for v, ch in zip(names, changed) if ch]
         sub = dict(zip(params, targets)) if len(params) == len(targets) else None

@@ -113,6 +113,25 @@ def main():
                 n += new != line
                 lines[ln - 1] = new
                 continue
+            m = re.search(r"is built with `record { (.*?) }`, not as a tuple", ext, re.S)
+            if m and line[col - 1 : col] == "(":
+                fields = [x.split("=")[0].strip() for x in m.group(1).split(";")]
+                text = "\n".join(lines[ln - 1 :])
+                parts, depth, last = [], 0, col
+                for k in range(col - 1, len(text)):
+                    ch = text[k]
+                    depth += (ch in "({[") - (ch in ")}]")
+                    if depth == 0 or (depth == 1 and ch == ","):
+                        parts.append(text[last:k].strip())
+                        last = k + 1
+                    if depth == 0:
+                        break
+                parts = [x for x in parts if x]
+                if len(parts) == len(fields):
+                    body = "record { " + "; ".join(f"{a} = {b}" for a, b in zip(fields, parts)) + " }"
+                    lines[ln - 1 :] = (text[: col - 1] + body + text[last:]).split("\n")
+                    n += 1
+                continue
             m = re.search(r"expected type `(?:goal\.)?([\w-]+)`, but this has type `", ext)
             if m:
                 rest = line[col - 1 :]
