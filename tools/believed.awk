@@ -24,14 +24,14 @@ function defined(line) {
 }
 
 # The file of the crate's own that an import names, or nothing: "crates/X/specs/Y.antt", "proofs" for
-# anything of proofs/. Types that Rattle makes of an enum or a struct are no files.
+# anything of proofs/. What the library has, and types that Rattle makes of an enum or a struct, are no files.
 function imported(line, crate, part) {
     sub(/^(ghost )?use /, "", line)
-    if (line !~ /^Rattle·/) return ""
-    sub(/^Rattle·/, "", line)
-    if (line ~ /^[a-z_]+(·proofs|\.proofs)/) return "proofs"
+    if (line !~ /^Rattle\./ || line ~ /^Rattle\.std\./) return ""
+    sub(/^Rattle\./, "", line)
+    if (line ~ /^[a-z_0-9]+\.proofs\./) return "proofs"
     crate = line
-    sub(/[·.].*/, "", crate)
+    sub(/\..*/, "", crate)
     gsub(/[^a-z_0-9]/, "", crate)
     if (line !~ /specs\./) return ""
     sub(/^.*specs\./, "", line)
@@ -43,7 +43,7 @@ function imported(line, crate, part) {
 
 # Whether a word stands in a text.
 function has_word(text, word) {
-    return (" " text " ") ~ ("[^A-Za-z0-9_′-]" word "[^A-Za-z0-9_′-]")
+    return (" " text " ") ~ ("[^A-Za-z0-9_'-]" word "[^A-Za-z0-9_'-]")
 }
 
 FILENAME ~ /STATEMENTS/ { statement[++statements] = $0; next }
@@ -135,7 +135,7 @@ function read_file(file, why, i) {
 
 # Whether the contents of a parameter after the call stand in a text.
 function has_exit(text, name) {
-    return index(text, "(" name " .exit)") || index(text, "(«" name "» .exit)")
+    return has_word(text, name "\\.new") || has_word(text, "«" name "»\\.new")
 }
 
 # Whether a file, or one that it imports, speaks of a relation outside the relation's own file.
@@ -155,11 +155,11 @@ function entry(f, relation, file, text, i, n, s) {
     if (gsub(/ensures/, "ensures", text) != 1) wrong(f " has not one ensures")
     # The relation is the whole sentence, and it speaks of the result and of all lent memory after the call.
     s = text
-    sub(/^.*⌜ */, "", s)
-    sub(/ *⌝.*$/, "", s)
+    sub(/^.*ensures *\{ */, "", s)
+    sub(/ *\}.*$/, "", s)
     sub(/^[A-Za-z]+\./, "", s)
     if (s !~ ("^" relation " ")) wrong(f " does not ensure " relation)
-    if (s ~ /→|×|⊎|≡|λ|⌜/) wrong(f " ensures more or less than " relation)
+    if (s ~ /→|×|⊎|≡|λ/) wrong(f " ensures more or less than " relation)
     n = split(text, word, /[ (]+/)
     for (i = 2; i <= n; i++) {
         if (word[i] !~ /^&mut/) continue
@@ -197,7 +197,7 @@ function names_of(row, text, n, i, t, file, folder) {
             if (!(f in contract)) wrong("STATEMENTS, line " row ": no function " t)
         } else if (t ~ /^[a-z_]+\/src\/[a-z_]+\.rt$/) {
             if (!(("crates/" t) in exists)) wrong("STATEMENTS, line " row ": no file " t)
-        } else if (file != "" && t ~ /^[A-Za-z][A-Za-z0-9′-]*$/) {
+        } else if (file != "" && t ~ /^[A-Za-z][A-Za-z0-9_'-]*$/) {
             if (!((file, t) in def)) wrong("STATEMENTS, line " row ": no " t " in " file)
         }
     }
@@ -250,7 +250,7 @@ function unlisted(f, i, s, text) {
     for (f in contract) {
         text = contract[f]
         if (f in listed || has_word(text, "requires") || gsub(/ensures/, "ensures", text) != 1) continue
-        sub(/^.*⌜ */, "", text)
+        sub(/^.*ensures *\{ */, "", text)
         sub(/^[A-Za-z]+\./, "", text)
         sub(/ .*/, "", text)
         s = source[f]
@@ -261,12 +261,12 @@ function unlisted(f, i, s, text) {
         if (!(exported[i] in listed)) wrong(exported[i] " is not among the entries of docs/STATEMENTS.md")
 }
 
-# One name for one thing. Only `answerOf` stands once for each enum: what its cases say.
+# One name for one thing. Only `answer_of` stands once for each enum: what its cases say.
 function twice(i, k, n) {
     for (i = 1; i <= readings; i++)
         for (k = 1; k <= tops[reading[i]]; k++) {
             n = top[reading[i], k]
-            if (n in owner && n != "answerOf") wrong(n " stands in " owner[n] " and in " reading[i])
+            if (n in owner && n != "answer_of") wrong(n " stands in " owner[n] " and in " reading[i])
             owner[n] = reading[i]
         }
 }

@@ -32,7 +32,7 @@ function nearest(upper, those, i, n, list, text) {
     families = families " " family
 }
 
-{ sub(/#.*/, "") }
+{ sub(/#.*/, ""); sub(/ staticlib:/, ":") }
 
 /:/ {
     crate = substr($1, 1, length($1) - 1)

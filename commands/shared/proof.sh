@@ -38,7 +38,7 @@ sources() {
     (
         cd "$root" || exit
         kit
-        find -L crates -type f \( -path 'crates/*/src/*.rt' -o -path 'crates/*/specs/*.antt' \
+        find -L crates -name out -prune -o -type f \( -path 'crates/*/src/*.rt' -o -path 'crates/*/specs/*.antt' \
             -o -path 'crates/*/proofs/*.antt' -o -path 'crates/*/data/*' \
             -o -name stdin -o -name stdout -o -name args \) -print0 |
             LC_ALL=C sort -z | xargs -0 sha256sum crates.txt "$@"
@@ -64,8 +64,7 @@ publish() { # NEW FILE SOURCES [OTHER SOURCE..]
         fail "no room for $2"
 }
 
-# From here to unlock no other command proves in this folder. rt ci removes target/, so the lock is
-# on crates/.
+# From here to unlock no other command proves in this folder. The lock is on crates/, which stays.
 lock() {
     command -v flock >/dev/null || fail "flock is missing (Debian's util-linux has it)"
     exec 9<"$root/crates" || fail "cannot open $root/crates"
@@ -78,7 +77,12 @@ unlock() {
     exec 9<&-
 }
 
-# These crates and all that they rest on, which crates.txt lists above them.
+# These crates and all that they rest on, as crates.txt has them: a crate below what it rests on.
+in_order() { # CRATE..
+    reached "$@" | tac
+}
+
+# The same, the other way round.
 reached() { # CRATE..
     awk -v wanted="$*" '
         BEGIN { split(wanted, names, " "); for (i in names) want[names[i]] = 1 }
@@ -103,45 +107,58 @@ tell() { # COUNT TOTAL
     fi
 }
 
-# Passes rt's lines on and counts the crates in them.
-progress() { # TOTAL
-    local line count=0
-    while IFS= read -r line; do
-        printf '%s\n' "$line"
-        case $line in
-        "rt: "*" proved ("*)
-            count=$((count + 1))
-            [ "$1" -eq 0 ] || tell $count "$1"
-            ;;
-        esac
+# What rt says in a crate's folder goes to the log. Where it fails, the words on what is not proved
+# come out.
+rt_in() { # CRATE WORD..
+    (cd "$root/crates/$1" && rt "${@:2}") >>"$log" 2>&1 </dev/null && return
+    not_proved "rt ${*:2} failed in crates/$1"
+}
+
+not_proved() { # WHY
+    [ ! -t 2 ] || echo >&2
+    grep -E 'error|not proved|no proof|FAILED' "$log" >&2
+    fail "$1; $log has all that was said"
+}
+
+begin_log() {
+    log=$root/target/${name%% *}.log
+    mkdir -p "$root/target" && : >"$log" || fail "no room in $root/target"
+}
+
+# Proves and builds these crates, each after those that it rests on, and tells how far it is of TOTAL.
+prove() { # TOTAL CRATE..
+    local crate count=0
+    for crate in "${@:2}"; do
+        rt_in "$crate" lib
+        count=$((count + 1))
+        tell $count "$1"
     done
 }
 
-# Runs rt in the root, tells how far it is of so many crates, if any, and keeps what it prints. Where
-# it fails, the words on all that is not proved come out.
-run_rt() { # TOTAL WORD..
-    local log=$root/target/${name%% *}.log
-    mkdir -p "$root/target" || fail "no room in $root/target"
-    (cd "$root" && rt "${@:2}") 2>&1 </dev/null | progress "$1" >"$log"
-    [ "${PIPESTATUS[0]}" -eq 0 ] && return
-    [ ! -t 2 ] || echo >&2
-    grep -v ' proved (' "$log" >&2
-    fail "rt ${*:2} failed; $log has all that it said"
+# A program of the crates, proved, built and run: what it prints must be the file stdout beside it.
+prove_program() { # CRATE
+    local folder=$root/crates/$1
+    rm -f "$folder/out/$1"
+    (cd "$folder" && rt run <stdin) >"$log.out" 2>>"$log" || not_proved "rt run failed in crates/$1"
+    cmp -s "$log.out" "$folder/stdout" || not_proved "crates/$1 was proved, and its run FAILED: see $log.out"
+    rm -f "$log.out"
 }
 
 # Proves and builds the sheet program, where it is not of the sources as they are.
 make_sheet() {
-    local program=$root/target/commands/sheet made
+    local program=$root/target/commands/sheet made crates
     ! current "$program" || return 0
     lock
     if ! current "$program"; then
         need_kit
-        say "proving and building the program: up to five minutes, only once"
+        say "proving and building the program: up to half an hour, only once"
         made=$(sources)
-        # The program is then linked and run in this proof, whatever another has left there.
-        rm -f "$root/target/stamp/sheet"
-        run_rt "$(reached sheet | wc -l)" check sheet
-        mkdir -p "$root/target/commands" && cp "$root/target/bin/sheet" "$program.$$" ||
+        begin_log
+        mapfile -t crates < <(in_order sheet | grep -vx sheet)
+        prove $((${#crates[@]} + 1)) "${crates[@]}"
+        prove_program sheet
+        tell $((${#crates[@]} + 1)) $((${#crates[@]} + 1))
+        mkdir -p "$root/target/commands" && cp "$root/crates/sheet/out/sheet" "$program.$$" ||
             fail "no room for $program"
         publish "$program.$$" "$program" "$made"
         say "proved and built in $SECONDS s"

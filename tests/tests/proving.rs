@@ -24,11 +24,13 @@ fn prints_the_sheet(ended: &Ended) {
     assert_eq!(ended.out, literal::sheet(&Input::new(&EXAMPLE, "0")));
 }
 
-/// How often `rt` was called to make this sheet.
+/// How often the program was proved, its library before it, to make this sheet.
 fn proofs(clone: &Clone) -> usize {
     let before = clone.calls().len();
     prints_the_sheet(&call(clone));
-    clone.calls().len() - before
+    let calls = clone.calls().split_off(before);
+    assert_eq!(calls, ["lib", "run"].repeat(calls.len() / 2));
+    calls.len() / 2
 }
 
 fn touch(clone: &Clone, name: &str, time: SystemTime) {
@@ -44,9 +46,9 @@ fn turned_down_by_the_gate() {
     for calls in 1..4 {
         let ended = call(&clone);
         assert_eq!((ended.status, ended.out.len()), (Some(2), 0));
-        let words = "rt: sheet proved, and its run FAILED (0 s)\nsheet: rt check sheet failed; ";
+        let words = "sheet: crates/sheet was proved, and its run FAILED: see ";
         assert!(ended.errors.contains(words), "{}", ended.errors);
-        assert_eq!(clone.calls().len(), calls);
+        assert_eq!(clone.calls().len(), 2 * calls);
     }
     remove_file(clone.path("bin/fails")).unwrap();
     assert_eq!(proofs(&clone), 1);
@@ -79,7 +81,9 @@ fn by_what_sources_hold() {
     assert_eq!(proofs(&clone), 1, "a new source");
     remove_file(clone.path("crates/word/specs/More.antt")).unwrap();
     assert_eq!(proofs(&clone), 1, "a deleted source");
-    rename(clone.path("crates/word"), clone.path("crates/words")).unwrap();
+    clone.write("crates/words/src/lib.rt", "// a crate\n");
+    assert_eq!(proofs(&clone), 1, "another crate");
+    rename(clone.path("crates/words"), clone.path("crates/others")).unwrap();
     assert_eq!(proofs(&clone), 1, "a renamed crate");
     clone.write("crates/sheet/stdout", "text");
     assert_eq!(proofs(&clone), 1, "what the program must print");
@@ -101,16 +105,16 @@ fn by_the_program() {
     copy("/bin/true", clone.path("target/commands/sheet")).unwrap();
     assert_eq!(proofs(&clone), 1, "another program");
     remove_file(clone.path("target/commands/sheet.proof")).unwrap();
-    copy("/bin/true", clone.path("target/bin/sheet")).unwrap();
+    copy("/bin/true", clone.path("crates/sheet/out/sheet")).unwrap();
     assert_eq!(
         proofs(&clone),
         1,
         "no record, and another program where rt has put its own"
     );
     remove_dir_all(clone.path("target")).unwrap();
-    assert_eq!(proofs(&clone), 1, "nothing at all, as rt ci leaves it");
+    assert_eq!(proofs(&clone), 1, "nothing at all");
     // What another rt leaves is not what the record speaks of.
-    copy("/bin/true", clone.path("target/bin/sheet")).unwrap();
+    copy("/bin/true", clone.path("crates/sheet/out/sheet")).unwrap();
     assert_eq!(proofs(&clone), 0);
 }
 
@@ -165,7 +169,7 @@ fn three_at_once() {
             prints_the_sheet(&ended.join().unwrap());
         }
     });
-    assert_eq!(clone.calls(), ["check sheet"]);
+    assert_eq!(clone.calls(), ["lib", "run"]);
     let clone = Clone::fresh();
     clone.write("bin/rest", "");
     thread::scope(|scope| {
@@ -197,7 +201,7 @@ fn holder(clone: &Clone) -> Child {
     holder
 }
 
-/// Beside a command that holds the lock, as ./test does while rt ci runs and target/ is gone.
+/// Beside a command that holds the lock, as ./test does while rt ci runs.
 #[test]
 fn beside_another() {
     let clone = Clone::built();
@@ -227,7 +231,7 @@ fn beside_another() {
     holder.wait().unwrap();
     let output = waiting.wait_with_output().unwrap();
     assert_eq!(output.stdout, literal::sheet(&Input::new(&EXAMPLE, "0")));
-    assert_eq!((output.status.code(), clone.calls().len()), (Some(0), 2));
+    assert_eq!((output.status.code(), clone.calls().len()), (Some(0), 4));
 }
 
 /// While rt ci runs, ./test holds that lock; where it fails, the lock is free again.
@@ -252,7 +256,7 @@ fn progress() {
     let ended = call(&clone);
     prints_the_sheet(&ended);
     let words = [
-        "sheet: proving and building the program: up to five minutes, only once",
+        "sheet: proving and building the program: up to half an hour, only once",
         "sheet: 1 of 2 crates proved",
         "sheet: 2 of 2 crates proved",
         "sheet: proved and built in ",

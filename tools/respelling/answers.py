@@ -203,7 +203,7 @@ def convert(text, fn, crate, module):
             continue
         (o, n), names = fn.loops[k]
         changed = fn.changed[k]
-        params = eq.group(1).split()
+        params = [p for p in eq.group(1).split() if p in names or not re.fullmatch(r"t\d+₀?", p)]
         targets = [(f"l.initial.{v}" if ch else f"l.{v}") for v, ch in zip(names, changed)]
         targets += [f"l.{v}" for v, ch in zip(names, changed) if ch]
         sub = dict(zip(params, targets)) if len(params) == len(targets) else None
@@ -239,13 +239,13 @@ def convert(text, fn, crate, module):
         out_ans.append("\n".join(comment + [f"pub {new} : goal.{new}"] + unf + [f"{new} {args} ={b}"]))
     out_help = []
     for h in helpers:
+        h = re.sub(r"(tie\." + ID + r")((?: (?:invariant|decreases)[-_]" + ID + r")+)", r"\1", h)
         roots = {}
         for m in re.finditer(r"\((" + ID + r")\s*:\s*tie\.(" + ID + r")\)", h):
             roots[m.group(1)] = (norm(m.group(2)), m.group(1))
         # equations name their own parameters
         b = Body(fn, "\0", "Start")
         b.vars.update(roots)
-        h = re.sub(r"(tie\." + ID + r")((?: (?:invariant|decreases)[-_]" + ID + r")+)", r"\1", h)
         m = re.search(r":\s*(?:[^\n]*?)tie\.", h)
         if m and not roots:
             types = re.findall(r"tie\.(" + ID + r")", h.split("\n")[0])
@@ -258,7 +258,27 @@ def convert(text, fn, crate, module):
     return head, uses, out_inv, out_help, out_ans, missing
 
 
+def negated(text):
+    """`ap not (sym e) ∙ c.if-not-x.true` as `ap not (sym e ∙ c.if-not-x.true)`: the test of `!x` now speaks of x."""
+    text = re.sub(r"\bnot[-_](?:true|false) [\w.-]+ (c\.if-not-[\w-]+\.(?:true|false))", r"\1", text)
+    i = 0
+    while (k := text.find("ap not (sym ", i)) >= 0:
+        j, depth = k + len("ap not "), 0
+        while j < len(text):
+            depth += {"(": 1, ")": -1}.get(text[j], 0)
+            j += 1
+            if depth == 0:
+                break
+        m = re.compile(r" ∙ c\.if-not-[\w-]+\.(true|false)").match(text, j)
+        if m:
+            text = text[: j - 1] + m.group(0) + ")" + text[m.end() :]
+        i = j
+    return text
+
+
 def words(text):
+    text = negated(text)
+    text = re.sub(r"(?<![\w'-])(args\.[\w-]+)", lambda m: m.group(1).replace("-", "_"), text)
     text = text.replace(".type-inv", ".type_inv").replace(".well-formed", ".well_formed")
     return re.sub(r"(\.wrapping_\w+(?:-[\w]+)*\.ensures)(?![\w.])", r"\1.value", text)
 

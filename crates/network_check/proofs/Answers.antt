@@ -19,8 +19,8 @@ use Rattle.network_check.specs.Inner.{is_given, padded, Holds}
 
 -- ---- a refusal, and what the buffer then holds: anything
 
-pub turned : (a : Answer (List ℤ)) (number place : ℕ) (buffer : List ℤ) → refused number place ≡ a → (refused number place ≡ outcome a) × Holds a buffer
-turned a number place buffer e = (ap outcome e, subst (λ (r : Answer (List ℤ)). Holds r buffer) e tt)
+pub held : {a : Answer (List ℤ)} {number place : ℕ} (buffer : List ℤ) → refused number place ≡ a → Holds a buffer
+held buffer e = subst (λ (r : Answer (List ℤ)). Holds r buffer) e tt
 
 -- ---- the checks 10 and 11
 

@@ -13,33 +13,33 @@ use std::process::Command;
 
 pub const KIT: &str = "kit of the tests";
 
-/// Like the real one it links no program again that has a stamp. `bin/fails` makes the gate turn the
-/// program down that it leaves, `bin/rest` makes it slow.
+/// `bin/fails` makes the program print another text than it must, `bin/rest` makes proofs slow.
 const STAND_IN: &str = r#"#!/bin/sh
 here=$(dirname "$0")
 [ "$1" != version ] || exec cat "$here/kit"
 echo "$*" >>"$here/calls"
 [ ! -f "$here/rest" ] || sleep 0.5
-mkdir -p target/bin target/staticlib target/stamp
+crate=$(basename "$PWD")
 case $* in
-"check sheet")
-    for crate in $(sed -n 's/^\([a-z_]*\):.*/\1/p' crates.txt); do echo "rt: $crate proved (0 s)"; done
-    [ ! -f target/stamp/sheet ] || exit 0
+run)
+    mkdir -p out
     if [ -f "$here/fails" ]; then
-        printf '#!/bin/sh\necho kind\n' >target/bin/sheet
-        chmod 755 target/bin/sheet
-        echo "rt: sheet proved, and its run FAILED (0 s)"
-        exit 1
+        printf '#!/bin/sh\necho kind\n' >out/sheet
+        chmod 755 out/sheet
+        echo kind
+        exit 0
     fi
-    cp "$SHEET" target/bin/sheet
-    echo proved >target/stamp/sheet
+    cp "$SHEET" out/sheet
+    cat stdout
     ;;
-check* | fmt*) ;;
+lib)
+    mkdir -p out
+    case $crate in fir_*) cp "$MADE/target/staticlib/lib$crate.a" out ;; esac
+    ;;
 ci)
     flock -n crates true && echo "free" || echo "locked"
     exit 1
     ;;
-staticlib*) cp "$MADE/target/staticlib/lib$2.a" target/staticlib ;;
 *) exit 9 ;;
 esac
 "#;
@@ -76,12 +76,18 @@ impl Clone {
             copy_folder(&program::root().join(name), &clone.path(name));
         }
         let parts = ["taps", "forms", "planes", "networks", "verilog"];
-        let parts = parts.map(|part| format!("fir_{part}: word\n")).concat();
+        let parts = parts.map(|part| format!("fir_{part} staticlib: word\n"));
         clone.write(
             "crates.txt",
-            &format!("# kit: {KIT}\nword:\nsheet: word\n{parts}"),
+            &format!("# kit: {KIT}\nword:\nsheet: word\n{}", parts.concat()),
         );
+        for part in &parts {
+            let name = part.split(' ').next().unwrap();
+            clone.write(&format!("crates/{name}/src/lib.rt"), "// a crate\n");
+        }
         clone.write("crates/sheet/src/main.rt", "// the program\n");
+        clone.write("crates/sheet/stdin", "");
+        clone.write("crates/sheet/stdout", "what it prints\n");
         clone.write("crates/word/src/lib.rt", "// a crate\n");
         clone.write("bin/kit", &format!("{KIT}\n"));
         clone.write("bin/rt", STAND_IN);

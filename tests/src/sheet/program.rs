@@ -36,12 +36,12 @@ pub fn root() -> PathBuf {
     package.parent().unwrap().to_path_buf()
 }
 
-/// The sheet program: what SHEET_PROGRAM names, else target/bin/sheet.
+/// The sheet program: what SHEET_PROGRAM names, else target/commands/sheet.
 pub fn sheet() -> PathBuf {
-    let made = || root().join("target/bin/sheet");
+    let made = || root().join("target/commands/sheet");
     let program = env::var_os("SHEET_PROGRAM").map_or_else(made, PathBuf::from);
     let name = program.display();
-    assert!(program.is_file(), "no {name}: `rt check sheet` makes it");
+    assert!(program.is_file(), "no {name}: `./sheet` makes it");
     program
 }
 

@@ -1,10 +1,10 @@
 -- `text::put` meets its contract. The invariant of its loop: the area is as it was but for the first i bytes of the text, which stand from index `at` on. The measure is the number of bytes left.
 -- Assumes nothing.
 use borrow.Author.Rules.{rules}
-use mathlib.Core.Path.{◌≡◌, refl, ap, ◌∙◌}
-use Prim.Native.Nat.{◌≤◌, ◌-◌, ◌+◌}
+use mathlib.Core.Path.{refl, ap, ◌∙◌}
+use Prim.Native.Nat.{◌+◌}
 use native.Mathlib.Omega.{arith}
-use lib.ListN.{length, length-set, take, set, get_or}
+use lib.ListN.{length-set, set, get_or}
 use lib.Seq.{sets, take_all}
 use Rattle.text.proofs.Puts.{sets_next}
 use Rattle.text.proofs.put.Goals as goal

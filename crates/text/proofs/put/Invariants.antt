@@ -1,12 +1,9 @@
 -- `text::put` meets its contract. The invariant of its loop: the area is as it was but for the first i bytes of the text, which stand from index `at` on. The measure is the number of bytes left.
 -- Assumes nothing.
-use borrow.Author.Rules.{rules}
-use mathlib.Core.Path.{◌≡◌, refl, ap, ◌∙◌}
-use Prim.Native.Nat.{◌≤◌, ◌-◌, ◌+◌}
-use native.Mathlib.Omega.{arith}
-use lib.ListN.{length, length-set, take, set, get_or}
-use lib.Seq.{sets, take_all}
-use Rattle.text.proofs.Puts.{sets_next}
+use mathlib.Core.Path.{◌≡◌}
+use Prim.Native.Nat.{◌≤◌, ◌-◌}
+use lib.ListN.{length, take}
+use lib.Seq.{sets}
 use Rattle.text.proofs.put.Given as goal
 
 abbrev pub invariant-loop-i : goal.invariant-loop-i

@@ -1,5 +1,4 @@
 -- `text::put_integer` meets its contract: by the sign, what is written is `-` and the magnitude, or the magnitude alone. Assumes nothing.
-use borrow.Author.Rules.{rules}
 use mathlib.Core.List.{◌∷◌}
 use mathlib.Core.Path.{ap, subst, ◌∙◌}
 use lib.IntN.{nat_abs}

@@ -1,13 +1,9 @@
 -- `text::put_number` meets its contract. Assumes nothing.
-use borrow.Author.Rules.{rules}
 use native.Mathlib.Omega.{arith}
 use lib.Dec.{lit≤}
 use Rattle.text.specs.Inner.{number_bytes}
 use Rattle.text.proofs.Decimals.{decimal_le}
 use Rattle.text.proofs.Puts.{widen}
-use Rattle.text.proofs.put_number.Reads as reads
-use Rattle.text.proofs.put_number.Lts as lts
-use Rattle.text.proofs.put_decimal.Reads as put-decimal-reads
 use Rattle.text.proofs.put_number.Goals as goal
 
 pub put_decimal-requires : goal.put_decimal-requires

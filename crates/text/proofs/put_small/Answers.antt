@@ -1,5 +1,4 @@
 -- `text::put_small` meets its contract. Assumes nothing.
-use borrow.Author.Rules.{rules}
 use native.Mathlib.Omega.{arith}
 use Rattle.text.proofs.Decimals.{decimal_one, decimal_two, digits_one, digits_two}
 use Rattle.text.proofs.Puts.{put_as}

@@ -1,0 +1,7 @@
+-- `sheet_lines::put_field` meets its contract. Assumes nothing.
+use Rattle.text.proofs.Puts.{then}
+use Rattle.sheet_lines.proofs.put_field.Goals as goal
+
+pub returns : goal.returns
+returns c =
+    then c.put_number-a.ensures c.put_byte.ensures
