@@ -239,13 +239,13 @@ def convert(text, fn, crate, module):
         out_ans.append("\n".join(comment + [f"pub {new} : goal.{new}"] + unf + [f"{new} {args} ={b}"]))
     out_help = []
     for h in helpers:
+        h = re.sub(r"(tie\." + ID + r")((?: (?:invariant|decreases)[-_]" + ID + r")+)", r"\1", h)
         roots = {}
         for m in re.finditer(r"\((" + ID + r")\s*:\s*tie\.(" + ID + r")\)", h):
             roots[m.group(1)] = (norm(m.group(2)), m.group(1))
         # equations name their own parameters
         b = Body(fn, "\0", "Start")
         b.vars.update(roots)
-        h = re.sub(r"(tie\." + ID + r")((?: (?:invariant|decreases)[-_]" + ID + r")+)", r"\1", h)
         m = re.search(r":\s*(?:[^\n]*?)tie\.", h)
         if m and not roots:
             types = re.findall(r"tie\.(" + ID + r")", h.split("\n")[0])
@@ -260,6 +260,7 @@ def convert(text, fn, crate, module):
 
 def negated(text):
     """`ap not (sym e) ∙ c.if-not-x.true` as `ap not (sym e ∙ c.if-not-x.true)`: the test of `!x` now speaks of x."""
+    text = re.sub(r"\bnot[-_](?:true|false) [\w.-]+ (c\.if-not-[\w-]+\.(?:true|false))", r"\1", text)
     i = 0
     while (k := text.find("ap not (sym ", i)) >= 0:
         j, depth = k + len("ap not "), 0

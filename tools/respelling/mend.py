@@ -26,6 +26,46 @@ def part(kind, path, fields):
     return (k, rest) if k < len(fields) else None
 
 
+def parts_of(text, i):
+    """The parts of the tuple that opens at i, and where it ends."""
+    depth, start, got = 0, i + 1, []
+    for j in range(i, len(text)):
+        ch = text[j]
+        depth += {"(": 1, "[": 1, "{": 1, ")": -1, "]": -1, "}": -1}.get(ch, 0)
+        if depth == 0 or (depth == 1 and ch == ","):
+            got.append(text[start:j])
+            start = j + 1
+        if depth == 0:
+            return ([g for g in got if g.strip()], j + 1)
+    return None
+
+
+def records(path, es):
+    """Turns tuples that are to be records of clauses; they are told by place."""
+    text = open(path).read()
+    at, n = [0], 0
+    for l in text.split("\n"):
+        at.append(at[-1] + len(l) + 1)
+    for ln, col, goal, ext in sorted(es, reverse=True):
+        m = re.search(r"is built with `record \{ (.*?) \}`, not as a tuple", ext)
+        i = at[ln - 1] + col - 1
+        if not m or text[i] != "(":
+            continue
+        names = re.findall(r"([\w-]+) = …", m.group(1))
+        got = parts_of(text, i)
+        while got and len(got[0]) < len(names):
+            last = got[0][-1].strip()
+            more = parts_of(last, 0) if last.startswith("(") else None
+            if not more or more[1] != len(last) or len(more[0]) < 2:
+                break
+            got = (got[0][:-1] + more[0], got[1])
+        if got and len(got[0]) == len(names):
+            text = text[:i] + "record { " + "; ".join(f"{a} = {b.strip()}" for a, b in zip(names, got[0])) + " }" + text[got[1] :]
+            n += 1
+    open(path, "w").write(text)
+    return n
+
+
 def main():
     crate, said = sys.argv[1:3]
     out = open(said).read().split("\n")
@@ -40,6 +80,10 @@ def main():
     for f, es in by.items():
         p = f"crates/{crate}/{f}"
         if not os.path.exists(p):
+            continue
+        got = records(p, es)
+        if got:
+            n += got
             continue
         lines = open(p).read().split("\n")
         was = list(lines)
@@ -56,6 +100,12 @@ def main():
                         lines[ln - 1] = line[: mm.start()] + f".{mm.group(1)}." + ".".join([fields[got[0]]] + got[1]) + line[mm.end() :]
                         n += 1
                     break
+                continue
+            m = re.search(r"record `\S+\.Lts\.Start` has no field `before`", ext)
+            if m:
+                new = re.sub(r"(?<![\w.])(\w+)(?:\.before)+(?![\w.])", rf"(goal.at-{goal} \1).Start", line)
+                n += new != line
+                lines[ln - 1] = new
                 continue
             m = re.search(r"has no field `([\w-]+)` \(nearest: \.([\w-]+)", ext)
             if m and m.group(1).replace("-", "_") == m.group(2).replace("-", "_"):

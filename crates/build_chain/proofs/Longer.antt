@@ -25,8 +25,8 @@ pub chain_longer : (rows : List Row) (v gap : ℕ) (s : DigitString) → length 
 unfolding chain_from
 chain_longer rows v gap [] = le_refl (length rows)
 chain_longer rows v gap (nought ∷ s) = chain_longer rows v (suc gap) s
-chain_longer rows v gap (one ∷ s) = le_trans (step_longer rows v gap plus (2 ^ gap * v + 1)) (chain_longer _ (2 ^ gap * v + 1) 1 s)
-chain_longer rows v gap (minus_one ∷ s) = le_trans (step_longer rows v gap minus (2 ^ gap * v - 1)) (chain_longer _ (2 ^ gap * v - 1) 1 s)
+chain_longer rows v gap (one ∷ s) = le_trans (step_longer rows v gap plus (2 ^ gap * v + 1)) (chain_longer (chain_step rows v gap plus (2 ^ gap * v + 1)) (2 ^ gap * v + 1) 1 s)
+chain_longer rows v gap (minus_one ∷ s) = le_trans (step_longer rows v gap minus (2 ^ gap * v - 1)) (chain_longer (chain_step rows v gap minus (2 ^ gap * v - 1)) (2 ^ gap * v - 1) 1 s)
 
 pub down_longer : (rows : List Row) (s : DigitString) → length rows ≤ length (chain_down rows s)
 unfolding chain_down

@@ -12,7 +12,7 @@ use Rattle.signed_digit.specs.Forms.{listing}
 use Rattle.coefficient.specs.Parts.{Parts, parts, parts_of}
 use Rattle.network.specs.declared.Row.{Row}
 use Rattle.network.specs.Rows.{tap_row_in, no_tap, first_row_of}
-use Rattle.network.specs.Coefficients.{coefficient_of, coefficients}
+use Rattle.network.specs.Coefficients.{coefficient_of}
 use Rattle.network.specs.TapRowRule.{TapRowRule}
 use Rattle.network.specs.Check.{checked}
 use Rattle.network.specs.Accepted.{KeepsRules}

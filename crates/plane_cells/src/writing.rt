@@ -12,9 +12,9 @@ use plane_words::{clear, write_cell};
 
 // One cell more in both tables, which have nothing from cell c on.
 fn add_form(form: Form, c: usize, plus: &mut [u64], minus: &mut [u64])
-    requires c_bound { (c < 256) × (128 ≤ length plus.old) × (128 ≤ length minus.old) }
-    requires by_index { (p : ℕ) → p < 32 → get_or plus.old (4 * p + c / 64) 0 < 2 ^ (c % 64) }
-    requires by_index_2 { (p : ℕ) → p < 32 → get_or minus.old (4 * p + c / 64) 0 < 2 ^ (c % 64) }
+    requires bounds { (c < 256) × (128 ≤ length plus.old) × (128 ≤ length minus.old) }
+    requires plus_free { (p : ℕ) → p < 32 → get_or plus.old (4 * p + c / 64) 0 < 2 ^ (c % 64) }
+    requires minus_free { (p : ℕ) → p < 32 → get_or minus.old (4 * p + c / 64) 0 < 2 ^ (c % 64) }
     ensures plus { plus.new ≡ with_cell form.plus c plus.old }
     ensures minus { minus.new ≡ with_cell form.minus c minus.old }
 {
@@ -30,9 +30,9 @@ fn add_cells(
     plus: &mut [u64],
     minus: &mut [u64],
 )
-    requires cells_bound { (cells ≤ 256) × (cells ≤ length coefficients.now) × (cells ≤ length choices.now) }
-    requires by_index { (c : ℕ) → c < cells → HasForm coefficients.now choices.now c }
-    requires plus_value { (plus.old ≡ plane_words_of [] ++ drop 128 plus.old) × (minus.old ≡ plane_words_of [] ++ drop 128 minus.old) }
+    requires sizes { (cells ≤ 256) × (cells ≤ length coefficients.now) × (cells ≤ length choices.now) }
+    requires have_forms { (c : ℕ) → c < cells → HasForm coefficients.now choices.now c }
+    requires empty { (plus.old ≡ plane_words_of [] ++ drop 128 plus.old) × (minus.old ≡ plane_words_of [] ++ drop 128 minus.old) }
     ensures plus { plus.new
         ≡ plane_words_of (map plus_mask (chosen_forms cells coefficients.now choices.now)) ++ drop 128 plus.old }
     ensures minus { minus.new
@@ -53,9 +53,9 @@ pub fn write_cells(
     plus: &mut [u64],
     minus: &mut [u64],
 )
-    requires cells_bound { (cells ≤ 256) × (cells ≤ length coefficients.now) × (cells ≤ length choices.now) }
-    requires by_index { (c : ℕ) → c < cells → HasForm coefficients.now choices.now c }
-    requires in_bounds { (128 ≤ length plus.old) × (128 ≤ length minus.old) }
+    requires sizes { (cells ≤ 256) × (cells ≤ length coefficients.now) × (cells ≤ length choices.now) }
+    requires have_forms { (c : ℕ) → c < cells → HasForm coefficients.now choices.now c }
+    requires room { (128 ≤ length plus.old) × (128 ≤ length minus.old) }
     ensures plus { plus.new
         ≡ plane_words_of (map plus_mask (chosen_forms cells coefficients.now choices.now)) ++ drop 128 plus.old }
     ensures minus { minus.new

@@ -17,24 +17,15 @@ use Rattle.build_index.specs.Inner.{value_at}
 use Rattle.build_pair.specs.Inner.{fit_of}
 use Rattle.build_pair.proofs.Shifts.{Trying, lifted_at, few_shifts, try_next, left_none, left_first, fit_none, fit_first}
 use Rattle.build_pair.proofs.Lefts.{sifting, turn_none, left_turns_none}
-use Rattle.build_pair.proofs.first_fit.Goals.{At-loop-a, At-search, In-loop-a, Start}
+use Rattle.build_pair.proofs.first_fit.Goals.{At-loop-a, In-loop-a}
 use Rattle.build_pair.proofs.first_fit.Goals as goal
 
--- the places on the way
-abbrev start : At-search → Start
-start c = (goal.at-start c).Start
-
-abbrev at_search : At-loop-a → At-search
-at_search c = (goal.at-at_search c).At-search
-
 -- in the loops: the left row is one of the rows, and 2^s·left is below 2^32
-left_within : (c : At-loop-a) → c.before.before.before.narrow2.result < (start (at_search c)).args.n
-left_within c =
-    let after-narrow = c.before.before.before in
-    omega (arith, after-narrow.narrow2.ensures)
+left_within : (c : At-loop-a) → c.narrow-left.result < c.args.n
+left_within c = omega (arith, c.narrow-left.ensures, c.if-i-n.false)
 
-below_word : (c : In-loop-a) → c.before.loop.a < 2 ^ 32
-below_word c = let s = start (at_search c.before) in omega (arith, c.loop-test.true, s.pre.0.small, s.pre.0.new_small)
+below_word : (c : In-loop-a) → c.loop-a.a < 2 ^ 32
+below_word c = omega (arith, c.loop-a-test.true, c.requires.0.small, c.requires.0.new_small)
 
 pub overflow_add-limit : goal.overflow_add-limit
 overflow_add-limit c =
@@ -63,13 +54,11 @@ search-init c =
 
 pub narrow-left-requires : goal.narrow-left-requires
 narrow-left-requires c =
-    let at_start = start (goal.at-narrow-left-requires c).At-search in
-    omega (arith, at_start.pre.0.index.few)
+    omega (arith, c.requires.0.index.few)
 
 pub read_value-value-requires : goal.read_value-value-requires
 read_value-value-requires c =
-    let at_start = start (goal.at-read_value-value-requires c).At-search in
-    omega (arith, at_start.pre.0.index.room)
+    omega (arith, c.requires.0.index.room)
 
 pub overflow_cast-a : goal.overflow_cast-a
 overflow_cast-a c = omega (arith, c.search.invariant.3)
@@ -81,7 +70,7 @@ pub loop-a-init : goal.loop-a-init
 loop-a-init c =
     let value = c.read_value-value in
     let left = c.narrow-left in
-    let args = (start (goal.at-loop-a-init c).At-search).args in
+    let args = c.args in
     let inv = c.search.invariant in
     record {
       from = inv.2;
@@ -93,8 +82,7 @@ loop-a-init c =
 
 pub at_shift-requires : goal.at_shift-requires
 at_shift-requires c =
-    let at_start = start (at_search (goal.at-at_shift-requires c).At-loop-a) in
-    (at_start.pre.0, record { within = left_within (goal.at-at_shift-requires c).At-loop-a; is_lifted = c.loop-a.invariant.is_lifted; low = omega (arith, at_start.pre.0.small, at_start.pre.0.new_small) })
+    (c.requires.0, record { within = left_within (goal.at-at_shift-requires c).At-loop-a; is_lifted = c.loop-a.invariant.is_lifted; low = omega (arith, c.requires.0.small, c.requires.0.new_small) })
 
 pub overflow_mul-a : goal.overflow_mul-a
 overflow_mul-a c =
@@ -106,27 +94,23 @@ overflow_add-s c =
 
 pub loop-a-smaller : goal.loop-a-smaller
 loop-a-smaller c =
-    let at_start = start (at_search (goal.at-loop-a-smaller c).At-loop-a) in
-    let args = at_start.args in
-    omega (arith, few_shifts args.table.now args.heads.now args.links.now args.n args.most args.v at_start.pre.0 c.narrow-left.result (left_within (goal.at-loop-a-smaller c).At-loop-a) c.loop-a.s c.loop-a.a c.loop-a.invariant (below_word (goal.at-loop-a-smaller c).In-loop-a))
+    let args = c.args in
+    omega (arith, few_shifts args.table.now args.heads.now args.links.now args.n args.most args.v c.requires.0 c.narrow-left.result (left_within (goal.at-loop-a-smaller c).At-loop-a) c.loop-a.s c.loop-a.a c.loop-a.invariant (below_word (goal.at-loop-a-smaller c).In-loop-a))
 
 pub loop-a-preserved : goal.loop-a-preserved
 loop-a-preserved c =
-    let at_start = start (at_search (goal.at-loop-a-preserved c).At-loop-a) in
-    let args = at_start.args in
-    try_next args.table.now args.heads.now args.links.now args.n args.most args.v at_start.pre.0 c.narrow-left.result (left_within (goal.at-loop-a-preserved c).At-loop-a) c.loop-a.s c.loop-a.a c.loop-a.invariant (below_word (goal.at-loop-a-preserved c).In-loop-a)
+    let args = c.args in
+    try_next args.table.now args.heads.now args.links.now args.n args.most args.v c.requires.0 c.narrow-left.result (left_within (goal.at-loop-a-preserved c).At-loop-a) c.loop-a.s c.loop-a.a c.loop-a.invariant (below_word (goal.at-loop-a-preserved c).In-loop-a)
     (sym c.at_shift.ensures ∙ ap fit_of c.in-NoneFits.is)
 
 pub search-preserved : goal.search-preserved
 search-preserved c =
-    let r = at_search (goal.at-search-preserved c).At-loop-a in
-    let at_start = start r in
-    let args = at_start.args in
+    let args = c.args in
     let left = c.narrow-left in (
       omega arith,
-      below_more (λ k. fit_at_left (rows_of args.table.now args.n) args.v k ≡ none_fits) r.search.i r.search.inv.1
+      below_more (λ k. fit_at_left (rows_of args.table.now args.n) args.v k ≡ none_fits) c.search.i c.search.invariant.1
           (ap (fit_at_left (rows_of args.table.now args.n) args.v) (sym left.ensures)
-          ∙ left_none args.table.now args.heads.now args.links.now args.n args.most args.v at_start.pre.0 left.result (left_within (goal.at-search-preserved c).At-loop-a) c.loop-a.s c.loop-a.a c.loop-a.invariant (omega (arith, c.loop-a-test.false))),
+          ∙ left_none args.table.now args.heads.now args.links.now args.n args.most args.v c.requires.0 left.result (left_within (goal.at-search-preserved c).At-loop-a) c.loop-a.s c.loop-a.a c.loop-a.invariant (omega (arith, c.loop-a-test.false))),
       omega arith,
       omega arith,
       λ k l. absurd (omega arith),
@@ -134,19 +118,16 @@ search-preserved c =
 
 pub returns-then-i-n : goal.returns-then-i-n
 returns-then-i-n c =
-    let at_start = start (goal.at-returns-then-i-n c).At-search in
-    let args = at_start.args in
+    let args = c.args in
     sym (fit_none args.table.now args.n args.v c.search.i c.search.invariant.1 c.if-i-n.true)
 
 pub returns-in-Fits : goal.returns-in-Fits
 returns-in-Fits c =
-    let r = at_search (goal.at-returns-in-Fits c).At-loop-a in
-    let at_start = start r in
-    let args = at_start.args in
+    let args = c.args in
     let left = c.narrow-left in
     let row = c.in-Fits.row in
     sym
-    (fit_first args.table.now args.n args.v r.search.i r.search.inv.1 row (omega arith)
+    (fit_first args.table.now args.n args.v c.search.i c.search.invariant.1 row (omega arith)
     (ap (fit_at_left (rows_of args.table.now args.n) args.v) (sym left.ensures)
-    ∙ left_first args.table.now args.heads.now args.links.now args.n args.most args.v at_start.pre.0 left.result (left_within (goal.at-returns-in-Fits c).At-loop-a) c.loop-a.s c.loop-a.a c.loop-a.invariant (below_word (goal.at-returns-in-Fits c).In-loop-a) row
+    ∙ left_first args.table.now args.heads.now args.links.now args.n args.most args.v c.requires.0 left.result (left_within (goal.at-returns-in-Fits c).At-loop-a) c.loop-a.s c.loop-a.a c.loop-a.invariant (below_word (goal.at-returns-in-Fits c).In-loop-a) row
     (sym c.at_shift.ensures ∙ ap fit_of c.in-Fits.is)))

@@ -1,5 +1,4 @@
 -- `coefficient::reduce` meets its contract. Assumes nothing.
-use borrow.Author.Rules.{rules}
 use Rattle.word.proofs.Zero.{zero_word}
 use Rattle.coefficient.specs.Parts.{parts_of}
 use Rattle.coefficient.proofs.Words.{places_32, parts_32}

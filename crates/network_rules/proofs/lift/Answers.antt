@@ -4,7 +4,6 @@ use native.Mathlib.Nat.{mul_comm, lt_of_lt_of_le}
 use lib.Pow.{shl_exact, shl_lt, pow_mono}
 use mathlib.Core.Path.{◌≡◌, ap, ◌∙◌}
 use native.Mathlib.Omega.{arith}
-use borrow.Author.Rules.{rules}
 use Rattle.network_rules.proofs.lift.Goals as goal
 
 pub returns : goal.returns

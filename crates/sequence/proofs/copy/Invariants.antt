@@ -1,17 +1,11 @@
 -- `sequence::copy` meets its contract. The invariant of its loop: the first `i` elements of `to` are those of `from`, and the rest are as they were.
 -- The measure is `n - i`. Assumes nothing.
-use borrow.Author.Rules.{rules}
-use mathlib.Core.Path.{◌≡◌, refl, sym, ap, ◌∙◌}
-use mathlib.Core.List.{List, ◌++◌}
+use mathlib.Core.Path.{◌≡◌}
+use mathlib.Core.List.{List}
 use Prim.Native.Nat.{ℕ, ◌-◌, ◌≤◌}
-use native.Mathlib.Omega.{arith}
 use lib.IntN.{ℤ, pos}
-use lib.ListN.{length, length-set, drop, set, get_or}
-use mir.Syntax.{w32}
-use mir.ValLaws.{to_z-of_z}
+use lib.ListN.{length, get_or}
 use Rattle.sequence.specs.Inner.{front}
-use Rattle.sequence.proofs.UpTo.{up_to_take}
-use Rattle.sequence.proofs.Front.{front_start, front_next}
 use Rattle.sequence.proofs.copy.Given as goal
 
 -- what stands at each place

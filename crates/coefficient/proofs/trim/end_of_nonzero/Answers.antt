@@ -1,11 +1,11 @@
 -- `coefficient::end_of_nonzero` meets its contract. The invariant of its loop: the last nonzero of the coefficients before `end` is the last of all, since
 -- those from `end` on are zero. The measure is `end`. Assumes nothing.
 use mathlib.Core.Path.{◌≡◌, sym, ap, ◌∙◌}
-use Prim.Native.Nat.{◌-◌, ◌≤◌}
+use Prim.Native.Nat.{◌-◌}
 use borrow.Author.Rules.{rules}
 use native.Mathlib.Omega.{arith}
 use lib.IntN.{pos}
-use lib.ListN.{length, take, get_or}
+use lib.ListN.{get_or}
 use lib.Seq.{take-length}
 use Rattle.word.proofs.Zero.{zero_word, nonzero_word}
 use Rattle.coefficient.specs.Stretch.{end_of}

@@ -1,15 +1,9 @@
 -- `coefficient::end_of_nonzero` meets its contract. The invariant of its loop: the last nonzero of the coefficients before `end` is the last of all, since
 -- those from `end` on are zero. The measure is `end`. Assumes nothing.
-use mathlib.Core.Path.{◌≡◌, sym, ap, ◌∙◌}
-use Prim.Native.Nat.{◌-◌, ◌≤◌}
-use borrow.Author.Rules.{rules}
-use native.Mathlib.Omega.{arith}
-use lib.IntN.{pos}
-use lib.ListN.{length, take, get_or}
-use lib.Seq.{take-length}
-use Rattle.word.proofs.Zero.{zero_word, nonzero_word}
+use mathlib.Core.Path.{◌≡◌}
+use Prim.Native.Nat.{◌≤◌}
+use lib.ListN.{length, take}
 use Rattle.coefficient.specs.Stretch.{end_of}
-use Rattle.coefficient.proofs.Scans.{end_earlier, end_here, end_none}
 use Rattle.coefficient.proofs.trim.end_of_nonzero.Given as goal
 
 abbrev pub invariant-loop-end : goal.invariant-loop-end

@@ -1,13 +1,9 @@
 -- `coefficient::first_nonzero` meets its contract. The invariant of its loop: the first nonzero of the coefficients from `i` on is the first of all, since
 -- those passed are zero. The measure is the number of coefficients still to come. Assumes nothing.
-use mathlib.Core.Path.{◌≡◌, refl, sym, ◌∙◌}
+use mathlib.Core.Path.{◌≡◌}
 use Prim.Native.Nat.{◌-◌, ◌≤◌}
-use borrow.Author.Rules.{rules}
-use lib.IntN.{pos}
-use lib.ListN.{length, drop, get_or}
-use Rattle.word.proofs.Zero.{zero_word, nonzero_word}
+use lib.ListN.{length, drop}
 use Rattle.coefficient.specs.Stretch.{first_from, start_of}
-use Rattle.coefficient.proofs.Scans.{first_later, first_here, first_none}
 use Rattle.coefficient.proofs.trim.first_nonzero.Given as goal
 
 abbrev pub invariant-loop-i : goal.invariant-loop-i

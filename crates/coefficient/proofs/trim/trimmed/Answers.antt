@@ -1,5 +1,4 @@
 -- `coefficient::trimmed` meets its contract: the places found are in order and within the slice. Assumes nothing.
-use borrow.Author.Rules.{rules}
 use mathlib.Core.Path.{ap, ap₂}
 use native.Mathlib.Omega.{arith}
 use Rattle.coefficient.specs.Stretch.{stretch, further}

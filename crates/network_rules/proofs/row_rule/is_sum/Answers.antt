@@ -1,5 +1,4 @@
 -- `network_rules::row_rule::is_sum` meets its contract. Assumes nothing.
-use borrow.Author.Rules.{rules}
 use Rattle.network_rules.proofs.SumTests.{sum_tests}
 use Rattle.network_rules.proofs.row_rule.is_sum.Goals as goal
 

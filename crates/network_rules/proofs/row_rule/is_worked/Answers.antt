@@ -1,5 +1,4 @@
 -- `network_rules::row_rule::is_worked` meets its contract: a number is the sum of two others where all three add up to twice the number. Assumes nothing.
-use borrow.Author.Rules.{rules}
 use mathlib.Core.Path.{ap, ◌∙◌}
 use Prim.Native.Nat.{◌+◌}
 use native.Mathlib.Omega.{arith}

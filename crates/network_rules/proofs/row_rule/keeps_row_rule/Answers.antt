@@ -4,7 +4,6 @@ use Rattle.network.proofs.RowTests.{row_first, row_left, row_right_lem, row_sum}
 use Prim.Native.Nat.{ℕ}
 use mathlib.Core.Path.{ap, ◌∙◌}
 use native.Mathlib.Omega.{arith}
-use borrow.Author.Rules.{rules}
 use Rattle.network_rules.proofs.row_rule.keeps_row_rule.Goals as goal
 
 pub returns-then-i-eq0 : goal.returns-then-i-eq0

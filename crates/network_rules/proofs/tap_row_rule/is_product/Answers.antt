@@ -1,5 +1,4 @@
 -- `network_rules::tap_row_rule::is_product` meets its contract. Assumes nothing.
-use borrow.Author.Rules.{rules}
 use mathlib.Core.Path.{◌≡◌, ap₂}
 use Prim.Native.Nat.{ℕ, ◌+◌, ◌-◌}
 use Rattle.network.specs.Rows.{minus}

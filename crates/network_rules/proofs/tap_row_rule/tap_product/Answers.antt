@@ -17,7 +17,6 @@ use mir.Syntax.{w32}
 use mir.ValLaws.{to_z-of_z}
 use mathlib.Core.Path.{◌≡◌, sym, ap, ◌∙◌}
 use native.Mathlib.Omega.{arith}
-use borrow.Author.Rules.{rules}
 use Rattle.network_rules.proofs.tap_row_rule.tap_product.Goals.{After-is_product}
 use Rattle.network_rules.proofs.tap_row_rule.tap_product.Goals as goal
 
