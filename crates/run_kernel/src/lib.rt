@@ -41,9 +41,9 @@ fn by_fours(h: &[i32; 256], w: usize, samples: &[i16], registers: &mut [u64], ou
     requires { ((length h.now ≡ 256) × ((256 ≤ length registers.old) × (length samples.now ≤ length outputs.old)))
         × ((4 ≤ length samples.now) × ((w ≤ 256) × (ZeroFrom w h.now registers.old))) }
     ensures zero_from { ZeroFrom w h.now registers.new }
-    ensures samples_after { registers_of h.now registers.new (drop (fourfold (length samples.now)) samples.now)
+    ensures registers_after { registers_of h.now registers.new (drop (fourfold (length samples.now)) samples.now)
         ≡ registers_of h.now registers.old samples.now }
-    ensures samples_after_2 { sets outputs.new (fourfold (length samples.now))
+    ensures outputs_after { sets outputs.new (fourfold (length samples.now))
         (outputs_of h.now registers.new (drop (fourfold (length samples.now)) samples.now))
         ≡ sets outputs.old 0 (outputs_of h.now registers.old samples.now) }
 {

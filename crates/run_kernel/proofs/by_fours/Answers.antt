@@ -21,4 +21,4 @@ returns c =
     let zero_from = subst (λ g. ZeroFrom args.w g r) (sym c.fill_coefficients.ensures.1.0) c.requires.1.1.1 in
     let p = passed_same c.fill_coefficients.ensures.1.0 (c.fours-bias.ensures r c.requires.0.1.0 zero_from c.raise.ensures.raised) in
     let e = lowered_to c.requires.0.0 c.requires.0.1.0 c.requires.1.1.0 (omega (arith, c.requires.1.0)) c.requires.1.1.1 p _ c.lower.ensures in
-    record { zero_from = passed_zero_from p e; samples_after = passed_registers p e; samples_after_2 = passed_outputs p e }
+    record { zero_from = passed_zero_from p e; registers_after = passed_registers p e; outputs_after = passed_outputs p e }

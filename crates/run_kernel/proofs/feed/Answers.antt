@@ -18,4 +18,4 @@ singly-requires-2 c =
 pub returns : goal.returns
 returns c =
     let singly2 = c.singly-2 in
-    let args = c.args in record { registers_after = singly2.ensures.registers_after ∙ c.by_fours.ensures.samples_after; outputs_after = singly2.ensures.outputs_after ∙ c.by_fours.ensures.samples_after_2 ∙ all_outputs args.h.now args.samples.now args.registers.now args.outputs.now c.requires.1.1 }
+    let args = c.args in record { registers_after = singly2.ensures.registers_after ∙ c.by_fours.ensures.registers_after; outputs_after = singly2.ensures.outputs_after ∙ c.by_fours.ensures.outputs_after ∙ all_outputs args.h.now args.samples.now args.registers.now args.outputs.now c.requires.1.1 }
