@@ -53,6 +53,12 @@ def records(path, es):
             continue
         names = re.findall(r"([\w-]+) = …", m.group(1))
         got = parts_of(text, i)
+        while got and len(got[0]) < len(names):
+            last = got[0][-1].strip()
+            more = parts_of(last, 0) if last.startswith("(") else None
+            if not more or more[1] != len(last) or len(more[0]) < 2:
+                break
+            got = (got[0][:-1] + more[0], got[1])
         if got and len(got[0]) == len(names):
             text = text[:i] + "record { " + "; ".join(f"{a} = {b.strip()}" for a, b in zip(names, got[0])) + " }" + text[got[1] :]
             n += 1

@@ -1,7 +1,8 @@
 -- `bench_second::form::least` meets its contract. The invariant: the least weights of the number made of the bits passed, and of the next, are those of the recurrence. The measure is the bit, which is halved. Assumes nothing.
-use Rattle.std.proofs.Common.{◌^◌, ◌≤◌, refl, ◌∙◌, ⊎_elim, arith, rules}
+use Rattle.std.proofs.Common.{refl, ◌∙◌, arith, rules}
 use Rattle.bench_second.specs.Inner.{least_both}
-use Rattle.bench_second.proofs.Least.{Walked, walked_by, room, walked_even, walked_odd, walked_all}
+use Rattle.bench_second.proofs.Least.{walked_by, room, walked_even, walked_odd, walked_all}
+use Rattle.bench_second.proofs.form.least.Goals.{then-magnitude-bit-eq0, else-magnitude-bit-eq0}
 use Rattle.bench_second.proofs.form.least.Goals as goal
 
 pub loop-bit-init : goal.loop-bit-init
@@ -21,10 +22,10 @@ loop-bit-preserved c =
     let w = c.loop-bit.invariant.1 in
     let loop-test-taken = c.loop-bit-test.true in (
       search rules,
-      ⊎_elim
-          (λ a. walked_by (walked_even magnitude c.loop-bit.bit h x w loop-test-taken a.0.taken) c.if-magnitude-bit-eq0.here c.if-magnitude-bit-eq0.next a.1 (a.2 ∙ of-odd.ensures))
-          (λ a. walked_by (walked_odd magnitude c.loop-bit.bit h x w loop-test-taken a.0.left) c.if-magnitude-bit-eq0.here c.if-magnitude-bit-eq0.next (a.1 ∙ of-odd.ensures) a.2)
-          c.if-magnitude-bit-eq0.branch,
+      elim c.if-magnitude-bit-eq0.branch [
+        | then-magnitude-bit-eq0 a ↦ walked_by (walked_even magnitude c.loop-bit.bit h x w loop-test-taken a.if-magnitude-bit-eq0.true) c.if-magnitude-bit-eq0.here c.if-magnitude-bit-eq0.next a.here-is (a.next-is ∙ of-odd.ensures)
+        | else-magnitude-bit-eq0 a ↦ walked_by (walked_odd magnitude c.loop-bit.bit h x w loop-test-taken a.if-magnitude-bit-eq0.false) c.if-magnitude-bit-eq0.here c.if-magnitude-bit-eq0.next (a.here-is ∙ of-odd.ensures) a.next-is
+      ],
     )
 
 pub returns : goal.returns

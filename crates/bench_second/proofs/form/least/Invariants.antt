@@ -1,7 +1,6 @@
 -- `bench_second::form::least` meets its contract. The invariant: the least weights of the number made of the bits passed, and of the next, are those of the recurrence. The measure is the bit, which is halved. Assumes nothing.
-use Rattle.std.proofs.Common.{◌^◌, ◌≤◌, refl, ◌∙◌, ⊎_elim, arith, rules}
-use Rattle.bench_second.specs.Inner.{least_both}
-use Rattle.bench_second.proofs.Least.{Walked, walked_by, room, walked_even, walked_odd, walked_all}
+use Rattle.std.proofs.Common.{◌^◌, ◌≤◌}
+use Rattle.bench_second.proofs.Least.{Walked}
 use Rattle.bench_second.proofs.form.least.Given as goal
 
 abbrev pub invariant-loop-bit : goal.invariant-loop-bit

@@ -1,5 +1,5 @@
 -- `bench_second::form::of_odd` meets its contract. Assumes nothing.
-use Rattle.std.proofs.Common.{sym, rules}
+use Rattle.std.proofs.Common.{sym}
 use Rattle.bench_second.proofs.Least.{odd_less, odd_more, odd_same}
 use Rattle.bench_second.proofs.form.of_odd.Goals as goal
 

@@ -1,6 +1,5 @@
 -- `bench_second::tap::largest_leftover` meets its contract. The invariant: where there are no taps, the largest leftover is +0. The measure is the number of taps left. Assumes nothing.
-use Rattle.std.proofs.Common.{◌≡◌, ◌-◌, ◌≤◌, [], length, ap, arith, rules}
-use Rattle.bench_second.specs.Inner.{nought}
+use Rattle.std.proofs.Common.{length, ap, arith, rules}
 use Rattle.bench_second.proofs.Nought.{zero_is}
 use Rattle.bench_second.proofs.tap.largest_leftover.Goals as goal
 

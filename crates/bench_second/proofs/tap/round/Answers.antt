@@ -1,5 +1,5 @@
 -- `bench_second::tap::round` meets its contract. Each return is a case of the relation: a refusal where its test is taken, and an N within the bounds where none is. Assumes nothing.
-use Rattle.std.proofs.Common.{refl, arith, rules}
+use Rattle.std.proofs.Common.{refl, arith}
 use Rattle.bench_second.proofs.Finite.{not_finite, is_finite_lem}
 use Rattle.bench_second.proofs.Rounded.{refused_4, refused_5, refused_6, given}
 use Rattle.bench_second.proofs.tap.round.Goals as goal

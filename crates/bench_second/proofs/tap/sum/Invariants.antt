@@ -1,9 +1,8 @@
 -- `bench_second::tap::sum` meets its contract. The invariant: what is left of the taps, added to the sum so far, is the whole sum. The measure is the number of taps left. Assumes nothing.
-use Rattle.std.proofs.Common.{◌≡◌, ℕ, ◌+◌, ◌-◌, ◌<◌, ◌≤◌, List, length, get_or, drop, sym, ap, ◌∙◌, add-one, arith, drop_of_length-le, drop-cons, rules}
+use Rattle.std.proofs.Common.{◌≡◌, ◌-◌, ◌≤◌, List, length, drop}
 use mathlib.Core.List.{foldl}
-use lib.Ieee.{Float, nan, binary64, add}
+use lib.Ieee.{Float, binary64, add}
 use Rattle.bench_second.specs.Inner.{nought}
-use Rattle.bench_second.proofs.Nought.{zero_is}
 use Rattle.bench_second.proofs.tap.sum.Given as goal
 
 abbrev pub added : Float → List Float → Float
