@@ -59,8 +59,8 @@ fn enter(heads: &mut [u16], links: &mut [u16], n: usize, x: u32)
 // Row n is written and joins the index. No row has its value yet.
 pub fn put(table: &mut [u32], heads: &mut [u16], links: &mut [u16], n: usize, row: Row)
     requires indexed { Indexed table.old heads.old links.old n }
-    requires n_bound { (n < 4096) × (row_words * n + row_words ≤ length table.old) × (n < length links.old) }
-    requires value_value { row_with (rows_of table.old n) row.value ≡ nowhere }
+    requires room { (n < 4096) × (row_words * n + row_words ≤ length table.old) × (n < length links.old) }
+    requires new_value { row_with (rows_of table.old n) row.value ≡ nowhere }
     ensures { Grown table.old table.new heads.new links.new (n + 1)
         (rows_of table.old n ++ (row ∷ [])) }
 {

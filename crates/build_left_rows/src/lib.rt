@@ -48,8 +48,8 @@ fn lower_named(
     sum: bool,
 ) -> usize
     requires indexed { Indexed table.now heads.now links.now n × (m ≤ 32 * n) × ((i : ℕ) → i < n → value_at table.now i % 2 ≡ 1) }
-    requires v_bound { (v < 2 ^ 31) × (0 < v) × ((i : ℕ) → get_or values.now i 0 < 2 ^ 31) × ((i : ℕ) → get_or values.now i 0 ≡ v → ⊥) }
-    requires mask_bound { (mask < 2 ^ 8) × (at + 8 ≤ length values.now) }
+    requires right_rows { (v < 2 ^ 31) × (0 < v) × ((i : ℕ) → get_or values.now i 0 < 2 ^ 31) × ((i : ℕ) → get_or values.now i 0 ≡ v → ⊥) }
+    requires named { (mask < 2 ^ 8) × (at + 8 ≤ length values.now) }
     ensures { (result ≤ m) × ((i : ℕ) → mask / 2 ^ i % 2 ≡ 1 → NoTurn table.now result (number_for sum v (get_or values.now (at + i) 0))) }
 {
     let mut low = m;

@@ -49,7 +49,7 @@ fn first_row(
     requires indexed { Indexed table.old heads.old links.old 0 × HasRoom table.old links.old 1 }
     requires sieve { Sieve table.old values.old marks.old 0 × (8 ≤ length values.old) }
     ensures grown { Grown table.old table.new heads.new links.new 1 (first_row_of ∷ []) }
-    ensures sieve_2 { Sieve table.new values.new marks.new 1 }
+    ensures sieved { Sieve table.new values.new marks.new 1 }
 {
     build_index::put(table, heads, links, 0, network::FIRST);
     build_sieve::extend(table, 0, 1, values, marks);

@@ -37,10 +37,10 @@ pub fn fill_cells(
     sums: &mut [u32; 32],
     differences: &mut [u32; 32],
 )
-    requires shift_bound { (shift < 32) × (v < 2 ^ 31) × (count ≤ 32) × (at + count ≤ length values.now) }
+    requires sizes { (shift < 32) × (v < 2 ^ 31) × (count ≤ 32) × (at + count ≤ length values.now) }
     requires by_index { ((i : ℕ) → get_or values.now i 0 < 2 ^ 31) × (length sums.old ≡ 32) × (length differences.old ≡ 32) }
     ensures cells { Cells values.now at count v shift sums.new differences.new }
-    ensures sums_len { (length sums.new ≡ 32) × (length differences.new ≡ 32) }
+    ensures lengths { (length sums.new ≡ 32) × (length differences.new ≡ 32) }
 {
     let mut j: usize = 0;
     while j < count {

@@ -24,8 +24,8 @@ fn write_network(
     marks: &mut [u8],
 ) -> usize
     requires can_start { CanStart keys.now m choices.now rows.old heads.old links.old values.old marks.old }
-    requires keys_value { map (part_in choices.now) (take m keys.now) ≡ parts_to_build coefficients.now choices.now }
-    requires coefficients_in_bounds { tap_words * length coefficients.now ≤ length taps.old }
+    requires parts_keyed { map (part_in choices.now) (take m keys.now) ≡ parts_to_build coefficients.now choices.now }
+    requires taps_long { tap_words * length coefficients.now ≤ length taps.old }
     ensures { Written coefficients.now choices.now rows.old taps.old
         rows.new taps.new result }
 {
@@ -44,7 +44,7 @@ fn within_64(
     taps: &mut [u32],
 ) -> usize
     requires can_build_into { CanBuildInto coefficients.now choices.now rows.old taps.old × Ordered coefficients.now keys.now m × (m ≤ length keys.now) }
-    requires choices_len_bound { length (built_rows coefficients.now choices.now) ≤ 64 }
+    requires rows_few { length (built_rows coefficients.now choices.now) ≤ 64 }
     ensures { Written coefficients.now choices.now rows.old taps.old
         rows.new taps.new result }
 {
@@ -76,7 +76,7 @@ fn within_512(
     taps: &mut [u32],
 ) -> usize
     requires can_build_into { CanBuildInto coefficients.now choices.now rows.old taps.old × Ordered coefficients.now keys.now m × (m ≤ length keys.now) }
-    requires choices_len_bound { length (built_rows coefficients.now choices.now) ≤ 512 }
+    requires rows_few { length (built_rows coefficients.now choices.now) ≤ 512 }
     ensures { Written coefficients.now choices.now rows.old taps.old
         rows.new taps.new result }
 {
@@ -108,7 +108,7 @@ fn within_3072(
     taps: &mut [u32],
 ) -> usize
     requires can_build_into { CanBuildInto coefficients.now choices.now rows.old taps.old × Ordered coefficients.now keys.now m × (m ≤ length keys.now) }
-    requires choices_len_bound { length (built_rows coefficients.now choices.now) ≤ 3072 }
+    requires rows_few { length (built_rows coefficients.now choices.now) ≤ 3072 }
     ensures { Written coefficients.now choices.now rows.old taps.old
         rows.new taps.new result }
 {
@@ -141,7 +141,7 @@ fn within_3841(
     taps: &mut [u32],
 ) -> usize
     requires can_build_into { CanBuildInto coefficients.now choices.now rows.old taps.old × Ordered coefficients.now keys.now m × (m ≤ length keys.now) }
-    requires choices_len_bound { length (built_rows coefficients.now choices.now) ≤ 3841 }
+    requires rows_few { length (built_rows coefficients.now choices.now) ≤ 3841 }
     ensures { Written coefficients.now choices.now rows.old taps.old
         rows.new taps.new result }
 {

@@ -15,10 +15,9 @@ use Rattle.form_masks.specs.Form.{string_of}
 use Rattle.network.specs.declared.Row.{Row}
 use Rattle.network.specs.Rows.{rows_of}
 use Rattle.build_steps.specs.Chain.{chained}
-use Rattle.build_index.specs.Inner.{HasRoom, Grown}
+use Rattle.build_index.specs.Inner.{HasRoom}
 use Rattle.build_index.proofs.Growth.{grown_none, grown_on}
 use Rattle.build_index.proofs.Room.{same_room}
-use Rattle.build_chain.specs.Inner.{Reading, to_come}
 use Rattle.build_chain.proofs.HighDigits.{chain_none}
 use Rattle.build_chain.proofs.Starts.{some_digit, start_rows, started}
 use Rattle.build_chain.proofs.add_chain.Goals.{After-struct_known-1}

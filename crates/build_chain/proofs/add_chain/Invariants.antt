@@ -2,25 +2,13 @@
 -- the digits still to come give the rows of the whole chain. `turn` reads one nonzero digit and keeps both. The measure is the mask of the nonzero
 -- digits still to come, which loses its highest bit each time. Where none is left, only zeros are still to come, and zeros add no row.
 -- Assumes nothing.
-use mathlib.Core.Path.{◌≡◌, refl, sym, subst, ◌∙◌}
-use mathlib.Core.List.{List}
-use Prim.Native.Nat.{◌^◌, ◌<◌}
-use native.Mathlib.Omega.{arith}
-use lib.ListN.{length, take}
-use native.Mathlib.Nat.{mul-one}
-use lib.Pow.{pow-lt}
-use Rattle.signed_digit.specs.Digit.{nonzero}
-use Rattle.signed_digit.specs.Masks.{mask}
+use mathlib.Core.Path.{◌≡◌}
+use lib.ListN.{length}
 use Rattle.form_masks.specs.Form.{string_of}
-use Rattle.network.specs.declared.Row.{Row}
 use Rattle.network.specs.Rows.{rows_of}
 use Rattle.build_steps.specs.Chain.{chained}
-use Rattle.build_index.specs.Inner.{HasRoom, Grown}
-use Rattle.build_index.proofs.Growth.{grown_none, grown_on}
-use Rattle.build_index.proofs.Room.{same_room}
+use Rattle.build_index.specs.Inner.{Grown}
 use Rattle.build_chain.specs.Inner.{Reading, to_come}
-use Rattle.build_chain.proofs.HighDigits.{chain_none}
-use Rattle.build_chain.proofs.Starts.{some_digit, start_rows, started}
 use Rattle.build_chain.proofs.add_chain.Given as goal
 
 abbrev pub invariant-loop-chain : goal.invariant-loop-chain

@@ -1,7 +1,6 @@
 -- `build_chain::next_digit` meets its contract. The highest bit of the mask is the place of the next nonzero digit, and the form's plus mask tells its
 -- sign. 2^gap·v fits a word, since the value at which the chain ends is below 2^31 and the values of a chain do not fall (`raised_fits`).
 -- Assumes nothing.
-use borrow.Author.Rules.{rules}
 use Prim.Native.Nat.{◌*◌, ◌-◌, ◌^◌, ◌≤◌, ◌<◌}
 use native.Mathlib.Omega.{arith}
 use native.Mathlib.Nat.{mul-one}

@@ -1,9 +1,8 @@
 -- `build_chain::reach` meets its contract. What `find` says of the value decides: a row that is there is used, and else row n is written, in the room that
 -- the contract grants for one row more. Assumes nothing.
-use borrow.Author.Rules.{rules}
 use mathlib.Core.Path.{◌≡◌, sym, ap, ◌∙◌}
 use native.Mathlib.Omega.{arith}
-use Rattle.refusal.specs.Answer.{nowhere, at_place}
+use Rattle.refusal.specs.Answer.{nowhere}
 use Rattle.network.specs.Rows.{rows_of}
 use Rattle.build_steps.specs.Search.{row_with}
 use Rattle.build_index.specs.Inner.{found_at}
@@ -25,7 +24,7 @@ put-requires c =
     let r = c.requires.has_room in
     let none : row_with (rows_of c.args.table.now c.args.n) c.args.row.value ≡ nowhere = sym (looked_up_lem (goal.at-put-requires c).After-find) ∙ ap found_at c.in-Missing.is in
     let e = added_length c.args.table.now c.args.n c.args.row none in
-    record { indexed = c.requires.indexed; n_bound = (omega (arith, e, r.few), omega (arith, e, r.words), omega (arith, e, r.linked)); value_value = none }
+    record { indexed = c.requires.indexed; room = (omega (arith, e, r.few), omega (arith, e, r.words), omega (arith, e, r.linked)); new_value = none }
 
 pub returns-in-At : goal.returns-in-At
 returns-in-At c =

@@ -1,5 +1,4 @@
 -- `build_chain::turn` meets its contract. Assumes nothing.
-use borrow.Author.Rules.{rules}
 use lib.ListN.{length}
 use Rattle.network.specs.Rows.{rows_of}
 use Rattle.build_chain.specs.Inner.{to_come}

@@ -1,6 +1,5 @@
 -- `build_index::bucket` meets its contract. Assumes nothing.
 use mathlib.Core.Path.{refl}
-use borrow.Author.Rules.{rules}
 use Rattle.build_index.specs.Inner.{bucket_of}
 use Rattle.build_index.proofs.Chains.{bucket_below}
 use Rattle.build_index.proofs.bucket.Goals as goal

@@ -1,6 +1,5 @@
 -- `build_index::enter` meets its contract. Assumes nothing.
 use mathlib.Core.Path.{refl}
-use borrow.Author.Rules.{rules}
 use Rattle.build_index.proofs.enter.Goals as goal
 
 pub returns : goal.returns

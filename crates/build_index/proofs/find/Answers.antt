@@ -6,10 +6,9 @@ use mathlib.Core.Path.{◌≡◌, sym, ap, subst, ◌∙◌}
 use Prim.Native.Nat.{◌<◌, ◌-◌}
 use native.Mathlib.Omega.{arith}
 use lib.ListN.{length, get_or}
-use borrow.Author.Rules.{rules}
 use Rattle.build_index.specs.Inner.{value_at, bucket_of, Last}
 use Rattle.build_index.proofs.Values.{found_row, missing_row}
-use Rattle.build_index.proofs.Chains.{Passed, passed_start, passed_next}
+use Rattle.build_index.proofs.Chains.{passed_start, passed_next}
 use Rattle.build_index.proofs.find.Goals as goal
 
 pub loop-p-init : goal.loop-p-init

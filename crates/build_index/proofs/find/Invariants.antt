@@ -2,14 +2,8 @@
 -- bucket that is still to be looked at, and no row passed has the value; rows of other buckets cannot have it. The measure is p, which falls from row to
 -- row, since a link leads to an earlier one.
 -- Assumes nothing.
-use mathlib.Core.Path.{◌≡◌, sym, ap, subst, ◌∙◌}
-use Prim.Native.Nat.{◌<◌, ◌-◌}
-use native.Mathlib.Omega.{arith}
-use lib.ListN.{length, get_or}
-use borrow.Author.Rules.{rules}
-use Rattle.build_index.specs.Inner.{value_at, bucket_of, Last}
-use Rattle.build_index.proofs.Values.{found_row, missing_row}
-use Rattle.build_index.proofs.Chains.{Passed, passed_start, passed_next}
+use lib.ListN.{length}
+use Rattle.build_index.proofs.Chains.{Passed}
 use Rattle.build_index.proofs.find.Given as goal
 
 abbrev pub invariant-loop-p : goal.invariant-loop-p

@@ -1,11 +1,10 @@
 -- `build_left_rows::first_turn` meets its contract. The invariant of its loop: no turn below `low` goes with a right row that was passed, at any
 -- shift and sign. `low` only falls, so that what was said of earlier right rows stays true. The measure is the number of right rows still to pass.
 -- Below 0 there is no turn. Assumes nothing.
-use Prim.Native.Nat.{ℕ, ◌+◌, ◌*◌, ◌-◌, ◌≤◌, ◌<◌}
+use Prim.Native.Nat.{ℕ, ◌+◌, ◌-◌, ◌≤◌, ◌<◌}
 use mathlib.Core.Path.{◌≡◌, refl, subst}
 use mathlib.Core.Logic.{⊎_elim}
 use native.Mathlib.Omega.{arith}
-use borrow.Author.Rules.{rules}
 use lib.ListN.{length}
 use Rattle.word.proofs.Order.{lt_or_le}
 use Rattle.build_index.specs.Inner.{value_at}
@@ -26,7 +25,7 @@ pub fill_cells-requires : goal.fill_cells-requires
 fill_cells-requires c =
     let args = c.args in
     let count = c.stretch-count in record {
-      shift_bound = (omega (arith, c.shift_for-shift.ensures, shift_small (length args.marks.now)), c.requires.new_small, count.ensures.0, omega (arith, count.ensures.2, c.requires.sieve.room));
+      sizes = (omega (arith, c.shift_for-shift.ensures, shift_small (length args.marks.now)), c.requires.new_small, count.ensures.0, omega (arith, count.ensures.2, c.requires.sieve.room));
       by_index = (values_small args.table.now args.heads.now args.links.now args.values.now args.marks.now args.n args.v c.requires, c.loop-j.invariant.1, c.loop-j.invariant.2);
     }
 
@@ -42,8 +41,8 @@ lower_block-low-requires c =
           within = omega (arith, count.ensures.2, c.requires.sieve.room);
           few = count.ensures.0;
           cells = subst (λ (s : ℕ). Cells args.values.now loop.j count.result args.v s cells.new.sums cells.new.differences) c.shift_for-shift.ensures cells.ensures.cells;
-          sums_long = cells.ensures.sums_len.0;
-          differences_long = cells.ensures.sums_len.1;
+          sums_long = cells.ensures.lengths.0;
+          differences_long = cells.ensures.lengths.1;
         },
         count.ensures.1,
       );
@@ -74,8 +73,8 @@ loop-j-preserved c =
     let low = c.lower_block-low in
     let cells = c.fill_cells in (
       omega (arith, low.ensures.0, loop.invariant.0),
-      cells.ensures.sums_len.0,
-      cells.ensures.sums_len.1,
+      cells.ensures.lengths.0,
+      cells.ensures.lengths.1,
       λ k l w.
           ⊎_elim (λ (b : k < loop.j). fewer_lefts low.result low.ensures.0 (loop.invariant.3 k b w))
           (λ (b : loop.j ≤ k).

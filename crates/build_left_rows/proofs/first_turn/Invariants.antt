@@ -1,19 +1,11 @@
 -- `build_left_rows::first_turn` meets its contract. The invariant of its loop: no turn below `low` goes with a right row that was passed, at any
 -- shift and sign. `low` only falls, so that what was said of earlier right rows stays true. The measure is the number of right rows still to pass.
 -- Below 0 there is no turn. Assumes nothing.
-use Prim.Native.Nat.{ℕ, ◌+◌, ◌*◌, ◌-◌, ◌≤◌, ◌<◌}
-use mathlib.Core.Path.{◌≡◌, refl, subst}
-use mathlib.Core.Logic.{⊎_elim}
-use native.Mathlib.Omega.{arith}
-use borrow.Author.Rules.{rules}
+use Prim.Native.Nat.{ℕ, ◌*◌, ◌-◌, ◌≤◌, ◌<◌}
+use mathlib.Core.Path.{◌≡◌}
 use lib.ListN.{length}
-use Rattle.word.proofs.Order.{lt_or_le}
 use Rattle.build_index.specs.Inner.{value_at}
-use Rattle.build_sieve.specs.Inner.{Cells}
-use Rattle.build_sieve.proofs.Sieves.{shift_small}
 use Rattle.build_left_rows.specs.Inner.{NoLeft}
-use Rattle.build_left_rows.proofs.Turns.{fewer_lefts, no_left_below_0}
-use Rattle.build_left_rows.proofs.Sifted.{values_small}
 use Rattle.build_left_rows.proofs.first_turn.Given as goal
 
 abbrev pub invariant-loop-j : goal.invariant-loop-j

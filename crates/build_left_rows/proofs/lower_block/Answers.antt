@@ -1,6 +1,6 @@
 -- `build_left_rows::lower_block` meets its contract. The invariant of its loop: no turn below `low` goes with one of the first k right rows. `low`
 -- only falls. The measure is the number of right rows still to pass. Assumes nothing.
-use Prim.Native.Nat.{ℕ, ◌+◌, ◌-◌, ◌%◌, ◌≤◌, ◌<◌}
+use Prim.Native.Nat.{ℕ, ◌+◌, ◌-◌, ◌≤◌, ◌<◌}
 use mathlib.Core.Path.{◌≡◌, subst}
 use mathlib.Core.Logic.{⊎_elim}
 use native.Mathlib.Omega.{arith}

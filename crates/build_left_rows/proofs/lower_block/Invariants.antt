@@ -1,14 +1,9 @@
 -- `build_left_rows::lower_block` meets its contract. The invariant of its loop: no turn below `low` goes with one of the first k right rows. `low`
 -- only falls. The measure is the number of right rows still to pass. Assumes nothing.
 use Prim.Native.Nat.{ℕ, ◌+◌, ◌-◌, ◌%◌, ◌≤◌, ◌<◌}
-use mathlib.Core.Path.{◌≡◌, subst}
-use mathlib.Core.Logic.{⊎_elim}
-use native.Mathlib.Omega.{arith}
-use Rattle.word.proofs.Order.{lt_or_le}
+use mathlib.Core.Path.{◌≡◌}
 use Rattle.build_index.specs.Inner.{value_at}
 use Rattle.build_left_rows.specs.Inner.{NoLeft}
-use Rattle.build_left_rows.proofs.Turns.{fewer_lefts}
-use Rattle.build_left_rows.proofs.Sifted.{first_cells}
 use Rattle.build_left_rows.proofs.lower_block.Given as goal
 
 abbrev pub invariant-loop-k : goal.invariant-loop-k

@@ -1,5 +1,4 @@
 -- `build_left_rows::lower_eight` meets its contract: a turn that makes v with a right row has their sum or their difference for 2^s·left. Assumes nothing.
-use borrow.Author.Rules.{rules}
 use borrow.Author.Tests.{leb-false}
 use mathlib.Core.Path.{sym, ◌∙◌}
 use mathlib.Core.Bool.{Bool, true, false}

@@ -1,6 +1,5 @@
 -- `build_left_rows::lower_marked` meets its contract. A right row whose cell has no mark of a row with a turn below m goes with no turn below m; the mask
 -- names the others. Assumes nothing.
-use borrow.Author.Rules.{rules}
 use borrow.Author.Tests.{leb-false}
 use mathlib.Core.Path.{◌≡◌, sym, ap, subst, ◌∙◌}
 use mathlib.Core.Logic.{⊎_elim}
@@ -36,8 +35,8 @@ lower_named-requires c =
     let args = c.args in
     let s = c.requires.sifting.0 in record {
       indexed = (s.index, c.requires.sifting.1, s.odd);
-      v_bound = (s.new_small, omega (arith, s.new_odd), values_small args.table.now args.heads.now args.links.now args.values.now args.marks.now args.n args.v s, values_new args.table.now args.heads.now args.links.now args.values.now args.marks.now args.n args.v s);
-      mask_bound = (c.marked-mask.ensures.0, omega (arith, c.requires.sifting.2));
+      right_rows = (s.new_small, omega (arith, s.new_odd), values_small args.table.now args.heads.now args.links.now args.values.now args.marks.now args.n args.v s, values_new args.table.now args.heads.now args.links.now args.values.now args.marks.now args.n args.v s);
+      named = (c.marked-mask.ensures.0, omega (arith, c.requires.sifting.2));
     }
 
 pub returns : goal.returns

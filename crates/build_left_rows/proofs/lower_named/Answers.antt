@@ -1,12 +1,10 @@
 -- `build_left_rows::lower_named` meets its contract. The mask is read from one digit 1 to the next. The invariant of its loop: `rest` has the digits of
 -- the mask from place j - at on, and no turn below `low` goes with a right row that a digit below that place names. `low` only falls. The measure
 -- is the number of places still to come. Assumes nothing.
-use Prim.Native.Nat.{ℕ, ◌+◌, ◌-◌, ◌/◌, ◌^◌, ◌≤◌, ◌<◌}
+use Prim.Native.Nat.{ℕ, ◌+◌, ◌-◌, ◌/◌, ◌^◌, ◌<◌}
 use mathlib.Core.Path.{◌≡◌, sym, ap, subst, ◌∙◌}
-use mathlib.Core.Bool.{Bool, cond}
-use mathlib.Core.List.{List}
+use mathlib.Core.Bool.{cond}
 use native.Mathlib.Omega.{arith}
-use borrow.Author.Rules.{rules}
 use lib.Count.{count_trailing_zeros}
 use lib.ListN.{get_or}
 use Rattle.build_left_rows.specs.Inner.{NoTurn, number_for}
@@ -21,7 +19,7 @@ place : (c : After-index-j) → (c.loop-rest.j - c.args.at) + c.index-j.result <
 place c =
     let args = c.args in
     let loop = c.loop-rest in
-    omega (arith, c.index-j.ensures, read_place (None args.table.now args.values.now args.v args.at args.sum loop.low) args.mask loop.rest (loop.j - args.at) loop.invariant.3 c.requires.mask_bound.0 (omega (arith, c.loop-rest-test.true)))
+    omega (arith, c.index-j.ensures, read_place (None args.table.now args.values.now args.v args.at args.sum loop.low) args.mask loop.rest (loop.j - args.at) loop.invariant.3 c.requires.named.0 (omega (arith, c.loop-rest-test.true)))
 
 -- the number that is looked up
 number : (c : After-choose-x) → c.choose-x.result ≡ number_for c.args.sum c.args.v (get_or c.args.values.now (c.loop-rest.j + c.index-j.result) 0)
@@ -39,25 +37,25 @@ loop-rest-init c =
 
 pub overflow_add-j : goal.overflow_add-j
 overflow_add-j c =
-    omega (arith, place (goal.at-overflow_add-j c).After-index-j, c.requires.mask_bound.1)
+    omega (arith, place (goal.at-overflow_add-j c).After-index-j, c.requires.named.1)
 
 pub offset_bounds-values-j : goal.offset_bounds-values-j
 offset_bounds-values-j c =
-    omega (arith, place (goal.at-offset_bounds-values-j c).After-index-j, c.requires.mask_bound.1)
+    omega (arith, place (goal.at-offset_bounds-values-j c).After-index-j, c.requires.named.1)
 
 pub bounds-values-j : goal.bounds-values-j
 bounds-values-j c =
-    omega (arith, place (goal.at-bounds-values-j c).After-index-j, c.requires.mask_bound.1)
+    omega (arith, place (goal.at-bounds-values-j c).After-index-j, c.requires.named.1)
 
 pub overflow_add-v : goal.overflow_add-v
 overflow_add-v c =
-    omega (arith, c.requires.v_bound.0, c.requires.v_bound.2 (c.loop-rest.j + c.index-j.result))
+    omega (arith, c.requires.right_rows.0, c.requires.right_rows.2 (c.loop-rest.j + c.index-j.result))
 
 pub lower-low-requires : goal.lower-low-requires
 lower-low-requires c =
     let args = c.args in
     let j = c.loop-rest.j + c.index-j.result in
-    (c.requires.indexed.0, omega (arith, c.loop-rest.invariant.2, c.requires.indexed.1), c.requires.indexed.2, omega (arith, number (goal.at-lower-low-requires c).After-choose-x, number_positive args.sum args.v (get_or args.values.now j 0) c.requires.v_bound.1 (c.requires.v_bound.3 j)))
+    (c.requires.indexed.0, omega (arith, c.loop-rest.invariant.2, c.requires.indexed.1), c.requires.indexed.2, omega (arith, number (goal.at-lower-low-requires c).After-choose-x, number_positive args.sum args.v (get_or args.values.now j 0) c.requires.right_rows.1 (c.requires.right_rows.3 j)))
 
 pub overflow_shr-rest : goal.overflow_shr-rest
 overflow_shr-rest c =
@@ -65,7 +63,7 @@ overflow_shr-rest c =
 
 pub overflow_add-j-in-loop-rest : goal.overflow_add-j-in-loop-rest
 overflow_add-j-in-loop-rest c =
-    omega (arith, place (goal.at-overflow_add-j-in-loop-rest c).After-index-j, c.requires.mask_bound.1, c.well_formed)
+    omega (arith, place (goal.at-overflow_add-j-in-loop-rest c).After-index-j, c.requires.named.1, c.well_formed)
 
 pub loop-rest-smaller : goal.loop-rest-smaller
 loop-rest-smaller c =
@@ -87,7 +85,7 @@ loop-rest-preserved c =
       omega (arith, place (goal.at-loop-rest-preserved c).After-index-j),
       omega (arith, c.lower-low.ensures.0, loop.invariant.2),
       subst (λ (i : ℕ). Read Q args.mask (loop.rest / 2 ^ count_trailing_zeros 32 loop.rest / 2) i) there
-          (read_next Q args.mask loop.rest k r c.requires.mask_bound.0 (omega (arith, c.loop-rest-test.true))
+          (read_next Q args.mask loop.rest k r c.requires.named.0 (omega (arith, c.loop-rest-test.true))
           (subst (λ (i : ℕ). NoTurn args.table.now low (number_for args.sum args.v (get_or args.values.now i 0))) (sym here) (subst (NoTurn args.table.now low) (number (goal.at-loop-rest-preserved c).After-choose-x) c.lower-low.ensures.1))),
     )
 

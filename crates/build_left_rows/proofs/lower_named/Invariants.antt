@@ -1,17 +1,12 @@
 -- `build_left_rows::lower_named` meets its contract. The mask is read from one digit 1 to the next. The invariant of its loop: `rest` has the digits of
 -- the mask from place j - at on, and no turn below `low` goes with a right row that a digit below that place names. `low` only falls. The measure
 -- is the number of places still to come. Assumes nothing.
-use Prim.Native.Nat.{ℕ, ◌+◌, ◌-◌, ◌/◌, ◌^◌, ◌≤◌, ◌<◌}
-use mathlib.Core.Path.{◌≡◌, sym, ap, subst, ◌∙◌}
-use mathlib.Core.Bool.{Bool, cond}
+use Prim.Native.Nat.{ℕ, ◌+◌, ◌-◌, ◌≤◌}
+use mathlib.Core.Bool.{Bool}
 use mathlib.Core.List.{List}
-use native.Mathlib.Omega.{arith}
-use borrow.Author.Rules.{rules}
-use lib.Count.{count_trailing_zeros}
 use lib.ListN.{get_or}
 use Rattle.build_left_rows.specs.Inner.{NoTurn, number_for}
-use Rattle.build_left_rows.proofs.NamedRows.{Read, read_none, read_place, read_next, read_all, read_map}
-use Rattle.build_left_rows.proofs.Turns.{fewer_turns, number_positive}
+use Rattle.build_left_rows.proofs.NamedRows.{Read}
 use Rattle.build_left_rows.proofs.lower_named.Given as goal
 
 -- no turn below `low` goes with the right row at place i

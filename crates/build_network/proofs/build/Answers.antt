@@ -1,6 +1,5 @@
 -- `build_network::build` meets its contract. Each test of the code is one check of `build_answer`, in the order of document 01's table; a refusal leaves both tables
 -- as they were. Past the last test every check is passed, and `build_accepted` writes the network. Assumes nothing.
-use borrow.Author.Rules.{rules}
 use mathlib.Core.Path.{◌≡◌, sym, ap, ◌∙◌}
 use mathlib.Core.Bool.{Bool, false}
 use Prim.Native.Nat.{ℕ, ◌≤◌}

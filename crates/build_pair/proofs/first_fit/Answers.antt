@@ -7,15 +7,14 @@
 -- value is 0. Assumes nothing.
 use mathlib.Core.Path.{◌≡◌, sym, ap, ◌∙◌}
 use mathlib.Core.Logic.{⊎_elim}
-use Prim.Native.Nat.{ℕ, suc, ◌-◌, ◌/◌, ◌^◌, ◌≤◌, ◌<◌}
+use Prim.Native.Nat.{ℕ, suc, ◌/◌, ◌^◌, ◌<◌}
 use native.Mathlib.Omega.{arith}
 use borrow.Author.Count.{below_more}
-use borrow.Author.Rules.{rules}
 use Rattle.network.specs.Rows.{rows_of}
 use Rattle.build_steps.specs.Search.{none_fits, fit_at_shift, fit_at_left}
 use Rattle.build_index.specs.Inner.{value_at}
 use Rattle.build_pair.specs.Inner.{fit_of}
-use Rattle.build_pair.proofs.Shifts.{Trying, lifted_at, few_shifts, try_next, left_none, left_first, fit_none, fit_first}
+use Rattle.build_pair.proofs.Shifts.{lifted_at, few_shifts, try_next, left_none, left_first, fit_none, fit_first}
 use Rattle.build_pair.proofs.Lefts.{sifting, turn_none, left_turns_none}
 use Rattle.build_pair.proofs.first_fit.Goals.{At-loop-a, In-loop-a}
 use Rattle.build_pair.proofs.first_fit.Goals as goal

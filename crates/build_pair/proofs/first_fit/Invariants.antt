@@ -5,18 +5,11 @@
 -- order. Where a passes v + most, no sign can make v with a row's value, at this shift or a larger one (`shift_past`), so that the left row has no
 -- fit (`left_none`). The measures are the rows still to be tried, n - i, and the shifts, 33 - s: while a is below 2^32, s is below 32, for no row's
 -- value is 0. Assumes nothing.
-use mathlib.Core.Path.{◌≡◌, sym, ap, ◌∙◌}
-use mathlib.Core.Logic.{⊎_elim}
-use Prim.Native.Nat.{ℕ, suc, ◌-◌, ◌/◌, ◌^◌, ◌≤◌, ◌<◌}
-use native.Mathlib.Omega.{arith}
-use borrow.Author.Count.{below_more}
-use borrow.Author.Rules.{rules}
+use mathlib.Core.Path.{◌≡◌}
+use Prim.Native.Nat.{ℕ, suc, ◌-◌, ◌≤◌, ◌<◌}
 use Rattle.network.specs.Rows.{rows_of}
 use Rattle.build_steps.specs.Search.{none_fits, fit_at_shift, fit_at_left}
-use Rattle.build_index.specs.Inner.{value_at}
-use Rattle.build_pair.specs.Inner.{fit_of}
-use Rattle.build_pair.proofs.Shifts.{Trying, lifted_at, few_shifts, try_next, left_none, left_first, fit_none, fit_first}
-use Rattle.build_pair.proofs.Lefts.{sifting, turn_none, left_turns_none}
+use Rattle.build_pair.proofs.Shifts.{Trying}
 use Rattle.build_pair.proofs.first_fit.Given as goal
 
 abbrev pub invariant-loop-a : goal.invariant-loop-a

@@ -1,6 +1,5 @@
 -- `build_part::add_part` meets its contract. The two matches are the three steps of `step`: what `find` says of the value opens `looked_up`, and what `first_fit`
 -- says opens `searched`. The room is that of the rows after the step, whichever it is. Assumes nothing.
-use borrow.Author.Rules.{rules}
 use mathlib.Core.Path.{◌≡◌, sym, ap, subst, ◌∙◌}
 use mathlib.Core.List.{List}
 use Prim.Native.Nat.{◌+◌}
@@ -11,8 +10,7 @@ use Rattle.form_masks.specs.declared.Form.{Form}
 use Rattle.form_masks.specs.Form.{string_of}
 use Rattle.network.specs.declared.Row.{Row}
 use Rattle.network.specs.Rows.{rows_of}
-use Rattle.build_steps.specs.Parts.{Part}
-use Rattle.build_steps.specs.Search.{row_with, fit, none_fits, first_fit_of}
+use Rattle.build_steps.specs.Search.{row_with, fit, first_fit_of}
 use Rattle.build_steps.specs.Chain.{chained}
 use Rattle.build_steps.specs.Steps.{step}
 use Rattle.build_index.specs.Inner.{HasRoom, Grown, found_at}
@@ -46,8 +44,8 @@ put-requires c =
     let r = c.requires.room in
     record {
       indexed = c.requires.index;
-      n_bound = (omega (arith, e, r.few), omega (arith, e, r.words), omega (arith, e, r.linked));
-      value_value = fit_new a.table.now a.heads.now a.links.now a.values.now a.marks.now a.n a.most (part_of a.v a.choice) c.requires missing row fits;
+      room = (omega (arith, e, r.few), omega (arith, e, r.words), omega (arith, e, r.linked));
+      new_value = fit_new a.table.now a.heads.now a.links.now a.values.now a.marks.now a.n a.most (part_of a.v a.choice) c.requires missing row fits;
     }
 
 pub chosen_form-form-requires : goal.chosen_form-form-requires

@@ -4,10 +4,9 @@
 -- brings has a larger value than the part itself, so that `most` stays a bound. There is room for each step, since no step takes a row away and all
 -- rows together have room. The measure is the number of odd parts still to come, m - i; at 0 the list is empty, and the rows are all rows.
 -- Assumes nothing.
-use borrow.Author.Rules.{rules}
 use mathlib.Core.Path.{◌≡◌, refl, sym, ap, ap₂, subst, ◌∙◌}
 use mathlib.Core.List.{[], ◌∷◌, map}
-use Prim.Native.Nat.{ℕ, ◌-◌, ◌≤◌, ◌<◌, max}
+use Prim.Native.Nat.{ℕ, ◌<◌, max}
 use native.Mathlib.Omega.{arith}
 use lib.ListN.{length, get_or, take}
 use Rattle.network.specs.Rows.{rows_of, first_row_of}
@@ -16,9 +15,8 @@ use Rattle.build_steps.specs.Steps.{step, steps}
 use Rattle.build_odd_parts.specs.Inner.{part_in}
 use Rattle.build_index.specs.Inner.{Grown}
 use Rattle.build_index.proofs.Room.{less_room, same_room}
-use Rattle.build_sieve.specs.Inner.{Sieve}
 use Rattle.build_part.specs.Inner.{part_of, Ready}
-use Rattle.build_rows.proofs.Rounds.{Round, round_start, round_end, round_next, some_rows, ready}
+use Rattle.build_rows.proofs.Rounds.{round_start, round_end, round_next, some_rows, ready}
 use Rattle.build_rows.proofs.add_rows.Goals.{After-tap_of}
 use Rattle.build_rows.proofs.add_rows.Goals as goal
 
@@ -43,7 +41,7 @@ pub loop-i-init : goal.loop-i-init
 loop-i-init c =
     let args = c.args in
     let f = c.first_row in
-    (omega arith, refl, refl, refl, refl, refl, f.ensures.sieve_2, round_start args.keys.now args.m args.choices.now args.table.now f.new.table f.new.heads f.new.links f.ensures.grown)
+    (omega arith, refl, refl, refl, refl, refl, f.ensures.sieved, round_start args.keys.now args.m args.choices.now args.table.now f.new.table f.new.heads f.new.links f.ensures.grown)
 
 pub bounds-keys-i : goal.bounds-keys-i
 bounds-keys-i c = omega (arith, c.requires.keyed)

@@ -1,5 +1,4 @@
 -- `build_rows::first_row` meets its contract. Assumes nothing.
-use borrow.Author.Rules.{rules}
 use mathlib.Core.Path.{refl}
 use mathlib.Core.List.{[], ◌∷◌}
 use native.Mathlib.Omega.{arith}
@@ -22,7 +21,7 @@ pub put-requires : goal.put-requires
 unfolding row_with lowest_from up_to
 put-requires c =
     let room = c.requires.indexed.1 in
-    record { indexed = c.requires.indexed.0; n_bound = (omega arith, omega (arith, room.words), omega (arith, room.linked)); value_value = refl }
+    record { indexed = c.requires.indexed.0; room = (omega arith, omega (arith, room.words), omega (arith, room.linked)); new_value = refl }
 
 pub extend-requires : goal.extend-requires
 extend-requires c =
@@ -35,4 +34,4 @@ extend-requires c =
 
 pub returns : goal.returns
 returns c =
-    record { grown = row_0_put (goal.at-returns c).After-put; sieve_2 = c.extend.ensures }
+    record { grown = row_0_put (goal.at-returns c).After-put; sieved = c.extend.ensures }

@@ -1,5 +1,4 @@
 -- `build_rows::take_part` meets its contract: no step changes a row that is there. Assumes nothing.
-use borrow.Author.Rules.{rules}
 use Rattle.build_part.specs.Inner.{part_of}
 use Rattle.build_rows.proofs.Sieved.{no_fewer, room_left, sieve_carried, step_bounded}
 use Rattle.build_rows.proofs.take_part.Goals as goal

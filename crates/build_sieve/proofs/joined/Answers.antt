@@ -1,11 +1,10 @@
 -- `build_sieve::joined` meets its contract. The invariant of its loop: no mark of a cell that was passed is over `all`. The measure is the number of
 -- cells still to pass. Assumes nothing.
-use Prim.Native.Nat.{ℕ, ◌+◌, ◌-◌, ◌≤◌, ◌<◌}
+use Prim.Native.Nat.{ℕ, ◌+◌, ◌≤◌}
 use mathlib.Core.Path.{subst}
 use native.Mathlib.Nat.{le_trans}
 use native.Mathlib.Omega.{arith}
 use borrow.Author.Count.{below_more}
-use borrow.Author.Rules.{rules}
 use lib.Bits.{bit_or}
 use lib.ListN.{get_or}
 use Rattle.build_sieve.specs.Inner.{mark_at}

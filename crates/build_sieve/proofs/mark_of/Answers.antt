@@ -1,5 +1,4 @@
 -- `build_sieve::mark_of` meets its contract: a quotient and one times the divisor is more than the dividend. Assumes nothing.
-use borrow.Author.Rules.{rules}
 use mathlib.Core.Path.{◌≡◌, sym, subst}
 use Prim.Native.Nat.{ℕ, ◌+◌, ◌*◌, ◌/◌, ◌<◌}
 use native.Mathlib.Nat.{add-mul, one-mul, div-add-mod', div-le_self, mod-lt}

@@ -3,11 +3,10 @@
 use Prim.Native.Nat.{ℕ, ◌+◌, ◌*◌, ◌-◌, ◌/◌, ◌%◌, ◌^◌, ◌≤◌, ◌<◌}
 use mathlib.Core.Path.{◌≡◌, sym, ap, subst, ◌∙◌}
 use native.Mathlib.Omega.{arith}
-use borrow.Author.Rules.{rules}
 use borrow.Author.Tests.{leb-false}
 use lib.ListN.{get_or}
 use Rattle.build_sieve.specs.Inner.{mark_at}
-use Rattle.build_sieve.proofs.MaskDigits.{digit_small, digit_zero, mask_small, mask_more, Zeros, zeros_more}
+use Rattle.build_sieve.proofs.MaskDigits.{digit_small, digit_zero, mask_small, mask_more, zeros_more}
 use Rattle.build_sieve.proofs.marked.Goals.{After-choose}
 use Rattle.build_sieve.proofs.marked.Goals as goal
 

@@ -1,13 +1,8 @@
 -- `build_sieve::marked` meets its contract. The mask is made from its highest digit down. The invariant of its loop: it has the digits of the cells from
 -- i on, and where a digit is 0 the cell has no mark of a row below m. The measure is i. Assumes nothing.
-use Prim.Native.Nat.{ℕ, ◌+◌, ◌*◌, ◌-◌, ◌/◌, ◌%◌, ◌^◌, ◌≤◌, ◌<◌}
-use mathlib.Core.Path.{◌≡◌, sym, ap, subst, ◌∙◌}
-use native.Mathlib.Omega.{arith}
-use borrow.Author.Rules.{rules}
-use borrow.Author.Tests.{leb-false}
-use lib.ListN.{get_or}
+use Prim.Native.Nat.{ℕ, ◌+◌, ◌*◌, ◌-◌, ◌^◌, ◌≤◌, ◌<◌}
 use Rattle.build_sieve.specs.Inner.{mark_at}
-use Rattle.build_sieve.proofs.MaskDigits.{digit_small, digit_zero, mask_small, mask_more, Zeros, zeros_more}
+use Rattle.build_sieve.proofs.MaskDigits.{Zeros}
 use Rattle.build_sieve.proofs.marked.Given as goal
 
 abbrev pub invariant-loop-i : goal.invariant-loop-i

@@ -1,6 +1,5 @@
 -- `build_tables::build_accepted` meets its contract. What can be built and the keys in order say which parts are built, that each can be, and that there
 -- are at most as many rows besides row 0 as the weights of all odd parts together, less one for each. Assumes nothing.
-use borrow.Author.Rules.{rules}
 use Prim.Native.Nat.{◌+◌, ◌≤◌}
 use native.Mathlib.Omega.{arith}
 use mathlib.Core.Path.{◌≡◌}
@@ -34,23 +33,23 @@ overflow_add-m c = omega (arith, few (goal.at-overflow_add-m c).After-order-m)
 
 pub within_64-requires : goal.within_64-requires
 within_64-requires c =
-    record { can_build_into = (c.requires, c.order-m.ensures, keyed (goal.at-within_64-requires c).After-order-m); choices_len_bound = omega (arith, weighed (goal.at-within_64-requires c).After-total_weight-weights, c.if-weights-m.true) }
+    record { can_build_into = (c.requires, c.order-m.ensures, keyed (goal.at-within_64-requires c).After-order-m); rows_few = omega (arith, weighed (goal.at-within_64-requires c).After-total_weight-weights, c.if-weights-m.true) }
 
 pub overflow_add-m-2 : goal.overflow_add-m-2
 overflow_add-m-2 c = omega (arith, few (goal.at-overflow_add-m-2 c).After-order-m)
 
 pub within_512-requires : goal.within_512-requires
 within_512-requires c =
-    record { can_build_into = (c.requires, c.order-m.ensures, keyed (goal.at-within_512-requires c).After-order-m); choices_len_bound = omega (arith, weighed (goal.at-within_512-requires c).After-total_weight-weights, c.if-weights-m-2.true) }
+    record { can_build_into = (c.requires, c.order-m.ensures, keyed (goal.at-within_512-requires c).After-order-m); rows_few = omega (arith, weighed (goal.at-within_512-requires c).After-total_weight-weights, c.if-weights-m-2.true) }
 
 pub overflow_add-m-3 : goal.overflow_add-m-3
 overflow_add-m-3 c = omega (arith, few (goal.at-overflow_add-m-3 c).After-order-m)
 
 pub within_3072-requires : goal.within_3072-requires
 within_3072-requires c =
-    record { can_build_into = (c.requires, c.order-m.ensures, keyed (goal.at-within_3072-requires c).After-order-m); choices_len_bound = omega (arith, weighed (goal.at-within_3072-requires c).After-total_weight-weights, c.if-weights-m-3.true) }
+    record { can_build_into = (c.requires, c.order-m.ensures, keyed (goal.at-within_3072-requires c).After-order-m); rows_few = omega (arith, weighed (goal.at-within_3072-requires c).After-total_weight-weights, c.if-weights-m-3.true) }
 
 pub within_3841-requires : goal.within_3841-requires
 within_3841-requires c =
     let a = c.args in
-    record { can_build_into = (c.requires, c.order-m.ensures, keyed (goal.at-within_3841-requires c).After-order-m); choices_len_bound = rows_few a.coefficients.now a.choices.now a.rows.now a.taps.now c.order-m.new.keys c.order-m.result c.requires c.order-m.ensures (keyed (goal.at-within_3841-requires c).After-order-m) }
+    record { can_build_into = (c.requires, c.order-m.ensures, keyed (goal.at-within_3841-requires c).After-order-m); rows_few = rows_few a.coefficients.now a.choices.now a.rows.now a.taps.now c.order-m.new.keys c.order-m.result c.requires c.order-m.ensures (keyed (goal.at-within_3841-requires c).After-order-m) }

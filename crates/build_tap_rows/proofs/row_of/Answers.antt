@@ -1,10 +1,7 @@
 -- `build_tap_rows::row_of` meets its contract. Assumes nothing.
-use borrow.Author.Rules.{rules}
-use mathlib.Core.Path.{◌≡◌, sym, ap, ◌∙◌}
+use mathlib.Core.Path.{sym, ap, ◌∙◌}
 use native.Mathlib.Omega.{arith}
-use Rattle.refusal.specs.Answer.{place_or, at_place}
-use Rattle.network.specs.Rows.{rows_of}
-use Rattle.build_steps.specs.Search.{row_with}
+use Rattle.refusal.specs.Answer.{place_or}
 use Rattle.build_index.specs.Inner.{found_at}
 use Rattle.build_index.proofs.Values.{row_found}
 use Rattle.build_tap_rows.proofs.row_of.Goals as goal

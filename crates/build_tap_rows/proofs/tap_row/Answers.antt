@@ -1,5 +1,4 @@
 -- `build_tap_rows::tap_row` meets its contract. Assumes nothing.
-use borrow.Author.Rules.{rules}
 use mathlib.Core.Path.{◌≡◌, sym, ap, ap₂, ◌∙◌}
 use Prim.Native.Nat.{ℕ}
 use mir.Syntax.{w32}

@@ -1,19 +1,13 @@
 -- `build_tap_rows::write_tap_rows` meets its contract. The invariant of its loop: the table holds the tap rows of the coefficients passed and is
 -- untouched past them; writing one more keeps it, by the laws of the layout. The measure is the number of coefficients still to come.
 -- Assumes nothing.
-use borrow.Author.Rules.{rules}
-use mathlib.Core.Path.{sym, ap, subst, ◌∙◌}
-use mathlib.Core.List.{List}
-use Prim.Native.Nat.{ℕ, ◌+◌, ◌-◌, ◌≤◌}
-use native.Mathlib.Omega.{arith}
-use lib.IntN.{ℤ, pos}
-use lib.ListN.{length, get_or}
-use mir.Syntax.{w32}
-use mir.ValLaws.{to_z-of_z}
+use Prim.Native.Nat.{◌-◌, ◌≤◌}
+use lib.IntN.{ℤ}
+use lib.ListN.{length}
 use Rattle.coefficient.specs.Parts.{parts_of}
 use Rattle.network.specs.Rows.{rows_of}
 use Rattle.build_steps.specs.TapRows.{tap_row_of}
-use Rattle.build_tap_rows.proofs.Filling.{Filling, filling_none, filling_next, filling_all}
+use Rattle.build_tap_rows.proofs.Filling.{Filling}
 use Rattle.build_tap_rows.proofs.write_tap_rows.Given as goal
 
 abbrev pub invariant-loop-j : goal.invariant-loop-j

@@ -2,18 +2,17 @@
 -- without one, counted from i on, is the lowest of all. The measure is the number of taps still to be looked at. Assumes nothing.
 use borrow.Author.Count.{below_none, below_more}
 use borrow.Author.Rules.{rules}
-use borrow.Author.Tests.{not-true, not-false}
 use mathlib.Core.Path.{◌≡◌, refl, sym, ap, ◌∙◌}
 use mathlib.Core.Bool.{Bool, true, false, not, not-not}
-use Prim.Native.Nat.{ℕ, ◌-◌, ◌≤◌, ◌<◌}
+use Prim.Native.Nat.{ℕ}
 use native.Mathlib.Omega.{arith}
 use lib.IntN.{ℤ, pos}
-use lib.ListN.{length, drop, get_or}
+use lib.ListN.{length, get_or}
 use mir.Syntax.{w32}
 use mir.ValLaws.{to_z-of_z}
 use Rattle.word.specs.Bounds.{Coefficient}
 use Rattle.word.proofs.Bounds.{i32_coefficient}
-use Rattle.refusal.specs.Answer.{lowest_from, lowest, place_or}
+use Rattle.refusal.specs.Answer.{place_or}
 use Rattle.refusal.proofs.Checks.{lowest_here, lowest_later, lowest_none}
 use Rattle.coefficient.specs.Parts.{parts_of}
 use Rattle.build_steps.specs.Answer.{Choice, choices_of, no_such_form}

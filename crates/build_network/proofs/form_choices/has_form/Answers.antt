@@ -1,9 +1,7 @@
 -- `build_network::form_choices::has_form` meets its contract. The choice 0 is always there: the canonical form of an odd part, and what a zero tap must have.
 -- Any other is below the number of forms or not; a zero tap has none. Assumes nothing.
-use borrow.Author.Rules.{rules}
 use mathlib.Core.Path.{◌≡◌, sym, ap, ◌∙◌}
 use mathlib.Core.Bool.{not}
-use Prim.Native.Nat.{◌^◌, ◌<◌}
 use lib.IntN.{ℤ, pos}
 use lib.ListN.{length}
 use mir.Syntax.{w32}

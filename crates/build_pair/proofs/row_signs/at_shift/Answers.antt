@@ -1,7 +1,6 @@
 -- `build_pair::row_signs::at_shift` meets its contract. The three signs in a row are the first fit over the list of signs (`three_signs`); what stands
 -- behind a fit does not count. Assumes nothing.
 use mathlib.Core.Path.{refl, sym, ap, ◌∙◌}
-use borrow.Author.Rules.{rules}
 use Rattle.network.specs.Rows.{minus, reversed, rows_of}
 use Rattle.build_steps.specs.Search.{fit, none_fits, or_else, tried}
 use Rattle.build_pair.specs.Inner.{fit_of}

@@ -1,6 +1,5 @@
 -- `build_pair::row_signs::right_value` meets its contract. Assumes nothing.
 use mathlib.Core.Path.{refl}
-use borrow.Author.Rules.{rules}
 use borrow.Author.Tests.{eq-eqb, ne_eqb}
 use Rattle.build_pair.proofs.row_signs.right_value.Goals as goal
 

@@ -2,7 +2,6 @@
 -- `find` tells the row of any other. Assumes nothing.
 use mathlib.Core.Path.{sym, ap, ◌∙◌}
 use native.Mathlib.Omega.{arith}
-use borrow.Author.Rules.{rules}
 use Rattle.build_index.specs.Inner.{found_at}
 use Rattle.build_index.proofs.Values.{row_found}
 use Rattle.build_pair.proofs.Signs.{sign_zero, sign_past, sign_found, sign_missing}

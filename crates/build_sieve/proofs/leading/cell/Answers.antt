@@ -1,5 +1,4 @@
 -- `build_sieve::leading::cell` meets its contract. The machine writes x as bits and reads it back. Assumes nothing.
-use borrow.Author.Rules.{rules}
 use mathlib.Core.Path.{sym, ap, ◌∙◌, subst}
 use mathlib.Core.Bool.{not}
 use Prim.Native.Nat.{◌<◌, ◌*◌, ◌/◌, ◌%◌, ◌^◌}

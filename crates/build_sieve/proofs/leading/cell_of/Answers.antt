@@ -1,5 +1,4 @@
 -- `build_sieve::leading::cell_of` meets its contract. Assumes nothing.
-use borrow.Author.Rules.{rules}
 use mathlib.Core.Path.{ap, ◌∙◌}
 use lib.IntN.{ℤ, pos, nat_abs}
 use mir.Syntax.{w32}

@@ -1,12 +1,9 @@
 -- `build_sieve::leading::fill_cells` meets its contract. The invariant of its loop: the cells of the first j values are there. The measure is the
 -- number of values still to come. Assumes nothing.
-use Prim.Native.Nat.{ℕ, ◌+◌, ◌-◌, ◌≤◌}
-use mathlib.Core.Path.{◌≡◌, subst}
-use native.Mathlib.Omega.{arith}
-use borrow.Author.Rules.{rules}
-use lib.ListN.{length, length-set}
+use Prim.Native.Nat.{◌-◌, ◌≤◌}
+use mathlib.Core.Path.{◌≡◌}
+use lib.ListN.{length}
 use Rattle.build_sieve.specs.Inner.{Cells}
-use Rattle.build_sieve.proofs.Sieves.{cells_next}
 use Rattle.build_sieve.proofs.leading.fill_cells.Given as goal
 
 abbrev pub invariant-loop-j : goal.invariant-loop-j
