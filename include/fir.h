@@ -20,7 +20,7 @@
  *   stack: fir_canonical          64
  *   stack: fir_minimal_forms     128
  *   stack: fir_form_count         64
- *   stack: fir_write_planes      384
+ *   stack: fir_write_planes      448
  *   stack: fir_read_planes       640
  *   stack: fir_build           65408
  *   stack: fir_check            1216

@@ -17,7 +17,7 @@ pub record PlanesWritten (height width : ℕ) (coefficients : List ℤ) (choices
   pub plus_left : plus' ≡ filled (planes_answer height width coefficients choices (length plus) (length minus)) (grid_words plus_mask height width coefficients choices) plus
   pub minus_left : minus' ≡ filled (planes_answer height width coefficients choices (length plus) (length minus)) (grid_words minus_mask height width coefficients choices) minus
 
--- reading planes into the lent tables cellPlus and cellMinus, the masks of the 1s and of the -1s of each cell, answers a and leaves cellPlus' and cellMinus': the contract of
+-- reading planes into the lent tables cell_plus and cell_minus, the masks of the 1s and of the -1s of each cell, answers a and leaves cell_plus' and cell_minus': the contract of
 -- `read_planes`, and what every claim about it speaks of
 pub record PlanesRead (height width : ℕ) (plus minus cell_plus cell_minus : List ℕ) (a : Answer (Unit {0})) (cell_plus' cell_minus' : List ℕ) : Type 0 where
   pub answer : a ≡ cells_answer height width plus minus (length cell_plus) (length cell_minus)

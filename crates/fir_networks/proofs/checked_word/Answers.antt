@@ -1,5 +1,4 @@
 -- `fir_networks::checked_word` meets its contract. Assumes nothing.
-use borrow.Author.Rules.{rules}
 use mathlib.Core.Path.{sym, ap, ◌∙◌}
 use Rattle.network_check.specs.declared.Checked.{Checked}
 use Rattle.network_check.specs.Checked.{answer_of}

@@ -1,5 +1,4 @@
 -- `fir_networks::fir_run` meets its contract. Assumes nothing.
-use borrow.Author.Rules.{rules}
 use Rattle.network_check.specs.Checked.{answer_of}
 use Rattle.fir_networks.proofs.fir_run.Goals as goal
 

@@ -1,5 +1,4 @@
 -- `fir_networks::building::fir_build` meets its contract. By the case of the answer, which settles the word and the row count; the tables are as `build` leaves them. Assumes nothing.
-use borrow.Author.Rules.{rules}
 use mathlib.Core.Path.{sym, ap, ◌∙◌}
 use Prim.Native.Nat.{ℕ}
 use Rattle.refusal.specs.Answer.{Answer, stored}
