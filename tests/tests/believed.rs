@@ -26,16 +26,16 @@ fn nothing_wrong() {
 
 #[test]
 fn belief_in_an_inner_definition() {
-    let old = "use Rattle·refusal.specs.Answer";
-    let new = "use Rattle·sequence.specs.Inner.{front}\nuse Rattle·refusal.specs.Answer";
+    let old = "use Rattle.refusal.specs.Answer";
+    let new = "use Rattle.sequence.specs.Inner.{front}\nuse Rattle.refusal.specs.Answer";
     let says = "cites the inner definitions of crates/sequence/specs/Inner.antt";
     BELIEVED.refuses("crates/run_calls/specs/Run.antt", old, new, says);
 }
 
 #[test]
 fn belief_in_a_proof() {
-    let old = "use Rattle·refusal.specs.Answer";
-    let new = "use Rattle·run_convolution.proofs.Theorems.{Holds}\nuse Rattle·refusal.specs.Answer";
+    let old = "use Rattle.refusal.specs.Answer";
+    let new = "use Rattle.run_convolution.proofs.Theorems.{Holds}\nuse Rattle.refusal.specs.Answer";
     BELIEVED.refuses(
         "crates/run_calls/specs/Run.antt",
         old,
@@ -48,17 +48,17 @@ fn belief_in_a_proof() {
 fn a_contract_that_is_not_the_relation() {
     let file = "crates/run_network/src/lib.rt";
     let says = "run_network::run does not ensure Ran";
-    BELIEVED.refuses(file, "⌜ Ran ", "⌜ Other ", says);
-    BELIEVED.refuses(file, "⌜ Ran ", "⌜ Unit {0} ⊎ Ran ", says);
+    BELIEVED.refuses(file, "{ Ran ", "{ Other ", says);
+    BELIEVED.refuses(file, "{ Ran ", "{ Unit {0} ⊎ Ran ", says);
     let says = "says nothing of outputs after the call";
     BELIEVED.refuses(
         file,
-        "(now (outputs .exit))",
-        "(now (outputs .entry))",
+        "outputs.new }",
+        "outputs.old }",
         says,
     );
-    let old = "    ensures { λ r. ⌜ Ran";
-    let new = "    requires { ⌜ Unit {0} ⌝ }\n    ensures { λ r. ⌜ Ran";
+    let old = "    ensures { Ran";
+    let new = "    requires { Unit {0} }\n    ensures { Ran";
     BELIEVED.refuses(file, old, new, "run_network::run has a requires");
     let file = "crates/fir_networks/specs/Run.antt";
     BELIEVED.refuses(
@@ -74,9 +74,9 @@ fn an_entry_or_a_name_that_is_not_there() {
     let file = "docs/STATEMENTS.md";
     BELIEVED.refuses(
         file,
-        "`registerSum`",
-        "`registerSums`",
-        "no registerSums in",
+        "`register_sum`",
+        "`register_sums`",
+        "no register_sums in",
     );
     BELIEVED.refuses(
         file,
@@ -89,11 +89,11 @@ fn an_entry_or_a_name_that_is_not_there() {
     let claims = "| `signed_digit/specs/Claims.antt` `DigitClaims` |";
     BELIEVED.refuses(file, claims, "| digits |", "DigitClaims of");
     let file = "crates/run_calls/proofs/Claims.antt";
-    let says = "no proof running-claims of RunningClaims";
+    let says = "no proof running_claims of RunningClaims";
     BELIEVED.refuses(
         file,
-        "running-claims : RunningClaims",
-        "running-claims : Unit",
+        "running_claims : RunningClaims",
+        "running_claims : Unit",
         says,
     );
     let file = "crates/run_convolution/specs/Words.antt";

@@ -82,7 +82,7 @@ fn paths_and_functions() {
 fn names_that_follow_a_file() {
     let page = read_to_string(root().join("docs/CONTRIBUTING.md")).unwrap();
     let is_name = |word: &str| {
-        let plain = |b: u8| b.is_ascii_alphanumeric() || b == b'-';
+        let plain = |b: u8| b.is_ascii_alphanumeric() || b == b'-' || b == b'_';
         word.len() > 1 && word.bytes().all(plain)
     };
     let mut checked = 0;

@@ -69,7 +69,7 @@ fn rattle_functions() -> BTreeMap<String, String> {
     for part in parts {
         for file in read_dir(root().join("crates").join(part).join("src")).unwrap() {
             let text = read_to_string(file.unwrap().path()).unwrap();
-            let exported = text.matches("#[no_mangle]").count();
+            let exported = text.matches("#[unsafe(no_mangle)]").count();
             let here = functions(&text, "pub extern \"C\" fn ");
             assert_eq!(here.len(), exported);
             assert!(text.matches("-> u64\n    ensures").count() >= exported);

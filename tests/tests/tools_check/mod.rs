@@ -15,7 +15,7 @@ pub struct Tool {
     pub check: &'static [&'static str],
 }
 
-/// Copies a file or a folder.
+/// Copies a file or a folder, without what proofs have left beside sources.
 fn copied(from: &Path, to: &Path) {
     if from.is_file() {
         copy(from, to).unwrap();
@@ -24,7 +24,9 @@ fn copied(from: &Path, to: &Path) {
     create_dir_all(to).unwrap();
     for entry in read_dir(from).unwrap() {
         let entry = entry.unwrap();
-        copied(&entry.path(), &to.join(entry.file_name()));
+        if entry.file_name() != "out" {
+            copied(&entry.path(), &to.join(entry.file_name()));
+        }
     }
 }
 
