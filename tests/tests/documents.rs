@@ -83,7 +83,7 @@ fn names_that_follow_a_file() {
     let page = read_to_string(root().join("docs/CONTRIBUTING.md")).unwrap();
     let is_name = |word: &str| {
         let plain = |b: u8| b.is_ascii_alphanumeric() || b == b'-' || b == b'_';
-        word.len() > 1 && word.bytes().all(plain)
+        word.len() > 1 && word.bytes().all(plain) && !word.contains("NAME")
     };
     let mut checked = 0;
     for line in page.lines() {
