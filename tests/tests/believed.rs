@@ -51,12 +51,7 @@ fn a_contract_that_is_not_the_relation() {
     BELIEVED.refuses(file, "{ Ran ", "{ Other ", says);
     BELIEVED.refuses(file, "{ Ran ", "{ Unit {0} ⊎ Ran ", says);
     let says = "says nothing of outputs after the call";
-    BELIEVED.refuses(
-        file,
-        "outputs.new }",
-        "outputs.old }",
-        says,
-    );
+    BELIEVED.refuses(file, "outputs.new }", "outputs.old }", says);
     let old = "    ensures { Ran";
     let new = "    requires { Unit {0} }\n    ensures { Ran";
     BELIEVED.refuses(file, old, new, "run_network::run has a requires");
