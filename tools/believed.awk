@@ -29,7 +29,7 @@ function imported(line, crate, part) {
     sub(/^(ghost )?use /, "", line)
     if (line !~ /^Rattle\./ || line ~ /^Rattle\.std\./) return ""
     sub(/^Rattle\./, "", line)
-    if (line ~ /^[a-z_0-9]+\.proofs\./) return "proofs"
+    if (line ~ /^[a-z_0-9]+\.proofs([. ;]|$)/) return "proofs"
     crate = line
     sub(/\..*/, "", crate)
     gsub(/[^a-z_0-9]/, "", crate)
@@ -156,7 +156,7 @@ function entry(f, relation, file, text, i, n, s) {
     # The relation is the whole sentence, and it speaks of the result and of all lent memory after the call.
     s = text
     sub(/^.*ensures *\{ */, "", s)
-    sub(/ *\}.*$/, "", s)
+    sub(/ *\}[^}]*$/, "", s)
     sub(/^[A-Za-z]+\./, "", s)
     if (s !~ ("^" relation " ")) wrong(f " does not ensure " relation)
     if (s ~ /→|×|⊎|≡|λ/) wrong(f " ensures more or less than " relation)

@@ -36,12 +36,10 @@ fn belief_in_an_inner_definition() {
 fn belief_in_a_proof() {
     let old = "use Rattle.refusal.specs.Answer";
     let new = "use Rattle.run_convolution.proofs.Theorems.{Holds}\nuse Rattle.refusal.specs.Answer";
-    BELIEVED.refuses(
-        "crates/run_calls/specs/Run.antt",
-        old,
-        new,
-        "imports a proof",
-    );
+    let file = "crates/run_calls/specs/Run.antt";
+    BELIEVED.refuses(file, old, new, "imports a proof");
+    let new = "use Rattle.run_convolution.proofs as P\nuse Rattle.refusal.specs.Answer";
+    BELIEVED.refuses(file, old, new, "imports a proof");
 }
 
 #[test]
@@ -50,6 +48,8 @@ fn a_contract_that_is_not_the_relation() {
     let says = "run_network::run does not ensure Ran";
     BELIEVED.refuses(file, "{ Ran ", "{ Other ", says);
     BELIEVED.refuses(file, "{ Ran ", "{ Unit {0} ⊎ Ran ", says);
+    let says = "run_network::run ensures more or less than Ran";
+    BELIEVED.refuses(file, "outputs.new }", "outputs.new ⊎ Unit {0} }", says);
     let says = "says nothing of outputs after the call";
     BELIEVED.refuses(file, "outputs.new }", "outputs.old }", says);
     let old = "    ensures { Ran";

@@ -17,7 +17,7 @@ const RANDOM_MODULES: usize = 150;
 const LINTED_NETWORKS: usize = 40;
 const READ_NETWORKS: usize = 40;
 /// A sample that shows the width of numbers: Icarus takes more than 32 bits, as the standard allows.
-const WIDER_NUMBERS: &str = "numbers-of-32-bits";
+const WIDER_NUMBERS: &str = "numbers_of_32_bits";
 
 /// The core's text.
 fn text_of(network: &Network) -> String {

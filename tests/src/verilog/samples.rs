@@ -36,9 +36,9 @@ fn number(item: &str) -> u64 {
     terms.fold(first, |rest, term| rest - term) as u64
 }
 
-/// The input and the values of `shown (negℤ (pos 3)) (..) ≡ .. ∷ []`.
+/// The input and the values of `shown (neg_ℤ (pos 3)) (..) ≡ .. ∷ []`.
 fn values(field: &str) -> Option<(i16, Vec<u64>)> {
-    let (_, input) = field.split_once("shown (negℤ (pos ")?;
+    let (_, input) = field.split_once("shown (neg_ℤ (pos ")?;
     let size: i32 = input.split(')').next()?.parse().unwrap();
     let (_, list) = field.rsplit_once('≡')?;
     let items = list.split('∷').map(str::trim).filter(|item| *item != "[]");
@@ -49,7 +49,7 @@ fn values(field: &str) -> Option<(i16, Vec<u64>)> {
 pub fn samples() -> Vec<Sample> {
     let path = root().join("crates/verilog/specs/Samples.antt");
     let source = read_to_string(path).unwrap();
-    let forms = ["withOutput", "withLines"].map(|name| (name, around(&source, name)));
+    let forms = ["with_output", "with_lines"].map(|name| (name, around(&source, name)));
     let (_, record) = source.split_once("record RulesAtWork").unwrap();
     let fields = record.split("\n  pub ").skip(1);
     fields.map(|field| sample(field, &forms)).collect()
