@@ -343,7 +343,7 @@ def main():
         if ans or helpers:
             with open(f"{folder}/Answers.antt", "w") as f:
                 f.write("\n".join(head + uses + ([f"{goal}.Goals{places}"] if places else []) + [f"{goal}.Goals as goal"]) + "\n\n" + "\n\n".join([words(x) for x in helpers + ans]) + "\n")
-        os.rename(f"{folder}/Proof.antt", f"/tmp/w/old-{crate}-{rel}.antt")
+        os.remove(f"{folder}/Proof.antt")
         for m in missing:
             print(f"left: {crate} {rel}: {m}")
 
