@@ -1,12 +1,15 @@
 -- The lowest place that breaks a rule, in words: `lowest_is` and `is_lowest`, and `is_nowhere` where nothing breaks it. Assumes nothing.
-use mathlib.Core.Path.{◌≡◌, refl, ap, ◌∙◌}
+use mathlib.Core.Path.{◌≡◌, refl, ap, ap₂, ◌∙◌}
 use mathlib.Core.Bool.{Bool, true, false, cond}
 use mathlib.Core.List.{List, [], ◌∷◌}
 use Prim.Native.Nat.{ℕ, zero, suc, ◌+◌, ◌<◌, zero-le, suc-le-suc}
 use native.Mathlib.Nat.{le_of_suc-le-suc, not-suc-le-zero}
 use native.Mathlib.Omega.{arith}
 use lib.ListN.{length, get_or}
-use Rattle.refusal.specs.Answer.{nowhere, at_place, lowest_from, lowest}
+use borrow.Author.Tests.{lt-ltb}
+use Rattle.std.specs.Prelude.{Some, None, not, nat_lt}
+use Rattle.std.specs.List.{position, position_or_len}
+use Rattle.refusal.specs.Answer.{Place, nowhere, at_place, found_at, lowest_from, lowest}
 use Rattle.refusal.specs.Claims.{Lowest}
 
 module _ {A : Type 0} (a : A) (test : A → Bool) where
@@ -50,3 +53,27 @@ module _ {A : Type 0} (a : A) (test : A → Bool) where
   unfolding lowest_from
   is_nowhere [] k h = refl
   is_nowhere (x ∷ xs) k h = rw (h 0 (suc-le-suc zero-le)) (is_nowhere xs (suc k) (λ i l. h (suc i) (suc-le-suc l)))
+
+-- the library's word for the same: where the first element that passes stands, if one does
+placed : ℕ → ℕ → ℕ → Place
+placed k i n = found_at (cond (nat_lt i n) (Some (k + i)) None)
+
+placed_next : (k i n : ℕ) → placed k (1 + i) (suc n) ≡ placed (suc k) i n
+unfolding placed
+placed_next k i n = ap₂ (λ b j. found_at (cond b (Some j) None)) (grind arith) (omega arith)
+
+found_from : {A : Type 0} (test : A → Bool) (k : ℕ) (xs : List A) → placed k (position_or_len test xs) (length xs) ≡ lowest_from k test xs
+unfolding lowest_from placed
+found_from test k [] = refl
+found_from test k (x ∷ xs) = go (test x) (found_from test (suc k) xs)
+  where
+    go : (b : Bool) → placed (suc k) (position_or_len test xs) (length xs) ≡ lowest_from (suc k) test xs
+        → placed k (cond (not b) (1 + position_or_len test xs) 0) (suc (length xs)) ≡ cond b (at_place k) (lowest_from (suc k) test xs)
+    go true h =
+        let less : nat_lt 0 (suc (length xs)) ≡ true = lt-ltb _ _ (omega arith) in
+        let same : k + 0 ≡ k = omega arith in ap₂ (λ c j. found_at (cond c (Some j) None)) less same
+    go false h = placed_next k (position_or_len test xs) (length xs) ∙ h
+
+pub found_position : {A : Type 0} (test : A → Bool) (xs : List A) → found_at (position test xs) ≡ lowest test xs
+unfolding placed
+found_position test xs = ap (λ i. found_at (cond (nat_lt (position_or_len test xs) (length xs)) (Some i) None)) (omega arith) ∙ found_from test 0 xs

@@ -1,5 +1,5 @@
 -- What an entry answers and what it leaves in lent memory, as document 01, "Turned down", has it: for the contract of every entry that turns something down. Definitions only.
-use Rattle.std.specs.Prelude.{ℕ, suc, Bool, true, false, cond, List, [], ◌∷◌, ◌++◌, length, drop}
+use Rattle.std.specs.Prelude.{ℕ, suc, Bool, true, false, cond, List, [], ◌∷◌, ◌++◌, length, drop, Option, Some, None, Result, Ok, Err}
 use Rattle.refusal.specs.declared.Refusal.{Refusal}
 use Rattle.refusal.specs.Table.{number_of, place_of}
 
@@ -11,6 +11,11 @@ pub data Answer (A : Type 0) : Type 0 where
 -- the answer that a case of `Refusal` stands for
 abbrev pub turned_down_of : {A : Type 0} → Refusal → Answer A
 turned_down_of r = refused (number_of r) (place_of r)
+
+-- what an entry's `Result` says: its result, or the table's number and place
+abbrev pub answer_of : {A : Type 0} → Result A Refusal → Answer A
+answer_of (Ok a) = given a
+answer_of (Err r) = turned_down_of r
 
 -- "Checks run down the table": number where the check applies, at place 0, else what comes after it
 abbrev pub refuse_if : {A : Type 0} → Bool → ℕ → Answer A → Answer A
@@ -26,6 +31,11 @@ and_then (refused number place) next = refused number place
 pub data Place : Type 0 where
   nowhere : Place
   at_place : ℕ → Place
+
+-- the place that an `Option` of an index names
+abbrev pub found_at : Option ℕ → Place
+found_at (Some k) = at_place k
+found_at None = nowhere
 
 -- the same check where its place is not always 0
 abbrev pub refuse_at : {A : Type 0} → Place → ℕ → Answer A → Answer A

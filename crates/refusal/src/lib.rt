@@ -52,19 +52,19 @@ pub fn place(refusal: Refusal) -> u32
     ensures { result ≡ place_of refusal }
 {
     match refusal {
-        Refusal::NoTaps => 0,
-        Refusal::TooManyTaps => 0,
-        Refusal::ShortTable => 0,
-        Refusal::FractionBits => 0,
-        Refusal::TapNotFinite(tap) => tap,
-        Refusal::OutOfBounds(tap) => tap,
-        Refusal::NotNormalisable(tap) => tap,
-        Refusal::MasksOverlap(place) => place,
-        Refusal::NoSuchForm(place) => place,
-        Refusal::RowRule(row) => row,
-        Refusal::TapRowRule(tap) => tap,
-        Refusal::CutTap => 0,
-        Refusal::TextTooLong => 0,
-        Refusal::GridSides => 0,
+        Refusal::TapNotFinite(place)
+        | Refusal::OutOfBounds(place)
+        | Refusal::NotNormalisable(place)
+        | Refusal::MasksOverlap(place)
+        | Refusal::NoSuchForm(place)
+        | Refusal::RowRule(place)
+        | Refusal::TapRowRule(place) => place,
+        Refusal::NoTaps
+        | Refusal::TooManyTaps
+        | Refusal::ShortTable
+        | Refusal::FractionBits
+        | Refusal::CutTap
+        | Refusal::TextTooLong
+        | Refusal::GridSides => 0,
     }
 }

@@ -5,13 +5,9 @@
 ghost use Rattle.std.specs.Prelude.{◌≡◌, ◌++◌, ◌≤◌, length, take, drop};
 
 // The first n elements, from one table to the other.
-pub fn copy(from: &[i32], n: usize, to: &mut [i32])
+pub fn copy<T: Copy>(from: &[T], n: usize, to: &mut [T])
     requires { (n ≤ length from.now) × (n ≤ length to.old) }
     ensures { to.new ≡ take n from.now ++ drop n to.old }
 {
-    let mut i = 0;
-    while i < n {
-        to[i] = from[i];
-        i += 1;
-    }
+    to[..n].copy_from_slice(&from[..n]);
 }

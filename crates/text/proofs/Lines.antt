@@ -1,5 +1,5 @@
 -- Texts by number, one more at a time, as a loop writes them. Assumes nothing.
-use mathlib.Core.Path.{◌≡◌, refl, sym, ap, ◌∙◌}
+use mathlib.Core.Path.{◌≡◌, sym, ap, ◌∙◌}
 use mathlib.Core.Logic.{⊎_elim}
 use mathlib.Core.List.{List, [], ◌∷◌, ◌++◌, append_assoc, append-nil}
 use Prim.Native.Nat.{ℕ, zero, suc, ◌+◌, ◌*◌, ◌≤◌, ◌<◌}
@@ -10,7 +10,9 @@ use Rattle.sequence.specs.UpTo.{up_to}
 use Rattle.sequence.proofs.UpTo.{length_up_to}
 use Rattle.word.proofs.Order.{lt_or_le}
 use Rattle.text.specs.Lines.{lines_from, numbered_from}
-use Rattle.text.specs.Inner.{Put, PutAll}
+use Rattle.text.specs.declared.Writer.{Writer}
+use Rattle.text.specs.Inner.{Wrote, WroteAll}
+use Rattle.text.proofs.Puts.{put_none}
 
 -- ---- the lines of a list
 module _ {A : Type 0} (line_of : ℕ → A → List ℕ) where
@@ -30,9 +32,9 @@ module _ {A : Type 0} (line_of : ℕ → A → List ℕ) where
       ap (λ (k : ℕ). lines_from line_of 0 (up_to k f)) (add-one n) ∙ lines_more 0 (up_to n f) (f n) ∙ ap (λ (k : ℕ). lines_from line_of 0 (up_to n f) ++ line_of k (f n)) e
 
 -- before the first line
-pub nothing_put : {A : Type 0} (line_of : ℕ → A → List ℕ) (f : ℕ → A) (l : List ℕ) (at : ℕ) → Put l at (lines_from line_of 0 (up_to 0 f)) 0 l at
+pub nothing_put : {A : Type 0} (line_of : ℕ → A → List ℕ) (f : ℕ → A) (u : Writer) → Wrote u (lines_from line_of 0 (up_to 0 f)) 0 u
 unfolding up_to lines_from
-nothing_put line_of f l at = record { next = omega arith; text = refl; within = omega arith }
+nothing_put line_of f u = put_none u
 
 -- lines of at most k bytes
 pub lines_within : {A : Type 0} (line_of : ℕ → A → List ℕ) (none : A) (k i : ℕ) (xs : List A) → ((j : ℕ) → j < length xs → length (line_of (i + j) (get_or xs j none)) ≤ k)
@@ -66,9 +68,9 @@ module _ (text_of : ℕ → List ℕ) where
       ap (numbered_from text_of 0) (add-one n) ∙ numbered_more 0 n ∙ ap (λ (k : ℕ). numbered_from text_of 0 n ++ text_of k) e
 
   -- before the first number
-  pub none_put : (l : List ℕ) (at : ℕ) → PutAll l at (numbered_from text_of 0 0) l at
+  pub none_put : (u : Writer) → WroteAll u (numbered_from text_of 0 0) u
   unfolding numbered_from
-  none_put l at = record { next = omega arith; text = refl; within = omega arith }
+  none_put u = put_none u
 
 -- ---- room for one more: of texts that grow piece by piece, the first i and the next piece are no longer than the first n, i being below n
 module _ (grown : ℕ → List ℕ) (piece : ℕ → List ℕ) (next : (n : ℕ) → grown (n + 1) ≡ grown n ++ piece n) where

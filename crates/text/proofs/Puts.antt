@@ -1,12 +1,13 @@
 -- Runs of stores, one after the other, and what is written after what. Assumes nothing.
-use mathlib.Core.Path.{◌≡◌, sym, ap, subst, ◌∙◌}
+use mathlib.Core.Path.{◌≡◌, refl, sym, ap, subst, ◌∙◌}
 use mathlib.Core.List.{List, [], ◌∷◌, ◌++◌}
 use Prim.Native.Nat.{ℕ, suc, ◌+◌, ◌≤◌, ◌<◌}
 use native.Mathlib.Numerals.{add-one}
 use native.Mathlib.Omega.{arith}
 use lib.ListN.{length, take, get_or, set, length-append}
-use lib.Seq.{sets, take-suc, length-take-le}
-use Rattle.text.specs.Inner.{Put, PutAll}
+use lib.Seq.{sets, take-suc, length-take-le, length-sets}
+use Rattle.text.specs.declared.Writer.{Writer}
+use Rattle.text.specs.Inner.{Wrote, WroteAll, Stored}
 
 -- a run after a run is the run of both
 pub sets_append : (a b l : List ℕ) (i : ℕ) → sets (sets l i a) (i + length a) b ≡ sets l i (a ++ b)
@@ -22,27 +23,56 @@ sets_next t l at i h =
     rw (add-one, take-suc t i 0 h)
     (ap (λ k. set (sets l at (take i t)) (at + k) (get_or t i 0)) (sym e) ∙ sets_append (take i t) (get_or t i 0 ∷ []) l at)
 
--- what is written after what
-pub then : {l e f : List ℕ} {at r s m n : ℕ} {a b : List ℕ} → Put l at a m e r → Put e r b n f s → Put l at (a ++ b) (m + n) f s
-then {l} {e} {f} {at} {r} {s} {m} {n} {a} {b} p q =
+-- ---- what is stored in an area from an index on
+module _ {l e : List ℕ} {at r : ℕ} {a : List ℕ} where
+  pub stored_length : Stored l at a e r → length e ≡ length l
+  stored_length p = ap length p.text ∙ length-sets l at a
+
+  -- the same bytes, written otherwise
+  pub stored_as : {b : List ℕ} → b ≡ a → Stored l at a e r → Stored l at b e r
+  stored_as h p = subst (λ (t : List ℕ). Stored l at t e r) (sym h) p
+
+-- bytes after bytes
+pub stored_then : {l e f : List ℕ} {at r s : ℕ} {a b : List ℕ} → Stored l at a e r → Stored e r b f s → Stored l at (a ++ b) f s
+stored_then {l} {e} {f} {at} {r} {s} {a} {b} p q =
     record {
       next = simp length-append (omega (arith, p.next, q.next));
       text = q.text ∙ ap (λ k. sets e k b) p.next ∙ ap (λ x. sets x (at + length a) b) p.text ∙ sets_append a b l at;
-      within = omega (arith, p.within, q.within);
     }
 
--- a wider bound
-pub widen : {l e : List ℕ} {at r m n : ℕ} {a : List ℕ} → m ≤ n → Put l at a m e r → Put l at a n e r
-widen h p = record { next = p.next; text = p.text; within = omega (arith, p.within) }
+-- ---- what a writer wrote
+-- what is stored in its area, past what it had written
+pub stored_by : {u v : Writer} {a : List ℕ} → v.area.ghost_name ≡ u.area.ghost_name → Stored u.area.now u.at a v.area.now v.at → WroteAll u a v
+stored_by same p = record { same_area = same; same_length = stored_length p; next = p.next; text = p.text; within = omega (arith, p.next) }
 
--- ---- where there is room for just the bytes
--- whatever the bound was
-pub put_all : {l e : List ℕ} {at r m : ℕ} {a : List ℕ} → Put l at a m e r → PutAll l at a e r
-put_all p = record { next = p.next; text = p.text; within = omega (arith, p.next) }
+module _ {u v : Writer} {m : ℕ} {a : List ℕ} where
+  -- a wider bound
+  pub widen : {n : ℕ} → m ≤ n → Wrote u a m v → Wrote u a n v
+  widen h p = record { same_area = p.same_area; same_length = p.same_length; next = p.next; text = p.text; within = omega (arith, p.within) }
 
-pub then_all : {l e f : List ℕ} {at r s : ℕ} {a b : List ℕ} → PutAll l at a e r → PutAll e r b f s → PutAll l at (a ++ b) f s
-then_all {a = a} {b = b} p q = widen (omega (arith, length-append a b)) (then p q)
+  -- the same bytes, written otherwise
+  pub put_as : {b : List ℕ} → b ≡ a → Wrote u a m v → Wrote u b m v
+  put_as h p = subst (λ (t : List ℕ). Wrote u t m v) (sym h) p
 
--- the same bytes, written otherwise
-pub put_as : {l e : List ℕ} {at r : ℕ} {a b : List ℕ} → b ≡ a → PutAll l at a e r → PutAll l at b e r
-put_as {l} {e} {at} {r} h p = subst (λ (t : List ℕ). PutAll l at t e r) (sym h) p
+  -- where there is room for just the bytes, whatever the bound was
+  pub put_all : Wrote u a m v → WroteAll u a v
+  put_all p = record { same_area = p.same_area; same_length = p.same_length; next = p.next; text = p.text; within = omega (arith, p.next) }
+
+-- what is written after what
+module _ {u v w : Writer} {a b : List ℕ} where
+  pub then : {m n : ℕ} → Wrote u a m v → Wrote v b n w → Wrote u (a ++ b) (m + n) w
+  then p q =
+      record {
+        same_area = q.same_area ∙ p.same_area;
+        same_length = q.same_length ∙ p.same_length;
+        next = simp length-append (omega (arith, p.next, q.next));
+        text = q.text ∙ ap (λ k. sets v.area.now k b) p.next ∙ ap (λ x. sets x (u.at + length a) b) p.text ∙ sets_append a b u.area.now u.at;
+        within = omega (arith, p.within, q.within);
+      }
+
+  pub then_all : WroteAll u a v → WroteAll v b w → WroteAll u (a ++ b) w
+  then_all p q = put_all (then p q)
+
+-- nothing
+pub put_none : (u : Writer) → Wrote u [] 0 u
+put_none u = record { same_area = refl; same_length = refl; next = omega arith; text = refl; within = omega arith }

@@ -1,10 +1,10 @@
--- `text::put_number` meets its contract. Assumes nothing.
+-- `text::Writer::put_number` meets its contract. Assumes nothing.
 use native.Mathlib.Omega.{arith}
 use lib.Dec.{lit≤}
 use Rattle.text.specs.Inner.{number_bytes}
 use Rattle.text.proofs.Decimals.{decimal_le}
 use Rattle.text.proofs.Puts.{widen}
-use Rattle.text.proofs.put_number.Goals as goal
+use Rattle.text.proofs.Writer.put_number.Goals as goal
 
 pub put_decimal-requires : goal.put_decimal-requires
 put_decimal-requires c =

@@ -1,5 +1,0 @@
--- The measure is n: the call has n / 10000, the digits before the last four.
-use Rattle.text.proofs.+put_decimal.Given as goal
-
-abbrev pub decreases-put_decimal : goal.decreases-put_decimal
-decreases-put_decimal l = l.n
