@@ -1,13 +1,16 @@
 -- The first and the last nonzero of a list are where the definitions have them. Assumes nothing.
-use mathlib.Core.Path.{◌≡◌, refl, ap, ◌∙◌}
+use Rattle.std.specs.Prelude.{Option, Some, None, unwrap_or, MatchOption}
+use mathlib.Core.Path.{◌≡◌, refl, sym, ap, ◌∙◌}
 use mathlib.Core.Bool.{cond}
 use mathlib.Core.List.{List, [], ◌∷◌}
-use mathlib.Core.Logic.{◌≢◌, ◌⊎◌, inl, inr}
+use mathlib.Core.Logic.{◌≢◌, ◌⊎◌, inl, inr, ⊎_elim}
 use Prim.Native.Nat.{ℕ, zero, suc, ◌+◌, ◌<◌}
 use native.Mathlib.Nat.{zero-add}
+use native.Mathlib.Numerals.{add-one}
 use native.Mathlib.Omega.{arith}
 use lib.IntN.{ℤ, pos, negsuc, nat_abs}
-use lib.ListN.{get_or}
+use lib.ListN.{length, get_or, get_or-eq_default}
+use Rattle.word.proofs.Order.{lt_or_le}
 use Rattle.word.specs.Zero.{is_zero}
 use Rattle.word.proofs.Zero.{nonzero_is}
 use Rattle.coefficient.specs.Stretch.{first_from, start_of, end_with, end_of}
@@ -113,3 +116,23 @@ end_is (x ∷ xs) zero l =
 end_is (x ∷ xs) (suc b) l =
     let m : Last xs b = record { nonzero = l.nonzero; after = λ k g. l.after (suc k) (omega arith) } in
     ap (end_with x) (end_is xs b m)
+
+-- ---- what a scan from either end found
+module _ (h : List ℤ) (r : Option ℕ) where
+  abbrev pub FirstFound : Type 0
+  FirstFound = MatchOption r ((k : ℕ) → k < length h → get_or h k (pos 0) ≡ pos 0) (λ i. (get_or h i (pos 0) ≢ pos 0) × ((k : ℕ) → k < i → get_or h k (pos 0) ≡ pos 0))
+
+  abbrev pub LastFound : Type 0
+  LastFound = MatchOption r ((k : ℕ) → k < length h → get_or h k (pos 0) ≡ pos 0) (λ i. (get_or h i (pos 0) ≢ pos 0) × ((k : ℕ) → i < k → k < length h → get_or h k (pos 0) ≡ pos 0))
+
+-- past the end there is nothing but the default
+within : (h : List ℤ) (k : ℕ) → (k < length h → get_or h k (pos 0) ≡ pos 0) → get_or h k (pos 0) ≡ pos 0
+within h k z = ⊎_elim z (get_or-eq_default h (pos 0)) (lt_or_le k (length h))
+
+pub start_found : (h : List ℤ) (r : Option ℕ) → FirstFound h r → unwrap_or r 0 ≡ start_of h
+start_found h None w = sym (start_none h (record { zeros = λ k. within h k (w k) }))
+start_found h (Some i) w = sym (start_is h i (record { nonzero = w.0; before = w.1 }))
+
+pub end_found : (h : List ℤ) (r : Option ℕ) (end : ℕ) → LastFound h r → MatchOption r (end ≡ 0) (λ i. end ≡ i + 1) → end ≡ end_of h
+end_found h None end w e = e ∙ sym (end_none h (record { zeros = λ k. within h k (w k) }))
+end_found h (Some i) end w e = e ∙ sym (end_is h i (record { nonzero = w.0; after = λ k l. within h k (w.1 k l) }) ∙ sym (add-one i))

@@ -6,5 +6,4 @@ pub mod TheReduction
 pub mod TheStretch
 pub mod PartsOf
 pub mod Words
-pub mod Scans
 pub mod Ends

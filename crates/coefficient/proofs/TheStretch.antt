@@ -102,3 +102,10 @@ stretch_own h at part from t = record {
     t.place ∙ ap (further at) (start_none h z) ∙ ap (λ (k : ℕ). (at.0, k)) (zero-add at.1),
   );
 }
+
+-- the places are in order, and within the list
+pub in_order : (h : List ℤ) → start_of h ≤ end_of h
+in_order h = (trimmed_is h).in_order
+
+pub end_within : (h : List ℤ) → end_of h ≤ length h
+end_within h = (trimmed_is h).within

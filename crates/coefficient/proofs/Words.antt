@@ -30,7 +30,7 @@ module _ (n : ℤ) (f : SFits w32 n) (h : of_z w32 n ≡ 0 → ⊥) where
   zeros_32 : count_trailing_zeros 32 (nat_abs n) ≡ shift_of n
   zeros_32 = zeros_are n reduced 32 (rw (shift_is n reduced) at shift_32) ∙ sym (shift_is n reduced)
 
-  -- m is the magnitude as `word::magnitude` gives it
+  -- m is the magnitude as `unsigned_abs` gives it
   module _ (m : ℕ) (e : m ≡ nat_abs (to_z w32 (of_z w32 n))) where
     pub places_32 : count_trailing_zeros 32 m < 32
     places_32 = rw (e, to_z-of_z w32 n f, zeros_32) shift_32

@@ -1,10 +1,9 @@
 -- Document 01: "Reduction: a nonzero coefficient is sign × odd part × 2^shift, the odd part positive. Zero has no odd part." Definitions only.
-use Rattle.std.specs.Prelude.{◌≡◌, Bool, true, false, cond, ℕ, ◌/◌, ◌^◌, ℤ, pos, negsuc, nat_abs}
+use Rattle.std.specs.Prelude.{◌≡◌, Bool, true, false, cond, ℕ, ◌/◌, ◌^◌, ℤ, pos, negsuc, nat_abs, Option, Some, None}
 use Rattle.std.specs.Int.Count.{count_trailing_zeros}
 use Rattle.word.specs.Zero.{is_zero}
 use Rattle.signed_digit.specs.Reduction.{Sign, positive, negative}
-use Rattle.coefficient.specs.declared.Reduced.{Reduced}
-use Rattle.coefficient.specs.declared.Reduced.TheVariants.{Zero, Split}
+use Rattle.coefficient.specs.declared.Reduction.{Reduction}
 
 -- "sign"
 abbrev pub sign_of : ℤ → Sign
@@ -32,10 +31,10 @@ abbrev pub sign_if : Bool → Sign
 sign_if true = negative
 sign_if false = positive
 
--- what each case of `Reduced` says: no odd part, or the sign, the odd part and the shift
-abbrev pub parts_in : Reduced → Parts
-parts_in Zero = no_odd_part
-parts_in (Split r) = parts (sign_if r.negative) r.odd_part r.shift
+-- what the `Option` of a reduction says: no odd part, or the sign, the odd part and the shift
+abbrev pub parts_in : Option Reduction → Parts
+parts_in None = no_odd_part
+parts_in (Some r) = parts (sign_if r.negative) r.odd_part r.shift
 
 -- p are the parts of n: the contract of `reduce`, and what every claim about it speaks of
 pub record ReducedTo (n : ℤ) (p : Parts) : Type 0 where

@@ -6,17 +6,14 @@ ghost use Rattle.signed_digit.specs.Masks.{plus_mask, minus_mask};
 ghost use Rattle.signed_digit.specs.Forms.{listing};
 ghost use Rattle.signed_digit.specs.Listed.{FormsListed, FormsCounted};
 ghost use Rattle.form_links.specs.Inner.{grown};
-ghost use Rattle.form_listing.specs.Listing.{answer_of};
+ghost use Rattle.form_walk.specs.Inner.{offset_of};
+ghost use Rattle.refusal.specs.Answer.{answer_of};
 
-use form_walk::{Walk, next, skip, start};
+use form_walk::Walk;
 use refusal::Refusal;
 
-// The number of forms, or a refusal.
-#[derive(Clone, Copy)]
-pub enum Listing {
-    Count(u32),
-    Refused(Refusal),
-}
+// No coefficient has more.
+const MOST_FORMS: usize = 1597;
 
 // Copies the first n elements, each with the offset, to the places from `at` on. The last comes first,
 // since the places may begin among these n.
@@ -24,10 +21,8 @@ fn grow(table: &mut [u32], at: usize, n: usize, offset: u32)
     requires { at + n ≤ length table.old }
     ensures { table.new ≡ grown table.old at n offset }
 {
-    let mut i = n;
-    while i > 0 {
-        i -= 1;
-        table[at + i] = std::num::wrapping_add_u32(table[i], offset);
+    for i in (0..n).rev() {
+        table[at + i] = table[i].wrapping_add(offset);
     }
 }
 
@@ -35,21 +30,21 @@ fn grow(table: &mut [u32], at: usize, n: usize, offset: u32)
 // front less the bit of the lower digit: the same in both tables.
 fn widen(plus: &mut [u32], minus: &mut [u32], w: Walk)
     requires { (w.forms + w.moved ≤ length plus.old) × (w.forms + w.moved ≤ length minus.old) × (w.bit ≤ 2 ^ 33) }
-    ensures plus { plus.new ≡ grown plus.old w.forms w.moved ((2 ^ 32 - w.bit / 4) % 2 ^ 32) }
-    ensures minus { minus.new ≡ grown minus.old w.forms w.moved ((2 ^ 32 - w.bit / 4) % 2 ^ 32) }
+    ensures plus { plus.new ≡ grown plus.old w.forms w.moved (offset_of w) }
+    ensures minus { minus.new ≡ grown minus.old w.forms w.moved (offset_of w) }
 {
-    let offset = std::num::wrapping_sub_u32(0, (w.bit / 4) as u32);
-    grow(plus, w.forms, w.moved, offset);
-    grow(minus, w.forms, w.moved, offset);
+    grow(plus, w.forms, w.moved, w.offset());
+    grow(minus, w.forms, w.moved, w.offset());
 }
 
 // The number of minimal forms of n.
+// Stays: this loop and that of `list` differ between skip and next; a closure there would state the invariant.
 pub fn form_count(n: i32) -> u32
     ensures { FormsCounted n result }
 {
-    let mut w = start(form_masks::canonical(n));
+    let mut w = Walk::start(form_masks::canonical(n));
     while w.links != 0 {
-        w = next(skip(w));
+        w = w.skip().next();
     }
     w.forms as u32
 }
@@ -66,24 +61,22 @@ fn list(n: i32, plus: &mut [u32], minus: &mut [u32]) -> usize
     let first = form_masks::canonical(n);
     plus[0] = first.plus;
     minus[0] = first.minus;
-    let mut walk = start(first);
+    let mut walk = Walk::start(first);
     while walk.links != 0 {
-        walk = skip(walk);
-        widen(plus, minus, walk);
-        walk = next(walk);
+        let link = walk.skip();
+        widen(plus, minus, link);
+        walk = link.next();
     }
     walk.forms
 }
 
 // The minimal forms of n, in order, in the front of the two tables.
-pub fn minimal_forms(n: i32, plus: &mut [u32], minus: &mut [u32]) -> Listing
+// Stays: the masks are in two tables and not in one of forms, since C lends two.
+pub fn minimal_forms(n: i32, plus: &mut [u32], minus: &mut [u32]) -> Result<u32, Refusal>
     ensures { FormsListed n plus.old minus.old (answer_of result) plus.new minus.new }
 {
-    if plus.len() < 1597 {
-        return Listing::Refused(Refusal::ShortTable);
+    if plus.len() < MOST_FORMS || minus.len() < MOST_FORMS {
+        return Err(Refusal::ShortTable);
     }
-    if minus.len() < 1597 {
-        return Listing::Refused(Refusal::ShortTable);
-    }
-    Listing::Count(list(n, plus, minus) as u32)
+    Ok(list(n, plus, minus) as u32)
 }

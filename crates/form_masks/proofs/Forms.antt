@@ -11,7 +11,9 @@ use lib.ListN.{length}
 use lib.Signed.{mag}
 use mir.Syntax.{w64}
 use mir.Val.{SFits}
-use Rattle.refusal.specs.Answer.{Answer, given, refused, refuse_at, Place, at_place}
+use Rattle.refusal.specs.declared.Refusal.{Refusal}
+use Rattle.refusal.specs.Table.{place_of}
+use Rattle.refusal.specs.Answer.{Answer, given, refused, turned_down_of, refuse_at, Place}
 use Rattle.signed_digit.specs.String.{DigitString}
 use Rattle.signed_digit.specs.Value.{value}
 use Rattle.signed_digit.specs.Weight.{weight}
@@ -19,18 +21,18 @@ use Rattle.signed_digit.specs.Masks.{plus_mask, minus_mask, from_masks}
 use Rattle.signed_digit.proofs.Value.{value_masks}
 use Rattle.signed_digit.proofs.Masks.{masks_disjoint, masks_string, masks_weight, from_masks_plus, from_masks_minus}
 use Rattle.form_masks.specs.declared.Form.{Form}
-use Rattle.form_masks.specs.Form.{form_of, string_of, overlap_in}
-use Rattle.form_masks.specs.Inner.{lowest_in}
+use Rattle.form_masks.specs.Form.{form_of, string_of, overlap_in, overlap}
+use Rattle.form_masks.specs.Inner.{OverlapTold}
 use Rattle.form_masks.specs.Value.{value_of}
 use Rattle.form_masks.specs.Weight.{weight_of}
 use Rattle.form_masks.proofs.Weights.{union_weight}
 use Rattle.form_masks.proofs.Overlap.{overlap_and, lowest_nowhere}
 
 -- ---- the check 8, by the bitwise and of the masks
-module _ {A : Type 0} (x y : ℕ) (rest : Answer A) where
-  pub overlapping : (place : ℕ) → at_place place ≡ lowest_in 32 (bit_and x y) → refused 8 place ≡ refuse_at (overlap_in 32 x y) 8 rest
-  overlapping place e = ap (λ (p : Place). refuse_at p 8 rest) (e ∙ sym (overlap_and 32 x y))
+pub overlapping : {A : Type 0} (form : Form) (refusal : Refusal) (rest : Answer A) → OverlapTold form refusal → turned_down_of refusal ≡ refuse_at (overlap form) 8 rest
+overlapping form refusal rest t = ap (λ (n : ℕ). refused n (place_of refusal)) t.number ∙ ap (λ (p : Place). refuse_at p 8 rest) t.place
 
+module _ {A : Type 0} (x y : ℕ) (rest : Answer A) where
   pub disjoint : bit_and x y ≡ 0 → rest ≡ refuse_at (overlap_in 32 x y) 8 rest
   disjoint z = sym (ap (λ (p : Place). refuse_at p 8 rest) (overlap_and 32 x y ∙ lowest_nowhere 32 (bit_and x y) z))
 

@@ -1,12 +1,13 @@
 // A form as two masks: its value, its weight, and the canonical form of a coefficient.
 #![tactic(auto)]
 
-ghost use Rattle.std.specs.Prelude.{◌≡◌, ◌≤◌, ◌<◌, ◌^◌};
+ghost use Rattle.std.specs.Prelude.{◌≡◌, ◌≤◌, ◌^◌, MatchResult};
+ghost use Rattle.std.specs.Int.Bits.{bit_and};
 ghost use Rattle.std.specs.Int.Count as Count;
-ghost use Rattle.refusal.specs.Answer.{at_place};
+ghost use Rattle.refusal.specs.Answer.{answer_of};
 ghost use Rattle.signed_digit.specs.CanonicalForm.{canonical_nat};
 ghost use Rattle.form_masks.specs.Form.{form_of, InCanonicalForm};
-ghost use Rattle.form_masks.specs.Inner.{lowest_in};
+ghost use Rattle.form_masks.specs.Inner.{OverlapTold};
 ghost use Rattle.form_masks.specs.Value as Value;
 ghost use Rattle.form_masks.specs.Weight as Weight;
 
@@ -19,55 +20,39 @@ pub struct Form {
     pub minus: u32,
 }
 
-// The value, or a refusal.
-#[derive(Clone, Copy)]
-pub enum FormValue {
-    Value(i64),
-    Refused(Refusal),
-}
-
-// The weight, or a refusal.
-#[derive(Clone, Copy)]
-pub enum FormWeight {
-    Weight(u32),
-    Refused(Refusal),
-}
-
 // The number of ones in x. Every weight is counted here.
+// Stays: docs/STATEMENTS.md and docs/DECISIONS.md name it as the one weight.
 pub fn ones(x: u32) -> u32
     ensures { result ≡ Count.ones x }
 {
-    u32::count_ones(x)
+    x.count_ones()
 }
 
-// The lowest place where x has a one.
-fn lowest_one(x: u32) -> u32
-    requires { 0 < x }
-    ensures { at_place result ≡ lowest_in 32 x }
-{
-    u32::trailing_zeros(x)
-}
-
-// The first mask minus the second.
-pub fn value(form: Form) -> FormValue
-    ensures { Value.FormValued form (Value.answer_of result) }
+// Turned down at the lowest place that is in both masks.
+fn disjoint(form: Form) -> Result<(), Refusal>
+    ensures { MatchResult result (λ _. bit_and form.plus form.minus ≡ 0) (λ refusal. OverlapTold form refusal) }
 {
     let both = form.plus & form.minus;
     if both != 0 {
-        return FormValue::Refused(Refusal::MasksOverlap(lowest_one(both)));
+        return Err(Refusal::MasksOverlap(both.trailing_zeros()));
     }
-    FormValue::Value((form.plus as i64) - (form.minus as i64))
+    Ok(())
+}
+
+// The first mask minus the second.
+pub fn value(form: Form) -> Result<i64, Refusal>
+    ensures { Value.FormValued form (answer_of result) }
+{
+    disjoint(form)?;
+    Ok((form.plus as i64) - (form.minus as i64))
 }
 
 // The number of nonzero digits.
-pub fn weight(form: Form) -> FormWeight
-    ensures { Weight.FormWeighed form (Weight.answer_of result) }
+pub fn weight(form: Form) -> Result<u32, Refusal>
+    ensures { Weight.FormWeighed form (answer_of result) }
 {
-    let both = form.plus & form.minus;
-    if both > 0 {
-        return FormWeight::Refused(Refusal::MasksOverlap(lowest_one(both)));
-    }
-    FormWeight::Weight(ones(form.plus | form.minus))
+    disjoint(form)?;
+    Ok(ones(form.plus | form.minus))
 }
 
 // The canonical form of m: its nonzero digits stand one place below the ones of 3m xor m, and its
@@ -89,7 +74,7 @@ fn canonical_of(m: u64) -> Form
 pub fn canonical(n: i32) -> Form
     ensures { InCanonicalForm n result }
 {
-    let form = canonical_of(word::magnitude(n) as u64);
+    let form = canonical_of(n.unsigned_abs() as u64);
     if n < 0 {
         return Form {
             plus: form.minus,

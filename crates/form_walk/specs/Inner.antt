@@ -1,5 +1,5 @@
 -- What the functions of the crate give. Definitions of the algorithm's own.
-use Rattle.std.specs.Prelude.{ℕ, ◌+◌, ◌*◌, ◌<◌, ◌/◌, ◌%◌, ◌^◌, ◌≡◌, cond, eqb, length}
+use Rattle.std.specs.Prelude.{ℕ, ◌+◌, ◌-◌, ◌*◌, ◌<◌, ◌/◌, ◌%◌, ◌^◌, ◌≡◌, cond, eqb, length}
 use Rattle.std.specs.Int.Bits.{bit_and, bit_or}
 use Rattle.std.specs.Int.Count.{count_trailing_zeros}
 use Rattle.signed_digit.specs.String.{DigitString}
@@ -45,3 +45,7 @@ next_of w = record {
   forms = cond (eqb (w.opposite % 2) 1) (w.forms + w.moved) w.forms;
   moved = cond (eqb (w.opposite % 2) 1) w.forms (w.forms + w.moved);
 }
+
+-- what is added to both masks of a copy at the link where the walk stands
+abbrev pub offset_of : Walk → ℕ
+offset_of w = (2 ^ 32 - w.bit / 4) % 2 ^ 32

@@ -2,10 +2,10 @@
 #![tactic(auto)]
 
 ghost use Rattle.std.specs.Prelude.{◌≡◌, ◌≢◌, ◌*◌, ◌≤◌, ◌<◌, ◌^◌};
-ghost use Rattle.form_walk.specs.Inner.{ahead_of, IsTaken, IsStart, skip_of, next_of};
+ghost use Rattle.form_walk.specs.Inner.{ahead_of, IsTaken, IsStart, skip_of, next_of, offset_of};
 
 use form_masks::Form;
-use word::choose_index;
+use word::choose;
 
 // Two canonical digits that stand two places apart are linked. A form takes a link by moving its
 // upper digit one place down and turning the sign of its lower digit, as 1 0 -1 becomes 0 1 1. A
@@ -33,13 +33,15 @@ struct Chains {
     chained: u32,
 }
 
-fn ahead(links: Chains, distance: u32) -> Chains
-    requires { distance < 32 }
-    ensures { result ≡ ahead_of distance links }
-{
-    Chains {
-        taken: links.taken | (links.chained & (links.taken >> distance)),
-        chained: links.chained & (links.chained >> distance),
+impl Chains {
+    fn ahead(self, distance: u32) -> Chains
+        requires { distance < 32 }
+        ensures { result ≡ ahead_of distance self }
+    {
+        Chains {
+            taken: self.taken | (self.chained & (self.taken >> distance)),
+            chained: self.chained & (self.chained >> distance),
+        }
     }
 }
 
@@ -52,51 +54,62 @@ fn taken(opposite: u32, equal: u32) -> u32
         taken: opposite,
         chained: equal,
     };
-    ahead(ahead(ahead(ahead(links, 2), 4), 8), 16).taken
+    links.ahead(2).ahead(4).ahead(8).ahead(16).taken
 }
 
-// The walk over the links of a canonical form.
-pub fn start(form: Form) -> Walk
-    ensures { IsStart form result }
-{
-    let opposite = (form.plus & (form.minus / 4)) | (form.minus & (form.plus / 4));
-    let equal = (form.plus & (form.plus / 4)) | (form.minus & (form.minus / 4));
-    Walk {
-        links: (taken(opposite, equal) as usize) * 4,
-        opposite: (opposite as usize) * 4,
-        bit: 1,
-        forms: 1,
-        moved: 0,
+impl Walk {
+    // The walk over the links of a canonical form.
+    pub fn start(form: Form) -> Walk
+        ensures { IsStart form result }
+    {
+        let opposite = (form.plus & (form.minus / 4)) | (form.minus & (form.plus / 4));
+        let equal = (form.plus & (form.plus / 4)) | (form.minus & (form.minus / 4));
+        Walk {
+            links: (taken(opposite, equal) as usize) * 4,
+            opposite: (opposite as usize) * 4,
+            bit: 1,
+            forms: 1,
+            moved: 0,
+        }
     }
-}
 
-// Up to the next link. Where it does not touch the last one, nothing binds it.
-pub fn skip(w: Walk) -> Walk
-    requires { (w.links ≢ 0) × (w.links ≤ 2 ^ 35) × (w.bit * w.links ≤ 2 ^ 35) }
-    ensures { result ≡ skip_of w }
-{
-    let places = usize::trailing_zeros(w.links);
-    Walk {
-        links: w.links >> places,
-        opposite: w.opposite >> places,
-        bit: w.bit << places,
-        forms: w.forms,
-        moved: choose_index(places == 0, w.moved, w.forms),
+    // Up to the next link. Where it does not touch the last one, nothing binds it.
+    pub fn skip(self) -> Walk
+        requires { (self.links ≢ 0) × (self.links ≤ 2 ^ 35) × (self.bit * self.links ≤ 2 ^ 35) }
+        ensures { result ≡ skip_of self }
+    {
+        let places = self.links.trailing_zeros();
+        Walk {
+            links: self.links >> places,
+            opposite: self.opposite >> places,
+            bit: self.bit << places,
+            forms: self.forms,
+            moved: choose(places == 0, self.moved, self.forms),
+        }
     }
-}
 
-// Past the next link. Its kind is not to be guessed, so numbers are chosen and no branch is taken.
-pub fn next(w: Walk) -> Walk
-    requires { (w.forms ≤ 2 ^ 34) × (w.moved ≤ 2 ^ 34) × (w.bit ≤ 2 ^ 33) }
-    ensures { result ≡ next_of w }
-{
-    let opposite = w.opposite % 2 == 1;
-    let both = w.forms + w.moved;
-    Walk {
-        links: w.links / 4,
-        opposite: w.opposite / 4,
-        bit: w.bit * 4,
-        forms: choose_index(opposite, both, w.forms),
-        moved: choose_index(opposite, w.forms, both),
+    // Past the next link. Its kind is not to be guessed, so numbers are chosen and no branch is taken.
+    pub fn next(self) -> Walk
+        requires { (self.forms ≤ 2 ^ 34) × (self.moved ≤ 2 ^ 34) × (self.bit ≤ 2 ^ 33) }
+        ensures { result ≡ next_of self }
+    {
+        let opposite = self.opposite % 2 == 1;
+        let both = self.forms + self.moved;
+        Walk {
+            links: self.links / 4,
+            opposite: self.opposite / 4,
+            bit: self.bit * 4,
+            forms: choose(opposite, both, self.forms),
+            moved: choose(opposite, self.forms, both),
+        }
+    }
+
+    // What the masks of a form that takes the next link have less than those of the form that it is a
+    // copy of, as a number that is added: the bit of the lower digit is taken away.
+    pub fn offset(self) -> u32
+        requires { self.bit ≤ 2 ^ 33 }
+        ensures { result ≡ offset_of self }
+    {
+        ((self.bit / 4) as u32).wrapping_neg()
     }
 }

