@@ -1,22 +1,18 @@
 -- A finite float by its bits. Assumes nothing.
-use mathlib.Core.Path.{◌≡◌, refl, sym, subst, ap, ◌∙◌}
-use mathlib.Core.Bool.{Bool, true, false, not, cond}
+use mathlib.Core.Path.{◌≡◌, refl, sym, ap, ◌∙◌}
+use mathlib.Core.Bool.{Bool, true, false, not, cond, true≢false}
 use Prim.Native.Nat.{ℕ, zero, suc, ◌+◌, ◌/◌, ◌%◌, ◌^◌}
 use lib.Pow.{field}
 use lib.Dec.{T, eqb, leb}
-use lib.Ieee.{Float, binary64, nan, inf, fin, eq, ne, is_nan, odd, of_fields, of_bits, to_bits, fits, top, hid}
-use lib.Ieee.Compare.{differs_from_itself}
+use lib.Ieee.{Float, binary64, nan, inf, fin, is_nan, odd, of_fields, of_bits, to_bits, fits, top, hid}
 use lib.Ieee.Bits.{of_bits-to_bits}
 use Rattle.tap.specs.Rounding.{finite}
 
-pub is_nan_lem : (x : Float) → ne x x ≡ true → x ≡ nan
-is_nan_lem x p = differs_from_itself x (subst T (sym p) tt)
-
-pub not_nan : (x : Float) → ne x x ≡ false → T (not (is_nan x))
-unfolding ne eq is_nan
-not_nan nan p = subst T p tt
-not_nan (inf s) p = tt
-not_nan (fin s m e) p = tt
+pub nan_never : (x : Float) (b : Bool) → is_nan x ≡ b → b ≡ true → false ≡ finite x
+unfolding is_nan
+nan_never nan b e h = refl
+nan_never (inf s) b e h = refl
+nan_never (fin s m e) b p h = absurd (true≢false (sym h ∙ sym p))
 
 odd_finite : (d : ℕ) (s : Bool) (q k l : ℕ) → finite (odd d s q k l) ≡ true
 unfolding odd

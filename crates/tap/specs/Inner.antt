@@ -4,7 +4,7 @@ use Rattle.std.specs.Float.{nan, inf, fin, binary64}
 use Rattle.std.specs.Float.Ieee.{up, down, eq, sub, of_int}
 use Rattle.word.specs.Bounds.{within_bounds}
 use Rattle.refusal.specs.Answer.{Answer, given, refused}
-use Rattle.tap.specs.Rounding.{TapResult, exact, rounded, nearest_whole, signed, whole_of, left_of}
+use Rattle.tap.specs.Rounding.{TapResult, exact, rounded, nearest_whole, signed}
 
 -- the whole number nearest to a finite x
 unfoldable pub nearest_of : Float → ℤ
@@ -29,13 +29,3 @@ parted x z = cond (eq x (of_int binary64 z)) (exact z) (rounded z (sub binary64 
 abbrev pub is_refused : {A : Type 0} → Answer A → Bool
 is_refused (given a) = false
 is_refused (refused number place) = true
-
--- the whole number of a rounded tap, and 0 where it is refused
-abbrev pub whole_in : Answer TapResult → ℤ
-whole_in (given c) = whole_of c
-whole_in (refused number place) = pos 0
-
--- the leftover of a rounded tap, and +0 where it is refused
-abbrev pub left_in : Answer TapResult → Float
-left_in (given c) = left_of c
-left_in (refused number place) = fin false 0 (pos 0)

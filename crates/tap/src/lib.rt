@@ -3,7 +3,6 @@
 
 pub mod finite;
 pub mod pattern;
-mod result;
 
 ghost use Rattle.std.specs.Prelude.{◌≡◌, true, false, ◌≤◌, pos};
 ghost use Rattle.std.specs.Float.Ieee as Ieee;
@@ -13,10 +12,10 @@ ghost use Rattle.tap.specs.Rounding.{answer_of, TapRounded};
 ghost use Rattle.tap.specs.Inner.{nearest_of, rounds_within_of, parted};
 
 use refusal::Refusal;
-pub use result::{coefficient, is_refused, leftover};
 
 // What a tap comes back as: N with nothing left over, N with the leftover tap * 2^F - N, or a
 // refusal.
+// Stays: document 01 names the enum with these three cases, so that the refusal is one and there is no Result.
 #[derive(Clone, Copy)]
 pub enum RoundedTap {
     Exact(i32),
@@ -37,15 +36,12 @@ fn scaled(x: f64, f: u32) -> f64
 fn rounds_within(x: f64) -> bool
     ensures { result ≡ rounds_within_of x }
 {
-    if x < 2147483647.5 {
-        x >= -2147483648.5
-    } else {
-        false
-    }
+    x < 2147483647.5 && x >= -2147483648.5
 }
 
 // The whole number nearest to x, and of two that are as near the even one. From 2^52 to 2^53 a float
 // has no digits for a fraction; the number added, 2^52 + 2^51, is in the middle, and even.
+// Stays: two edits name the sum, and `round_ties_even` tests the size and the sign besides.
 fn nearest_even(x: f64) -> f64
     requires { rounds_within_of x ≡ true }
     ensures { result ≡ Ieee.of_int binary64 (nearest_of x) }

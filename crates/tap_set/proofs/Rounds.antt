@@ -11,13 +11,13 @@ use lib.ListN.{length, drop, get_or, drop_of_length-le}
 use lib.Seq.{drop-cons}
 use lib.Ieee.{Float, nan}
 use Rattle.refusal.specs.Answer.{Answer, given, refused, refuse_if, refuse_at, Place, nowhere, at_place, lowest_from, lowest}
-use Rattle.refusal.proofs.Checks.{check_passes, given_at, lowest_here, lowest_none, lowest_all, lowest_alike, lowest_none_at}
+use Rattle.refusal.proofs.Checks.{check_passes, given_same, given_at, lowest_here, lowest_none, lowest_all, lowest_alike, lowest_none_at}
 use Rattle.tap.specs.Rounding.{TapResult, finite, outside, result_of, rounded_tap, whole_of, left_of}
-use Rattle.tap.specs.Inner.{is_refused, whole_in, left_in}
+use Rattle.tap.specs.Inner.{is_refused}
 use Rattle.tap.proofs.Answer.{rounded_is, of_finite}
 use Rattle.tap_set.specs.declared.Report.{Report}
 use Rattle.tap_set.specs.Set.{reported, report_from, report_of, bounded}
-use Rattle.tap_set.specs.Inner.{with_leftover, turned, tried, finite_rule, checked}
+use Rattle.tap_set.specs.Inner.{with_leftover, turned, tried, finite_first, checked}
 
 abbrev pub not_finite_at : Float → Bool
 not_finite_at x = not (finite x)
@@ -48,12 +48,17 @@ kept F x h =
       rounded_is F x ∙ check_passes (ltb 31 F) 4 _ a.0 ∙ check_passes (not (finite x)) 5 _ b.0 ∙ check_passes (outside F x) 6 _ d.0,
     )
 
--- t is what x is rounded to, and is not turned down
-pub whole_is : (F : ℕ) (x : Float) (t : Answer TapResult) → t ≡ rounded_tap F x → is_refused t ≡ false → whole_in t ≡ whole F x
-whole_is F x t e h = ap whole_in (e ∙ (kept F x (ap is_refused (sym e) ∙ h)).2)
+-- what x is rounded to, in two numbers
+pub record RoundedTo (F : ℕ) (x : Float) (n : ℤ) (l : Float) : Type 0 where
+  pub taken : turned F x ≡ false
+  pub number : n ≡ whole F x
+  pub left : l ≡ left_of (result_of F x)
 
-pub left_is : (F : ℕ) (x : Float) (t : Answer TapResult) → t ≡ rounded_tap F x → is_refused t ≡ false → left_in t ≡ left_of (result_of F x)
-left_is F x t e h = ap left_in (e ∙ (kept F x (ap is_refused (sym e) ∙ h)).2)
+pub rounded_to : (F : ℕ) (x : Float) (r : TapResult) → given r ≡ rounded_tap F x → RoundedTo F x (whole_of r) (left_of r)
+rounded_to F x r e =
+    let t = ap is_refused (sym e) in
+    let s = given_same r (result_of F x) (e ∙ (kept F x t).2) in
+    record { taken = t; number = ap whole_of s; left = ap left_of s }
 
 -- ---- the report
 with_is : (r : Report) (c : TapResult) → with_leftover r (left_of c) ≡ reported r c
@@ -96,9 +101,9 @@ tried_end F d xs i r p q h =
     ∙ ap given (sym q ∙ report_end F r xs i h))
 
 -- ---- from `tried` to `checked`
-pub checked_is : (b : Bool) (F : ℕ) (d : Float) (xs : List Float) → checked b F d xs ≡ refuse_at (lowest not_finite_at xs) (finite_rule b) (bounded F d xs)
+pub checked_is : (rule F : ℕ) (d : Float) (xs : List Float) → checked rule F d xs ≡ refuse_at (lowest not_finite_at xs) rule (bounded F d xs)
 unfolding checked
-checked_is b F d xs = refl
+checked_is rule F d xs = refl
 
 -- where nothing is turned down, all are finite and within the bounds
 all_pass : (F k : ℕ) (xs : List Float) → lowest_from k (turned F) xs ≡ nowhere → (lowest_from k not_finite_at xs ≡ nowhere) × (lowest_from k (outside F) xs ≡ nowhere)
@@ -127,20 +132,22 @@ only_outside F k j (x ∷ xs) f h =
     let w = lowest_all not_finite_at k x xs h in
     lowest_alike (turned F) (outside F) j x xs (turned_finite F x f (not-false (finite x) w.0)) (only_outside F (suc k) (suc j) xs f w.1)
 
-pub checked_all : (b : Bool) (F : ℕ) (d : Float) (xs : List Float) (r : Report) → given r ≡ tried F d xs → given r ≡ checked b F d xs
+pub checked_all : (rule F : ℕ) (d : Float) (xs : List Float) (r : Report) → given r ≡ tried F d xs → given r ≡ checked rule F d xs
 unfolding bounded
-checked_all b F d xs r e =
+checked_all rule F d xs r e =
     let g = given_at (lowest (turned F) xs) 6 (given (report_of F d xs)) r (sym (tried_is F d xs) ∙ sym e) in
     let p = all_pass F 0 xs g.0 in
     sym g.1
-    ∙ sym (checked_is b F d xs ∙ ap (λ (w : Place). refuse_at w (finite_rule b) (bounded F d xs)) p.0 ∙ ap (λ (w : Place). refuse_at w 6 (given (report_of F d xs))) p.1)
+    ∙ sym (checked_is rule F d xs ∙ ap (λ (w : Place). refuse_at w rule (bounded F d xs)) p.0 ∙ ap (λ (w : Place). refuse_at w 6 (given (report_of F d xs))) p.1)
 
-pub checked_stop : (b : Bool) (F : ℕ) (d : Float) (xs : List Float) (i : ℕ) → lowest not_finite_at xs ≡ at_place i → refused (finite_rule b) i ≡ checked b F d xs
-checked_stop b F d xs i p = sym (checked_is b F d xs ∙ ap (λ (w : Place). refuse_at w (finite_rule b) (bounded F d xs)) p)
-
-pub checked_tried : (b : Bool) (F : ℕ) (d : Float) (xs : List Float) → F ≤ 31 → lowest not_finite_at xs ≡ nowhere → tried F d xs ≡ checked b F d xs
+bounded_is : (F : ℕ) (d : Float) (xs : List Float) → bounded F d xs ≡ refuse_at (lowest (outside F) xs) 6 (given (report_of F d xs))
 unfolding bounded
-checked_tried b F d xs f p =
-    tried_is F d xs
-    ∙ ap (λ (w : Place). refuse_at w 6 (given (report_of F d xs))) (only_outside F 0 0 xs f p)
-    ∙ sym (checked_is b F d xs ∙ ap (λ (w : Place). refuse_at w (finite_rule b) (bounded F d xs)) p)
+bounded_is F d xs = refl
+
+-- a number that is not finite comes first; where there is none, what is turned down is outside the bounds
+pub checked_first : (rule F : ℕ) (d : Float) (xs : List Float) → F ≤ 31 → finite_first rule xs (tried F d xs) ≡ checked rule F d xs
+checked_first rule F d xs f = go (lowest not_finite_at xs) refl ∙ sym (checked_is rule F d xs)
+  where
+    go : (p : Place) → lowest not_finite_at xs ≡ p → refuse_at p rule (tried F d xs) ≡ refuse_at p rule (bounded F d xs)
+    go (at_place k) e = refl
+    go nowhere e = tried_is F d xs ∙ ap (λ (w : Place). refuse_at w 6 (given (report_of F d xs))) (only_outside F 0 0 xs f e) ∙ sym (bounded_is F d xs)

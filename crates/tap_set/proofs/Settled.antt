@@ -111,10 +111,10 @@ module _ (F : ℕ) (taps : List Float) where
   pub without_sum : unusable (sum_of taps) ≡ true → refuse_at (lowest not_finite_at taps) 5 (refused 7 0) ≡ settled F true taps
   without_sum u = sym (settled_is ∙ ap (refuse_at (lowest not_finite_at taps) 5) (check_applies (unusable S) 7 _ u))
 
-  pub with_sum : unusable (sum_of taps) ≡ false → checked true F (sum_of taps) (quotients (sum_of taps) taps) ≡ settled F true taps
+  pub with_sum : unusable (sum_of taps) ≡ false → checked 7 F (sum_of taps) (quotients (sum_of taps) taps) ≡ settled F true taps
   with_sum u =
       let p = (sum_finite (fin false 0 (pos 0)) 0 taps (usable_number S u)).1 in
-      checked_is true F S Q
+      checked_is 7 F S Q
       ∙ ap (λ (w : Place). refuse_at w 7 (bounded F S Q)) (infinite_quotients S 0 0 taps u p)
       ∙ sym (settled_is ∙ ap (λ (w : Place). refuse_at w 5 (refuse_if (unusable S) 7 (refuse_at (lowest infinite Q) 7 (bounded F S Q)))) p ∙ check_passes (unusable S) 7 _ u)
 
@@ -124,9 +124,9 @@ unfolding lowest_from
 never k [] = refl
 never k (x ∷ xs) = never (suc k) xs
 
-pub plain_settled : (F : ℕ) (taps : List Float) → checked false F (fin false 1 (pos 0)) taps ≡ settled F false taps
+pub plain_settled : (F : ℕ) (taps : List Float) → checked 5 F (fin false 1 (pos 0)) taps ≡ settled F false taps
 plain_settled F taps =
-    checked_is false F (fin false 1 (pos 0)) taps
+    checked_is 5 F (fin false 1 (pos 0)) taps
     ∙ sym (settled_open F false taps ∙ ap (λ (p : Place). refuse_at (lowest not_finite_at taps) 5 (refuse_at p 7 (bounded F (fin false 1 (pos 0)) taps))) (never 0 taps))
 
 -- ---- `rounded_taps`

@@ -2,11 +2,9 @@
 use Rattle.std.specs.Prelude.{◌≡◌, ℕ, Bool, false, not, ◌&&◌, cond, List, [], ◌∷◌, map, ℤ, pos, ltb, eqb, length, Float}
 use Rattle.std.specs.Float.{fin}
 use Rattle.std.specs.Float.Ieee.{lt}
-use Rattle.refusal.specs.Answer.{Answer, given, turned_down_of, refuse_if, refuse_at, lowest, filled}
+use Rattle.refusal.specs.Answer.{Answer, given, refuse_if, refuse_at, lowest, filled}
 use Rattle.tap.specs.Rounding.{TapResult, finite, outside, result_of, abs_of, whole_of, left_of}
 use Rattle.tap_set.specs.declared.Report.{Report}
-use Rattle.tap_set.specs.declared.RoundedTaps.{RoundedTaps}
-use Rattle.tap_set.specs.declared.RoundedTaps.TheVariants.{Given, Refused}
 use Rattle.tap_normalise.specs.Normalised.{sum_of, unusable, infinite, used, divisor_of}
 
 -- "of equal magnitudes the earliest tap's is taken": y only where it is larger than x
@@ -48,11 +46,6 @@ rounded_taps F normalised taps room =
     (refuse_if (normalised && unusable (sum_of taps)) 7
     (refuse_at (lowest (λ (q : Float). normalised && infinite q) (used normalised taps)) 7
     (bounded F (divisor_of normalised taps) (used normalised taps))))))))
-
--- what each case of `RoundedTaps` says: the report, or the table's number and place
-abbrev pub answer_of : RoundedTaps → Answer Report
-answer_of (Given report) = given report
-answer_of (Refused r) = turned_down_of r
 
 -- rounding the taps with F fraction bits answers a and leaves table' in the lent table: the contract of `round_taps`, and what every claim about it speaks of
 pub record TapsRounded (F : ℕ) (normalised : Bool) (taps : List Float) (table : List ℤ) (a : Answer Report) (table' : List ℤ) : Type 0 where

@@ -1,5 +1,4 @@
 -- `tap::nearest` meets its contract: the number that `nearest_even` gives is a coefficient, so that the cast loses nothing. Assumes nothing.
-use borrow.Author.Rules.{rules}
 use mathlib.Core.Path.{sym, ap, ◌∙◌, subst}
 use lib.Dec.{T}
 use lib.IntN.{ℤ}

@@ -1,5 +1,4 @@
 -- `tap::part` meets its contract. The machine writes n as bits and reads it back. Assumes nothing.
-use borrow.Author.Rules.{rules}
 use mathlib.Core.Path.{◌≡◌, sym, ap, ◌∙◌, subst}
 use mathlib.Core.Bool.{true, false}
 use lib.IntN.{ℤ}
@@ -21,13 +20,13 @@ pub returns-then-x-y : goal.returns-then-x-y
 returns-then-x-y c =
     let x = c.args.x in
     let n = c.args.n in
-    let b = back c.before.before in
+    let b = back (goal.at-returns-then-x-y c).Start in
     ap (λ (z : ℤ). given (exact z)) b ∙ ap given (parted_yes x n (subst (λ (y : ℤ). eq x (of_int binary64 y) ≡ true) b c.if-x-y.true))
 
 pub returns-else-x-y : goal.returns-else-x-y
 returns-else-x-y c =
     let x = c.args.x in
     let n = c.args.n in
-    let b = back c.before.before in
+    let b = back (goal.at-returns-else-x-y c).Start in
     subst (λ (y : ℤ). given (rounded y (sub binary64 x (of_int binary64 y))) ≡ given (parted x n)) (sym b)
     (ap given (parted_no x n (subst (λ (y : ℤ). eq x (of_int binary64 y) ≡ false) b c.if-x-y.false)))

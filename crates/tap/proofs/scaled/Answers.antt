@@ -1,5 +1,4 @@
 -- `tap::scaled` meets its contract. Assumes nothing.
-use borrow.Author.Rules.{rules}
 use mathlib.Core.Path.{ap}
 use lib.Ieee.{binary64, mul}
 use Rattle.tap.proofs.Steps.{power_is, power_number}

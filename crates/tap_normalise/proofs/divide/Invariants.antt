@@ -1,22 +1,15 @@
--- `tap_normalise::divide` meets its contract. The invariant of its loop: the first `i` places of the table hold the quotients of the taps passed, and the rest
--- are as they were. The measure is the number of taps still to come. Assumes nothing.
+-- The invariant of the loop of `tap_normalise::divide`: the places passed hold the quotients, and the rest are as they were.
 use mathlib.Core.Path.{◌≡◌}
-use Prim.Native.Nat.{ℕ, ◌-◌, ◌≤◌}
-use lib.ListN.{length, get_or}
+use Prim.Native.Nat.{ℕ}
 use mathlib.Core.List.{List}
+use lib.ListN.{get_or}
 use lib.Ieee.{Float, nan, binary64, div}
 use Rattle.sequence.specs.Inner.{front}
 use Rattle.tap_normalise.proofs.divide.Given as goal
 
-abbrev pub over : Float → Float → Float
-over sum x = div binary64 x sum
-
 -- the quotient of the tap at each place
 abbrev pub at : List Float → Float → ℕ → Float
-at taps sum k = over sum (get_or taps k nan)
+at taps sum k = div binary64 (get_or taps k nan) sum
 
 abbrev pub invariant-loop-i : goal.invariant-loop-i
-invariant-loop-i l = (l.i ≤ length l.taps) × (l.table ≡ front (at l.taps l.sum) l.initial.table l.i) × (length l.table ≡ length l.initial.table)
-
-abbrev pub decreases-loop-i : goal.decreases-loop-i
-decreases-loop-i l = length l.taps - l.i
+invariant-loop-i l = l.table ≡ front (at l.taps l.sum) l.initial.table l.i

@@ -1,33 +1,22 @@
--- `tap_normalise::first_not_finite` meets its contract. The invariant of its loop: the lowest place from `i` on that is not finite is the lowest of all,
--- since the numbers passed are finite. The measure is the number of numbers still to come. Assumes nothing.
+-- `tap_normalise::first_not_finite` meets its contract. Assumes nothing.
 use borrow.Author.Rules.{rules}
-use mathlib.Core.Path.{◌≡◌, refl, sym, ap, ◌∙◌}
-use mathlib.Core.Bool.{true, false, not}
-use native.Mathlib.Omega.{arith}
-use lib.ListN.{length, get_or}
-use lib.Ieee.{nan}
-use Rattle.refusal.specs.Answer.{place_or}
-use Rattle.refusal.proofs.Checks.{lowest_here, lowest_later, lowest_none}
-use Rattle.tap_normalise.proofs.first_not_finite.Invariants.{breaks}
+use borrow.Author.Tests.{tests}
+use mathlib.Core.Path.{ap, ◌∙◌}
+use mathlib.Core.Bool.{Bool}
+use lib.Ieee.{Float}
+use Rattle.std.specs.Prelude.{not}
+use Rattle.std.proofs.lemmas.Iterator.{YieldsList-from_slice}
+use Rattle.std.proofs.lemmas.Iterator.Search.{position_from_yields_List}
+use Rattle.refusal.specs.Answer.{found_at}
+use Rattle.refusal.proofs.Lowest.{found_position}
+use Rattle.tap.specs.Rounding.{finite}
 use Rattle.tap_normalise.proofs.first_not_finite.Goals as goal
 
-pub loop-i-init : goal.loop-i-init
-loop-i-init c = (search rules, refl)
-
-pub returns-then-not-is_finite : goal.returns-then-not-is_finite
-returns-then-not-is_finite c =
-    let xs = c.args.xs.now in
-    let b : breaks (get_or xs c.loop-i.i nan) ≡ true = ap not (sym c.is_finite.ensures ∙ c.if-not-is_finite.true) in
-    ap (place_or (length xs)) (sym (lowest_here nan breaks xs c.loop-i.i c.loop-i-test.true b) ∙ c.loop-i.invariant.1)
-
-pub loop-i-preserved : goal.loop-i-preserved
-loop-i-preserved c =
-    let xs = c.args.xs.now in
-    let b : breaks (get_or xs c.loop-i.i nan) ≡ false = ap not (sym c.is_finite.ensures ∙ c.if-not-is_finite.false) in
-    (search rules, sym (lowest_later nan breaks xs c.loop-i.i c.loop-i-test.true b) ∙ c.loop-i.invariant.1)
+breaks : Float → Bool
+breaks x = not (finite x)
 
 pub returns : goal.returns
+unfolding breaks
 returns c =
     let xs = c.args.xs.now in
-    let e : c.loop-i.i ≡ length xs = omega (arith, c.loop-i.invariant.0, c.loop-i-test.false) in
-    e ∙ ap (place_or (length xs)) (sym (lowest_none nan breaks xs c.loop-i.i c.loop-i-test.false) ∙ c.loop-i.invariant.1)
+    ap found_at (position_from_yields_List breaks _ _ c.position.result c.position.ensures.ran (YieldsList-from_slice xs cc) (λ x b q k. search (rules, tests))) ∙ found_position breaks xs

@@ -2,14 +2,10 @@
 use mathlib.Core.Path.{sym, ap, ◌∙◌}
 use lib.Ieee.{Float, ne}
 use Rattle.tap.proofs.Value.{zero_is}
-use Rattle.tap_normalise.proofs.Usable.{usable_finite, usable_never}
+use Rattle.tap_normalise.proofs.Usable.{usable_finite}
 use Rattle.tap_normalise.proofs.is_usable.Goals as goal
 
 pub returns-then-is_finite : goal.returns-then-is_finite
 returns-then-is_finite c =
     let sum = c.args.sum in
     ap (λ (k : Float). ne sum k) zero_is ∙ usable_finite sum (sym c.is_finite.ensures ∙ c.if-is_finite.true)
-
-pub returns-else-is_finite : goal.returns-else-is_finite
-returns-else-is_finite c =
-    usable_never c.args.sum (sym c.is_finite.ensures ∙ c.if-is_finite.false)

@@ -1,11 +1,10 @@
--- `tap_set::round_all` meets its contract. The invariant of its loop: none of the numbers passed is turned down, so that the lowest place from `i` on that is
--- turned down is the lowest of all; the report so far, carried on over the numbers still to come, is the whole report; and the first `i` places of the buffer
--- hold the coefficients of the numbers passed. The measure is the number of numbers still to come. Assumes nothing.
+-- The invariant of the loop of `tap_set::round_all`: none of the numbers passed is turned down, so that the lowest place that is turned down is among those to
+-- come; the report so far, carried on over those, is the whole report; and the first places of the buffer hold the coefficients of the numbers passed.
 use mathlib.Core.Path.{◌≡◌}
 use mathlib.Core.List.{List}
-use Prim.Native.Nat.{ℕ, ◌-◌, ◌≤◌}
+use Prim.Native.Nat.{ℕ}
 use lib.IntN.{ℤ}
-use lib.ListN.{length, drop, get_or}
+use lib.ListN.{drop, get_or}
 use lib.Ieee.{Float, nan}
 use Rattle.refusal.specs.Answer.{lowest_from, lowest}
 use Rattle.sequence.specs.Inner.{front}
@@ -19,9 +18,8 @@ abbrev pub at : ℕ → List Float → ℕ → ℤ
 at f xs k = whole f (get_or xs k nan)
 
 abbrev pub invariant-loop-i : goal.invariant-loop-i
-invariant-loop-i l =
-    (l.i ≤ length l.xs) × (lowest_from l.i (turned l.f) (drop l.i l.xs) ≡ lowest (turned l.f) l.xs) × (report_from l.f l.report (drop l.i l.xs) ≡ report_of l.f l.divisor l.xs) × (l.buffer ≡ front (at l.f l.xs) l.initial.buffer l.i)
-    × (length l.buffer ≡ length l.initial.buffer)
-
-abbrev pub decreases-loop-i : goal.decreases-loop-i
-decreases-loop-i l = length l.xs - l.i
+invariant-loop-i l = record {
+  to_come : lowest_from l.i (turned l.f) (drop l.i l.xs) ≡ lowest (turned l.f) l.xs;
+  reported : report_from l.f l.report (drop l.i l.xs) ≡ report_of l.f l.divisor l.xs;
+  written : l.buffer ≡ front (at l.f l.xs) l.initial.buffer l.i;
+}

@@ -1,5 +1,6 @@
 -- `tap_set::round_taps` meets its contract. Each check of the table that applies ends it, and each way out is a law of proofs/Settled.antt: what is left here is
 -- to hand that law the facts of the tests passed on the way. Assumes nothing.
+use borrow.Author.Rules.{rules}
 use mathlib.Core.Path.{◌≡◌, refl, ap, ◌∙◌}
 use mathlib.Core.Bool.{Bool, true, false, true≢false, false≢true}
 use mathlib.Core.List.{List}
@@ -35,13 +36,13 @@ module _ (F : ℕ) (taps : List Float) (old new : List ℤ) (r : Answer Report) 
   divided false m e h w = absurd (false≢true m)
   divided true m e h w = record { answer = h ∙ e; written = w ∙ ap (λ (b : Answer Report). filled b (coefficients_of F (used true taps)) old) e }
 
-  undivided : (n : Bool) → n ≡ false → settled F n taps ≡ rounded_taps F n taps (length old) → (d : Float) → d ≡ fin false 1 (pos 0) → r ≡ checked false F d taps
-      → new ≡ filled (checked false F d taps) (coefficients_of F taps) old → TapsRounded F n taps old r new
+  undivided : (n : Bool) → n ≡ false → settled F n taps ≡ rounded_taps F n taps (length old) → (d : Float) → d ≡ fin false 1 (pos 0) → r ≡ checked 5 F d taps
+      → new ≡ filled (checked 5 F d taps) (coefficients_of F taps) old → TapsRounded F n taps old r new
   undivided true m e d o h w = absurd (true≢false m)
   undivided false m e d o h w = record { answer = h ∙ b; written = w ∙ ap (λ (q : Answer Report). filled q (coefficients_of F taps) old) b }
     where
-      b : checked false F d taps ≡ rounded_taps F false taps (length old)
-      b = ap (λ (q : Float). checked false F q taps) o ∙ plain_settled F taps ∙ e
+      b : checked 5 F d taps ≡ rounded_taps F false taps (length old)
+      b = ap (λ (q : Float). checked 5 F q taps) o ∙ plain_settled F taps ∙ e
 
 -- the checks 1 to 4 have passed
 settled_is : (c : Else-fraction_bits-gt31) → let a = c.args in settled a.fraction_bits a.normalised a.taps.now ≡ answer (goal.at-Else-fraction_bits-gt31 c).Start
@@ -81,4 +82,4 @@ returns-then-normalised c =
 pub returns-else-normalised : goal.returns-else-normalised
 returns-else-normalised c =
     let args = c.args in
-    undivided args.fraction_bits args.taps.now args.coefficients.now _ _ args.normalised c.if-normalised.false (settled_is (goal.at-returns-else-normalised c).Else-fraction_bits-gt31) (of_bits binary64 0x3ff0_0000_0000_0000) one_is c.settle.ensures.result_value c.settle.ensures.coefficients_after
+    undivided args.fraction_bits args.taps.now args.coefficients.now _ _ args.normalised c.if-normalised.false (settled_is (goal.at-returns-else-normalised c).Else-fraction_bits-gt31) (of_bits binary64 0x3ff0_0000_0000_0000) one_is (c.settle.ensures.result_value 5 (search rules)) (c.settle.ensures.coefficients_after 5 (search rules))

@@ -1,5 +1,4 @@
 -- `tap::pattern::of_bits` meets its contract. Assumes nothing.
-use borrow.Author.Rules.{rules}
 use Rattle.tap.proofs.Nan.{nan_read, not_nan}
 use Rattle.tap.proofs.pattern.of_bits.Goals as goal
 
