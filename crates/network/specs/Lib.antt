@@ -1,4 +1,5 @@
 pub mod Rows
+pub mod Inner
 pub mod RowRule
 pub mod Coefficients
 pub mod TapRowRule

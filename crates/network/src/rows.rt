@@ -37,9 +37,6 @@ pub fn write_row(rows: &mut [u32], i: usize, row: Row)
     ensures { rows.new ≡ sets rows.old (row_words * i) (words_of_row row) }
 {
     let at = ROW_WORDS * i;
-    rows[at] = row.left;
-    rows[at + 1] = row.right;
-    rows[at + 2] = row.shift;
-    rows[at + 3] = row.sign;
-    rows[at + 4] = row.value;
+    let words = [row.left, row.right, row.shift, row.sign, row.value];
+    rows[at..at + ROW_WORDS].copy_from_slice(&words);
 }

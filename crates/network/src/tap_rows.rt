@@ -27,7 +27,5 @@ pub fn write_tap_row(taps: &mut [u32], j: usize, tap: TapRow)
     ensures { taps.new ≡ sets taps.old (tap_words * j) (words_of_tap_row tap) }
 {
     let at = TAP_WORDS * j;
-    taps[at] = tap.sign;
-    taps[at + 1] = tap.row;
-    taps[at + 2] = tap.shift;
+    taps[at..at + TAP_WORDS].copy_from_slice(&[tap.sign, tap.row, tap.shift]);
 }

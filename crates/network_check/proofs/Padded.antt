@@ -1,10 +1,10 @@
 -- A list of coefficients with zeros past them, 256 in all. Assumes nothing.
 use mathlib.Core.Path.{◌≡◌, refl, sym, ap, ◌∙◌}
 use mathlib.Core.List.{List, [], ◌∷◌, ◌++◌}
-use Prim.Native.Nat.{ℕ, zero, suc, ◌+◌, ◌-◌, ◌≤◌}
+use Prim.Native.Nat.{ℕ, zero, suc, ◌-◌}
 use native.Mathlib.Omega.{arith}
 use lib.IntN.{ℤ, pos}
-use lib.ListN.{length, get_or, take, drop, replicate, length-append, length-replicate}
+use lib.ListN.{length, get_or, take, drop, replicate}
 use lib.Seq.{take_at}
 use Rattle.sequence.proofs.Members.{same_at}
 use Rattle.network_check.specs.Inner.{padded}
@@ -27,13 +27,6 @@ pub padded_is : (h old : List ℤ) (m : ℕ) → length h ≡ m → old ≡ repl
 unfolding padded
 padded_is h old m e z =
     ap (λ (l : List ℤ). h ++ l) (ap (drop m) z ∙ zeros_left m 256 ∙ ap (λ (k : ℕ). replicate (256 - k) (pos 0)) (sym e))
-
-pub length_padded : (h : List ℤ) → length h ≤ 256 → length (padded h) ≡ 256
-unfolding padded
-length_padded h l = length-append h (replicate (256 - length h) (pos 0)) ∙ ap (λ (k : ℕ). length h + k) (length-replicate (256 - length h) (pos 0)) ∙ whole (length h) l
-  where
-    whole : (k : ℕ) → k ≤ 256 → k + (256 - k) ≡ 256
-    whole k l = omega arith
 
 pub take_padded : (h : List ℤ) (m : ℕ) → length h ≡ m → take m (padded h) ≡ h
 unfolding padded

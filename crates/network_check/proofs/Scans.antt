@@ -1,38 +1,37 @@
 -- A scan for the lowest place that breaks a rule, over a list that is given place by place. Assumes nothing.
 use mathlib.Core.Path.{◌≡◌, sym, ap, ◌∙◌}
 use mathlib.Core.Bool.{Bool, true, false}
-use Prim.Native.Nat.{ℕ, ◌+◌, ◌≤◌, ◌<◌}
+use Prim.Native.Nat.{ℕ, ◌≤◌, ◌<◌, zero-le}
 use native.Mathlib.Omega.{arith}
-use lib.ListN.{length, drop}
-use Rattle.refusal.specs.Answer.{nowhere, at_place, lowest_from, lowest, place_or}
-use Rattle.refusal.proofs.Checks.{lowest_here, lowest_later, lowest_none, found, found_none}
+use lib.ListN.{length}
+use Rattle.std.specs.Prelude.{Option, Some, None, IfSome, MatchOption}
+use Rattle.refusal.specs.Answer.{found_at, lowest}
+use Rattle.refusal.proofs.Lowest.{is_lowest, is_nowhere}
 use Rattle.sequence.specs.UpTo.{up_to}
 use Rattle.sequence.proofs.UpTo.{length_up_to, get_d_up_to}
 
-module _ {A : Type 0} (f : ℕ → A) (d : A) (breaks : A → Bool) (n i : ℕ) where
-  -- none of the places before i breaks the rule
-  abbrev pub NoneBefore : Type 0
-  NoneBefore = lowest_from i breaks (drop i (up_to n f)) ≡ lowest breaks (up_to n f)
+module _ {A : Type 0} (f : ℕ → A) (d : A) (breaks : A → Bool) (n : ℕ) where
+  -- place k of the n breaks the rule, or keeps it
+  abbrev pub Breaks : ℕ → Type 0
+  Breaks k = k < n → breaks (f k) ≡ true
 
-  within : i < n → i < length (up_to n f)
-  within l = omega (arith, length_up_to n f)
+  abbrev pub Keeps : ℕ → Type 0
+  Keeps k = k < n → breaks (f k) ≡ false
 
-  pub scan_stop : NoneBefore → i < n → breaks (f i) ≡ true → i ≡ place_or n (lowest breaks (up_to n f))
-  scan_stop p l b = ap (place_or n) (sym (lowest_here d breaks (up_to n f) i (within l) (ap breaks (get_d_up_to n f d i l) ∙ b)) ∙ p)
+  -- what a search of the places from 0 on finds
+  abbrev pub IsFound : Option ℕ → Type 0
+  IsFound r = MatchOption r ((k : ℕ) → 0 ≤ k → k < n → Keeps k) (λ i. (0 ≤ i) × (i < n) × Breaks i × ((k : ℕ) → 0 ≤ k → k < i → Keeps k))
 
-  pub scan_next : NoneBefore → i < n → breaks (f i) ≡ false → lowest_from (i + 1) breaks (drop (i + 1) (up_to n f)) ≡ lowest breaks (up_to n f)
-  scan_next p l b = sym (lowest_later d breaks (up_to n f) i (within l) (ap breaks (get_d_up_to n f d i l) ∙ b)) ∙ p
+  pub found_lowest : (r : Option ℕ) → IsFound r → found_at r ≡ lowest breaks (up_to n f)
+  found_lowest None h = sym (is_nowhere d breaks (up_to n f) 0 (λ k l. let m : k < n = omega (arith, l, length_up_to n f) in ap breaks (get_d_up_to n f d k m) ∙ h k zero-le m m))
+  found_lowest (Some i) h =
+      let m : i < length (up_to n f) = omega (arith, h.1, length_up_to n f) in
+      sym (is_lowest d breaks (up_to n f) i (record {
+        within = m;
+        holds = ap breaks (get_d_up_to n f d i h.1) ∙ h.2 h.1;
+        not_before = λ k l. let m : k < n = omega (arith, l, h.1) in ap breaks (get_d_up_to n f d k m) ∙ h.3 k zero-le l m;
+      }))
 
-  pub scan_end : NoneBefore → n ≤ i → n ≡ place_or n (lowest breaks (up_to n f))
-  scan_end p l = ap (place_or n) (sym (lowest_none d breaks (up_to n f) i (omega (arith, length_up_to n f))) ∙ p)
-
-  -- i is the place that was found, or n
-  module _ (e : i ≡ place_or n (lowest breaks (up_to n f))) where
-    whole : i ≡ place_or (length (up_to n f)) (lowest breaks (up_to n f))
-    whole = e ∙ ap (λ (k : ℕ). place_or k (lowest breaks (up_to n f))) (sym (length_up_to n f))
-
-    pub scan_found : i < n → lowest breaks (up_to n f) ≡ at_place i
-    scan_found l = found breaks (up_to n f) i n whole (length_up_to n f) l
-
-    pub scan_none : n ≤ i → lowest breaks (up_to n f) ≡ nowhere
-    scan_none l = found_none breaks (up_to n f) i n whole (length_up_to n f) l
+  pub found_within : (r : Option ℕ) → IsFound r → IfSome r (λ i. i < n)
+  found_within None h = tt
+  found_within (Some i) h = h.1

@@ -1,150 +1,105 @@
 // Checking a network, and the coefficients of one that passes.
 #![tactic(auto)]
 
-ghost use Rattle.std.specs.Prelude.{◌≡◌, ◌++◌, ◌*◌, ◌≤◌, pos, length, drop, replicate};
-ghost use Rattle.refusal.specs.Answer.{lowest, place_or};
-ghost use Rattle.network.specs.Rows.{row_words, tap_words, rows_of, tap_rows_of, network_of, row_table, tap_table};
+ghost use Rattle.std.specs.Prelude.{◌≡◌, ◌++◌, ◌*◌, ◌≤◌, ◌<◌, Bool, false, IfSome, MatchResult, OnOk, pos, length, drop, replicate};
+ghost use Rattle.refusal.specs.Answer.{given, refuse_at, lowest, found_at, answer_of, turned_down_of};
+ghost use Rattle.network.specs.Rows.{row_words, tap_words, rows_of, tap_rows_of, network_of};
 ghost use Rattle.network.specs.Coefficients as Coefficients;
 ghost use Rattle.network.specs.Check.{breaks_row_rule, breaks_tap_row_rule, numbers, checked, network_answer, outcome};
 ghost use Rattle.network.specs.Checked.{NetworkChecked, CoefficientsRead};
-ghost use Rattle.network_check.specs.Checked.{answer_of};
-ghost use Rattle.network_check.specs.Inner.{is_given, Holds};
+ghost use Rattle.network.specs.Claims.{TablesFit};
+ghost use Rattle.network_check.specs.Inner.{padded};
 
-use network_rules::TapProduct;
+use network::NetworkTables;
 use refusal::Refusal;
 
-#[derive(Clone, Copy)]
-pub enum Checked {
-    Passed,
-    Refused(Refusal),
+// The rows of a network are at most so many.
+const MOST_ROWS: usize = 4096;
+
+// The lowest row that breaks the row rule.
+fn first_broken_row(network: NetworkTables) -> Option<usize>
+    requires { row_words * network.row_count ≤ length network.rows.now }
+    ensures value { let net = network.entry in
+        found_at result ≡ lowest (breaks_row_rule (rows_of net.rows.now net.row_count)) (numbers net.row_count) }
+    ensures within { IfSome result (λ i. i < network.entry.row_count) }
+{
+    (0..network.row_count).find(|i| !network_rules::keeps_row_rule(network.rows, *i))
 }
 
-// Whether nothing was turned down.
-pub fn passes(answer: Checked) -> bool
-    ensures { result ≡ is_given (answer_of answer) }
+// The coefficients, written to the buffer up to the lowest tap that breaks the tap row rule.
+fn fill(network: NetworkTables, buffer: &mut [i32; 256]) -> Result<(), Refusal>
+    requires { (row_words * network.row_count ≤ length network.rows.now) × (tap_words * network.tap_count ≤ length network.taps.now) × (network.tap_count ≤ 256) × (length buffer.old ≡ 256) }
+    ensures value { let net = network.entry in
+        answer_of result ≡ refuse_at (lowest (breaks_tap_row_rule (rows_of net.rows.now net.row_count)) (tap_rows_of net.taps.now net.tap_count)) 11 (given tt) }
+    ensures buffer_after { let net = network.entry in
+        OnOk result (buffer.new ≡ Coefficients.coefficients (network_of net.rows.now net.row_count net.taps.now net.tap_count) ++ drop net.tap_count buffer.old) }
 {
-    match answer {
-        Checked::Passed => true,
-        Checked::Refused(_) => false,
-    }
-}
-
-// The lowest row that breaks the row rule, n where none does.
-fn first_broken_row(rows: &[u32], n: usize) -> usize
-    requires { row_words * n ≤ length rows.now }
-    ensures { result ≡ place_or n (lowest (breaks_row_rule (rows_of rows.now n)) (numbers n)) }
-{
-    let mut i: usize = 0;
-    while i < n {
-        if !network_rules::keeps_row_rule(rows, i) {
-            return i;
-        }
-        i += 1;
-    }
-    n
-}
-
-// The lowest tap that breaks the tap row rule, m where none does. The coefficients of the taps
-// before it are written to the buffer.
-fn fill(rows: &[u32], n: usize, taps: &[u32], m: usize, buffer: &mut [i32; 256]) -> usize
-    requires { (row_words * n ≤ length rows.now) × (tap_words * m ≤ length taps.now) × (m ≤ 256) × (length buffer.old ≡ 256) }
-    ensures value { result ≡ place_or m (lowest (breaks_tap_row_rule (rows_of rows.now n)) (tap_rows_of taps.now m)) }
-    ensures buffer_after { result ≡ m → buffer.new
-        ≡ Coefficients.coefficients (network_of rows.now n taps.now m) ++ drop m buffer.old }
-{
-    let mut j: usize = 0;
-    while j < m {
-        let TapProduct::Coefficient(c) = network_rules::tap_product(rows, n, taps, j) else {
-            return j;
+    for j in 0..network.tap_count {
+        let Some(c) = network_rules::tap_product(network, j) else {
+            return Err(Refusal::TapRowRule(j as u32));
         };
         buffer[j] = c;
-        j += 1;
     }
-    m
+    Ok(())
+}
+
+// The checks 1, 2 and 3 of the tables of a network. What they turn down is turned down by every
+// entry that is lent these tables, whatever else is lent to it.
+pub fn tables_fit(network: NetworkTables) -> Result<(), Refusal>
+    ensures { let net = network.entry in MatchResult result
+        (λ _. TablesFit false net.rows.now net.taps.now net.tap_count)
+        (λ refusal. (short : Bool) → turned_down_of refusal ≡ outcome (network_answer short net.rows.now net.row_count net.taps.now net.tap_count)) }
+{
+    if network.tap_count == 0 {
+        return Err(Refusal::NoTaps);
+    }
+    if network.tap_count > 256 {
+        return Err(Refusal::TooManyTaps);
+    }
+    if network.rows.len() < network::ROW_TABLE || network.taps.len() < network::TAP_TABLE {
+        return Err(Refusal::ShortTable);
+    }
+    Ok(())
 }
 
 // The checks 10 and 11 of a network in tables that are long enough. Where it passes, its
 // coefficients are in the buffer, and zeros past them.
-fn rules(rows: &[u32], n: usize, taps: &[u32], m: usize, buffer: &mut [i32; 256]) -> Checked
-    requires { (row_table ≤ length rows.now) × (tap_table ≤ length taps.now) × (m ≤ 256) × (buffer.old ≡ replicate 256 (pos 0)) }
-    ensures result_value { answer_of result ≡ outcome (checked (network_of rows.now n taps.now m)) }
-    ensures holds { Holds (checked (network_of rows.now n taps.now m)) buffer.new }
+pub fn keeps_rules(network: NetworkTables, buffer: &mut [i32; 256]) -> Result<(), Refusal>
+    requires fit { TablesFit false network.rows.now network.taps.now network.tap_count }
+    requires zeros { buffer.old ≡ replicate 256 (pos 0) }
+    ensures answer { let net = network.entry in
+        answer_of result ≡ outcome (checked (network_of net.rows.now net.row_count net.taps.now net.tap_count)) }
+    ensures filled { let net = network.entry in
+        OnOk result (buffer.new ≡ padded (Coefficients.coefficients (network_of net.rows.now net.row_count net.taps.now net.tap_count))) }
 {
-    if n == 0 {
-        return Checked::Refused(Refusal::RowRule(0));
+    if network.row_count == 0 || network.row_count > MOST_ROWS {
+        return Err(Refusal::RowRule(0));
     }
-    if n > 4096 {
-        return Checked::Refused(Refusal::RowRule(0));
+    if let Some(row) = first_broken_row(network) {
+        return Err(Refusal::RowRule(row as u32));
     }
-    let row = first_broken_row(rows, n);
-    if row < n {
-        return Checked::Refused(Refusal::RowRule(row as u32));
-    }
-    let tap = fill(rows, n, taps, m, buffer);
-    if tap < m {
-        return Checked::Refused(Refusal::TapRowRule(tap as u32));
-    }
-    Checked::Passed
-}
-
-// All checks of an entry that is handed a network; short says that another table lent to it is
-// under its length. Where nothing is turned down, the coefficients are in the buffer, and zeros
-// past them.
-pub fn examine(
-    rows: &[u32],
-    row_count: usize,
-    taps: &[u32],
-    tap_count: usize,
-    short: bool,
-    buffer: &mut [i32; 256],
-) -> Checked
-    requires { buffer.old ≡ replicate 256 (pos 0) }
-    ensures result_value { answer_of result ≡ outcome (network_answer short rows.now row_count taps.now tap_count) }
-    ensures holds { Holds (network_answer short rows.now row_count taps.now tap_count) buffer.new }
-{
-    if tap_count == 0 {
-        return Checked::Refused(Refusal::NoTaps);
-    }
-    if tap_count > 256 {
-        return Checked::Refused(Refusal::TooManyTaps);
-    }
-    if rows.len() < network::ROW_TABLE {
-        return Checked::Refused(Refusal::ShortTable);
-    }
-    if taps.len() < network::TAP_TABLE {
-        return Checked::Refused(Refusal::ShortTable);
-    }
-    if short {
-        return Checked::Refused(Refusal::ShortTable);
-    }
-    rules(rows, row_count, taps, tap_count, buffer)
+    fill(network, buffer)
 }
 
 // Whether the tables hold a network that keeps the rules, and else why not.
-pub fn check(rows: &[u32], row_count: usize, taps: &[u32], tap_count: usize) -> Checked
-    ensures { NetworkChecked rows.now row_count taps.now tap_count (answer_of result) }
+pub fn check(network: NetworkTables) -> Result<(), Refusal>
+    ensures { NetworkChecked network.entry.rows.now network.entry.row_count network.entry.taps.now network.entry.tap_count (answer_of result) }
 {
-    let mut buffer = [0i32; 256];
-    examine(rows, row_count, taps, tap_count, false, &mut buffer)
+    tables_fit(network)?;
+    keeps_rules(network, &mut [0; 256])
 }
 
 // The coefficients of a network that passes the checks, one per tap. On a refusal the lent table is
 // not written.
-pub fn coefficients(
-    rows: &[u32],
-    row_count: usize,
-    taps: &[u32],
-    tap_count: usize,
-    table: &mut [i32],
-) -> Checked
-    ensures { CoefficientsRead rows.now row_count taps.now tap_count table.old (answer_of result) table.new }
+pub fn coefficients(network: NetworkTables, table: &mut [i32]) -> Result<(), Refusal>
+    ensures { CoefficientsRead network.entry.rows.now network.entry.row_count network.entry.taps.now network.entry.tap_count table.old (answer_of result) table.new }
 {
-    let mut buffer = [0i32; 256];
-    let short = table.len() < tap_count;
-    let answer = examine(rows, row_count, taps, tap_count, short, &mut buffer);
-    if passes(answer) {
-        sequence::copy(&buffer, tap_count, table);
-        return answer;
+    tables_fit(network)?;
+    if table.len() < network.tap_count {
+        return Err(Refusal::ShortTable);
     }
-    answer
+    let mut buffer = [0; 256];
+    keeps_rules(network, &mut buffer)?;
+    table[..network.tap_count].copy_from_slice(&buffer[..network.tap_count]);
+    Ok(())
 }

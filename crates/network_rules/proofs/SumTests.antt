@@ -1,66 +1,13 @@
 -- Shift, sign and value of a later row, test by test, as the code makes the tests. Assumes nothing.
-use mathlib.Core.Path.{◌≡◌, refl, sym, ap, ap₂, subst, ◌∙◌}
-use mathlib.Core.Bool.{Bool, true, false, cond, ◌&&◌, and-false, or-false}
-use Prim.Native.Nat.{ℕ, ◌+◌, ◌*◌, ◌-◌, ◌%◌, ◌^◌, ◌≤◌, ◌<◌}
+use mathlib.Core.Path.{◌≡◌, refl, sym, ap, ap₂, ◌∙◌}
+use mathlib.Core.Bool.{Bool, true, false, ◌&&◌, and-false}
+use Prim.Native.Nat.{ℕ, ◌-◌, ◌%◌, ◌^◌, ◌≤◌}
 use native.Mathlib.Omega.{arith}
-use borrow.Author.Tests.{leb-true, eqb-true, le-leb, eq-eqb, ne_eqb}
+use borrow.Author.Tests.{leb-true, eqb-true, le-leb}
 use lib.Dec.{eqb, leb}
 use Rattle.network.specs.declared.Row.{Row}
-use Rattle.network.specs.Rows.{plus, minus, reversed}
 use Rattle.network.specs.RowRule.{lifted, shift_within, is_worked_of, value_within, is_sum_of}
-use Rattle.network.proofs.Booleans.{both, same_truth}
-use Rattle.network.proofs.RowTests.{worked_tests}
-
--- ---- the value that a sign gives
-
--- the one of a, b and v that is the sum of the other two under the sign s, 0 under no sign
-abbrev pub total_of : ℕ → ℕ → ℕ → ℕ → ℕ
-total_of s a b v = cond (eqb s plus) v (cond (eqb s minus) a (cond (eqb s reversed) b 0))
-
--- x, y and z are what the code chooses
-pub total_is : (s a b v x y z : ℕ) → x ≡ cond (eqb s reversed) b 0 → y ≡ cond (eqb s minus) a x → z ≡ cond (eqb s plus) v y → z ≡ total_of s a b v
-total_is s a b v x y z e f g = g ∙ ap (λ (n : ℕ). cond (eqb s plus) v n) (f ∙ ap (λ (n : ℕ). cond (eqb s minus) a n) e)
-
-pub below : (t : Bool) (x y m : ℕ) → x < m → y < m → cond t x y < m
-below true x y m l k = l
-below false x y m l k = k
-
--- twice the number fits a word
-pub total_twice : (s a b v z : ℕ) → z ≡ total_of s a b v → a < 2 ^ 63 → b < 2 ^ 63 → v < 2 ^ 63 → (z * 2) % 2 ^ 64 ≡ 2 * total_of s a b v
-total_twice s a b v z e l k n =
-    let u = below (eqb s plus) v _ (2 ^ 63) n (below (eqb s minus) a _ (2 ^ 63) l (below (eqb s reversed) b 0 (2 ^ 63) k (omega arith))) in
-    omega (arith, e, u)
-
-same_numbers : (x y z u : ℕ) → (x ≡ y → z ≡ u) → (z ≡ u → x ≡ y) → eqb x y ≡ eqb z u
-same_numbers x y z u f g = same_truth (eqb x y) (eqb z u) (λ e. eq-eqb z u (f (eqb-true x y e))) (λ e. eq-eqb x y (g (eqb-true z u e)))
-
--- a sum of all three is twice the one that is the sum of the other two
-module _ (s a b v : ℕ) (n : 1 ≤ v) where
-  Holds : ℕ → Type 0
-  Holds t = eqb (a + b + v) (2 * total_of t a b v) ≡ is_worked_of t a b v
-
-  by_plus : Holds plus
-  unfolding Holds
-  by_plus = same_numbers (a + b + v) (2 * v) (a + b) v (λ e. omega (arith, e)) (λ e. omega (arith, e))
-
-  by_minus : Holds minus
-  unfolding Holds
-  by_minus = same_numbers (a + b + v) (2 * a) (v + b) a (λ e. omega (arith, e)) (λ e. omega (arith, e)) ∙ sym (or-false (eqb (v + b) a)) ∙ worked_tests minus a b v
-
-  by_reversed : Holds reversed
-  unfolding Holds
-  by_reversed = same_numbers (a + b + v) (2 * b) (v + a) b (λ e. omega (arith, e)) (λ e. omega (arith, e)) ∙ worked_tests reversed a b v
-
-  by_sign : (x y z : Bool) → eqb s plus ≡ x → eqb s minus ≡ y → eqb s reversed ≡ z → Holds s
-  unfolding Holds
-  by_sign true y z e f g = subst Holds (sym (eqb-true s plus e)) by_plus
-  by_sign false true z e f g = subst Holds (sym (eqb-true s minus f)) by_minus
-  by_sign false false true e f g = subst Holds (sym (eqb-true s reversed g)) by_reversed
-  by_sign false false false e f g = rw (e, f, g) (ne_eqb (a + b + v) 0 (λ p. omega (arith, p)))
-
-  pub total_worked : eqb (a + b + v) (2 * total_of s a b v) ≡ is_worked_of s a b v
-  unfolding Holds
-  total_worked = by_sign (eqb s plus) (eqb s minus) (eqb s reversed) refl refl refl
+use Rattle.network.proofs.Booleans.{both}
 
 -- ---- shift, sign and value
 

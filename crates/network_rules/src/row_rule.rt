@@ -1,16 +1,10 @@
 // The row rule.
 ghost use Rattle.std.specs.Prelude.{◌≡◌, ℕ, ◌+◌, ◌*◌, ◌^◌, ◌≤◌, ◌<◌, length};
 ghost use Rattle.network.specs.Rows.{row_words, rows_of};
-ghost use Rattle.network.specs.RowRule.{is_first_of, is_worked_of, is_sum_of, keeps_row_rule_of};
+ghost use Rattle.network.specs.RowRule.{is_worked_of, is_sum_of, keeps_row_rule_of};
 
-use network::{MINUS, PLUS, REVERSED, Row};
-use word::choose_wide;
-
-fn is_first(row: Row) -> bool
-    ensures { result ≡ is_first_of row }
-{
-    (row.left == 0) & (row.right == 0) & (row.shift == 0) & (row.sign == PLUS) & (row.value == 1)
-}
+use network::{FIRST, MINUS, PLUS, REVERSED, Row};
+use word::choose;
 
 // The value v, which is not 0, is the one that the sign gives for a and b: of the three the sign
 // names one that is the sum of the other two.
@@ -18,9 +12,9 @@ fn is_worked(sign: u32, a: u64, b: u64, v: u64) -> bool
     requires { (a < 2 ^ 63) × (b < 2 ^ 32) × (v < 2 ^ 32) }
     ensures { 1 ≤ v → result ≡ is_worked_of sign a b v }
 {
-    let right = choose_wide(sign == REVERSED, b, 0);
-    let left = choose_wide(sign == MINUS, a, right);
-    a + b + v == choose_wide(sign == PLUS, v, left) << 1
+    let right = choose(sign == REVERSED, b, 0);
+    let left = choose(sign == MINUS, a, right);
+    a + b + v == choose(sign == PLUS, v, left) << 1
 }
 
 // Shift, sign and value of a later row, over the values of the rows that it names. There is no
@@ -30,7 +24,7 @@ fn is_sum(row: Row, left: u32, right: u32) -> bool
 {
     let a = crate::lift(row.shift % 32, left);
     ((1 <= row.shift) & (row.shift <= 31))
-        & is_worked(row.sign, a, word::wide(right), word::wide(row.value))
+        & is_worked(row.sign, a, right as u64, row.value as u64)
         & ((row.value % 2 == 1) & (row.value <= 2147483647))
         & (a <= 4294967296)
 }
@@ -42,14 +36,11 @@ pub fn keeps_row_rule(rows: &[u32], i: usize) -> bool
 {
     let row = network::read_row(rows, i);
     if i == 0 {
-        return is_first(row);
+        return row == FIRST;
     }
-    let left = word::index(row.left);
-    let right = word::index(row.right);
-    if left >= i {
-        return false;
-    }
-    if right >= i {
+    let left = row.left as usize;
+    let right = row.right as usize;
+    if left >= i || right >= i {
         return false;
     }
     is_sum(

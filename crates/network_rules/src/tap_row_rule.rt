@@ -8,35 +8,16 @@ ghost use Rattle.network.specs.TapRowRule.{is_tap_sign};
 ghost use Rattle.word.specs.Bounds.{within_bounds};
 ghost use Rattle.network_rules.specs.Inner.{product_of};
 
-use network::{MINUS, NONE, PLUS};
-use word::choose_wide;
-
-// The product of a tap row, where it is a coefficient.
-#[derive(Clone, Copy)]
-pub enum TapProduct {
-    Coefficient(i32),
-    Broken,
-}
-
-// A word of 32 bits read as signed.
-fn signed(word: u64) -> i32
-    requires { word < 2 ^ 32 }
-    ensures { result ≡ to_z w32 word }
-{
-    if word < 0x8000_0000 {
-        word as i32
-    } else {
-        !((0xffff_ffff - word) as i32)
-    }
-}
+use network::{MINUS, NONE, NetworkTables, PLUS};
+use word::choose;
 
 // p with the sign of a tap row, where that is a coefficient.
 fn with_sign(sign: u32, p: u64) -> i32
     requires { (p ≤ 2 ^ 31) × ((is_tap_sign sign && within_bounds (with_sign sign (pos p))) ≡ true) }
     ensures { result ≡ with_sign sign (pos p) }
 {
-    let negative = (0x1_0000_0000 - p) % 0x1_0000_0000;
-    signed(choose_wide(sign == MINUS, negative, p))
+    let word = p as u32;
+    choose(sign == MINUS, word.wrapping_neg(), word).cast_signed()
 }
 
 // The shift and the sign are those of a tap row that is not empty, and p with the sign is a
@@ -48,28 +29,26 @@ fn is_product(shift: u32, sign: u32, p: u64) -> bool
 {
     (shift <= 31)
         & ((sign == PLUS) | (sign == MINUS))
-        & (2 * p <= 0x1_0000_0000 - word::wide(MINUS) + word::wide(sign))
+        & (2 * p <= 0x1_0000_0000 - (MINUS as u64) + (sign as u64))
 }
 
-// The product of tap row j over the first n rows.
-pub fn tap_product(rows: &[u32], n: usize, taps: &[u32], j: usize) -> TapProduct
-    requires { (row_words * n ≤ length rows.now) × (tap_words * j + tap_words ≤ length taps.now) }
-    ensures { result ≡ product_of (rows_of rows.now n) (tap_row_at taps.now j) }
+// The product of tap row j over the rows of the network.
+pub fn tap_product(network: NetworkTables, j: usize) -> Option<i32>
+    requires { (row_words * network.row_count ≤ length network.rows.now) × (tap_words * j + tap_words ≤ length network.taps.now) }
+    ensures { result ≡ product_of (rows_of network.entry.rows.now network.entry.row_count) (tap_row_at network.entry.taps.now j) }
 {
-    let tap = network::read_tap_row(taps, j);
-    let row = word::index(tap.row);
+    let tap = network::read_tap_row(network.taps, j);
+    let row = tap.row as usize;
     if tap.sign == NONE {
-        if (row == 0) & (tap.shift == 0) {
-            return TapProduct::Coefficient(0);
-        }
-        return TapProduct::Broken;
+        return ((row == 0) & (tap.shift == 0)).then_some(0);
     }
-    if row >= n {
-        return TapProduct::Broken;
+    if row >= network.row_count {
+        return None;
     }
-    let p = crate::lift(tap.shift % 32, network::read_value(rows, row));
+    let p = crate::lift(tap.shift % 32, network::read_value(network.rows, row));
     if is_product(tap.shift, tap.sign, p) {
-        return TapProduct::Coefficient(with_sign(tap.sign, p));
+        Some(with_sign(tap.sign, p))
+    } else {
+        None
     }
-    TapProduct::Broken
 }

@@ -1,20 +1,12 @@
--- `network::tap_rows::write_tap_row` meets its contract. Assumes nothing.
-use mathlib.Core.Path.{◌≡◌}
-use Prim.Native.Nat.{suc, ◌+◌, ◌*◌}
-use native.Mathlib.Omega.{arith}
-use lib.ListN.{length-set}
-use Rattle.network.specs.Rows.{tap_words}
+-- `network::tap_rows::write_tap_row` meets its contract: a copy into a part is the words written one after the other. Assumes nothing.
+use Rattle.std.proofs.Common.{◌*◌, ◌∙◌, sym, refl, arith}
+use Rattle.std.proofs.lemmas.List.Edits.{sets-eq}
+use Rattle.std.proofs.lemmas.Slice.{put_mid-paste}
+use Rattle.network.specs.Rows.{tap_words, words_of_tap_row}
 use Rattle.network.proofs.tap_rows.write_tap_row.Goals as goal
-
-pub bounds-taps-at-2 : goal.bounds-taps-at-2
-bounds-taps-at-2 c = simp length-set (omega arith)
-
-pub bounds-taps-at-3 : goal.bounds-taps-at-3
-bounds-taps-at-3 c = simp length-set (omega arith)
 
 pub returns : goal.returns
 returns c =
-    let at = tap_words * c.args.j in
-    let one : at + 1 ≡ suc at = omega arith in
-    let two : at + 2 ≡ suc (suc at) = omega arith in
-    cc (one, two)
+    let words = words_of_tap_row c.args.tap in
+    let copied = put_mid-paste (tap_words * c.args.j) _ c.args.taps.now _ words tap_words c.copy_from_slice.ensures.after (omega arith) refl in
+    copied ∙ sym (sets-eq words c.args.taps.now (tap_words * c.args.j) c.requires)
