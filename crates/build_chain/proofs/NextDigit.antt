@@ -65,7 +65,10 @@ module _ (v : ℕ) (h : 1 ≤ v) (s : DigitString) where
   raised_small k p true l = omega (arith, never_falls (2 ^ k * v + 1) 0 s (next_above k p true))
   raised_small k p false l = omega (arith, two k p, never_falls (2 ^ k * v - 1) 0 s (next_above k p false))
 
-module _ (form : Form) (c : Chain) (d : Digits form c) (small : form.plus < 2 ^ 32) (q : ℕ) (low : 2 ^ q ≤ c.rest) (high : c.rest < 2 ^ suc q) where
+module _ (c : Chain) (d : Digits c) (small : c.form.plus < 2 ^ 32) (q : ℕ) (low : 2 ^ q ≤ c.rest) (high : c.rest < 2 ^ suc q) where
+  abbrev form : Form
+  form = c.form
+
   abbrev s : DigitString
   s = string_of form
 
@@ -98,7 +101,7 @@ module _ (form : Form) (c : Chain) (d : Digits form c) (small : form.plus < 2 ^ 
   pub raised_fits : (2 ≤ 2 ^ (c.place - q) * c.value) × (2 ^ (c.place - q) * c.value ≤ 2 ^ 31)
   raised_fits = (two c.value d.above (below form q) (c.place - q) gap_some, raised_small c.value d.above (below form q) (c.place - q) gap_some bit (omega (arith, value_next, d.ends)))
 
-  pub is_next : IsNext form c (record { gap = c.place - q; sign = next_sign bit; value = next_value bit (c.place - q) c.value; place = q; rest = c.rest - 2 ^ q })
+  pub is_next : IsNext c (record { gap = c.place - q; sign = next_sign bit; value = next_value bit (c.place - q) c.value; place = q; rest = c.rest - 2 ^ q })
   is_next = record {
     place_to = n.before;
     rest = omega (arith, n.rest, d.rest);

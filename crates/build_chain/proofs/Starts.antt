@@ -12,7 +12,7 @@ use Rattle.form_masks.specs.declared.Form.{Form}
 use Rattle.form_masks.specs.Form.{string_of}
 use Rattle.network.specs.declared.Row.{Row}
 use Rattle.build_steps.specs.Chain.{chain_from, chain_down, chained, chain_value, chain_end}
-use Rattle.build_chain.specs.Inner.{Readable, Reading, below}
+use Rattle.build_chain.specs.Inner.{Readable, Started, below}
 use Rattle.build_chain.proofs.HighDigits.{places, Next, next, end_none}
 use Rattle.build_chain.proofs.Masks.{string_places, string_mask}
 
@@ -57,13 +57,16 @@ module _ (form : Form) (rows : List Row) (r : Readable form rows) (p : form.plus
     unfolding chain_end
     value_is = ends ∙ ap (λ (d : Digit). chain_end (d ∷ below form q)) top_is
 
-    pub start_rows : chain_from rows 1 1 (below form q) ≡ chained rows (string_of form)
+    start_rows : chain_from rows 1 1 (below form q) ≡ chained rows (string_of form)
     unfolding chained chain_down
     start_rows =
         sym (ap (λ (x : DigitString). chain_down rows (reverse x)) (sym whole) ∙ n.down rows ∙ ap (λ (d : Digit). chain_down rows (d ∷ below form q)) top_is)
 
-    pub started : (k : ℕ) → Reading form (record { rows = k; row = 0; value = 1; place = q; rest = bit_or form.plus form.minus - 2 ^ q }) rows
-    started k = record {
-      digits = record { place_to = n.before; rest = omega (arith, n.rest, mask_whole); above = omega arith; ends = omega (arith, value_is, r.below) };
-      row = r.one;
+    pub started : Started form rows (record { form = form; row = 0; value = 1; place = q; rest = bit_or form.plus form.minus - 2 ^ q })
+    started = record {
+      reading = record {
+        digits = record { place_to = n.before; rest = omega (arith, n.rest, mask_whole); above = omega arith; ends = omega (arith, value_is, r.below) };
+        row = r.one;
+      };
+      same = start_rows;
     }

@@ -1,34 +1,26 @@
 // Step 3 of building: a chosen form read from its highest nonzero digit down, with a row for each value
-// on the way, over rows with their index.
+// on the way.
 #![tactic(auto)]
 
 mod chosen;
 
-ghost use Rattle.std.specs.Prelude.{◌≡◌, suc, ◌+◌, ◌*◌, ◌-◌, ◌^◌, ◌≤◌, ◌<◌, length};
+ghost use Rattle.std.specs.Prelude.{◌≡◌, ◌*◌, ◌^◌, ◌<◌, length};
 ghost use Rattle.form_masks.specs.Form.{string_of};
-ghost use Rattle.network.specs.Rows.{rows_of};
 ghost use Rattle.build_steps.specs.Search.{row_with};
 ghost use Rattle.build_steps.specs.Chain.{add_unless, chained};
-ghost use Rattle.build_index.specs.Inner.{Indexed, HasRoom, Grown};
-ghost use Rattle.build_chain.specs.Inner.{Readable, Digits, Reading, to_come, IsNext, Reached, Turned};
+ghost use Rattle.build_index.specs.Inner.{IsIndexed, HasRoom, Grown};
+ghost use Rattle.build_chain.specs.Inner.{rows_in, Readable, Digits, Reading, to_come, IsNext, Reached, Turned};
 
-use build_index::Found;
+use build_index::Rows;
 pub use chosen::chosen_form;
 use form_masks::Form;
 use network::Row;
 
-// The number of rows, and the row that was wanted.
-#[derive(Clone, Copy)]
-struct Place {
-    rows: usize,
-    row: u32,
-}
-
-// A form that is being read: the number of rows; the row and the value of the digits that are read; the
-// place of the last of these, and the nonzero digits below it.
+// A form that is being read: the row and the value of the digits that are read; the place of the last of
+// these, and the nonzero digits below it.
 #[derive(Clone, Copy)]
 struct Chain {
-    rows: usize,
+    form: Form,
     row: u32,
     value: u32,
     place: u32,
@@ -46,14 +38,6 @@ struct Step {
     rest: u32,
 }
 
-// The highest place of a mask.
-fn highest(mask: u32) -> u32
-    requires { 0 < mask }
-    ensures { (2 ^ result ≤ mask) × (mask < 2 ^ suc result) × (result < 32) }
-{
-    31 - u32::leading_zeros(mask)
-}
-
 // v moved up by some places.
 fn lifted(v: u32, places: u32) -> u32
     requires { (places < 32) × (2 ^ places * v < 2 ^ 32) }
@@ -62,95 +46,82 @@ fn lifted(v: u32, places: u32) -> u32
     v << places
 }
 
-// The row of a value; the row is written where the value has none.
-fn reach(table: &mut [u32], heads: &mut [u16], links: &mut [u16], n: usize, row: Row) -> Place
-    requires indexed { Indexed table.old heads.old links.old n }
-    requires has_room { HasRoom table.old links.old (length (add_unless (row_with (rows_of table.old n) row.value) (rows_of table.old n) row)) }
-    ensures { Reached table.old n row table.new heads.new links.new result }
+// The number of the row of a value; the row is written where the value has none.
+fn reach(rows: &mut Rows, row: Row) -> u32
+    requires indexed { IsIndexed rows.old }
+    requires has_room { HasRoom rows.old (length (add_unless (row_with (rows_in rows.old) row.value) (rows_in rows.old) row)) }
+    ensures { Reached rows.old row rows.new result }
 {
-    match build_index::find(table, heads, links, n, row.value) {
-        Found::At(i) => Place {
-            rows: n,
-            row: i as u32,
-        },
-        Found::Missing => {
-            build_index::put(table, heads, links, n, row);
-            Place {
-                rows: n + 1,
-                row: n as u32,
-            }
+    match rows.find(row.value) {
+        Some(i) => i as u32,
+        None => {
+            let n = rows.count;
+            rows.put(row);
+            n as u32
         }
     }
 }
 
-// The next nonzero digit.
-fn next_digit(form: Form, chain: Chain) -> Step
-    requires { Digits form chain × (0 < chain.rest) }
-    ensures { IsNext form chain result }
-{
-    let place = highest(chain.rest);
-    let plus = (form.plus >> place) % 2 == 1;
-    let gap = chain.place - place;
-    let raised = lifted(chain.value, gap);
-    Step {
-        gap,
-        sign: word::choose(plus, network::PLUS, network::MINUS),
-        value: word::choose(plus, raised + 1, raised - 1),
-        place,
-        rest: chain.rest - lifted(1, place),
+impl Chain {
+    // The next nonzero digit.
+    fn next_digit(&self) -> Step
+        requires { Digits self.now × (0 < self.now.rest) }
+        ensures { IsNext self.now result }
+    {
+        let place = self.rest.ilog2();
+        let plus = (self.form.plus >> place) % 2 == 1;
+        let gap = self.place - place;
+        let raised = lifted(self.value, gap);
+        Step {
+            gap,
+            sign: word::choose(plus, network::PLUS, network::MINUS),
+            value: word::choose(plus, raised + 1, raised - 1),
+            place,
+            rest: self.rest - lifted(1, place),
+        }
+    }
+
+    // One digit further, with the row of its value.
+    fn turn(self, rows: &mut Rows) -> Chain
+        requires indexed { IsIndexed rows.old }
+        requires reading { Reading self (rows_in rows.old) × (0 < self.rest) }
+        requires has_room { HasRoom rows.old (length (to_come self (rows_in rows.old))) }
+        ensures { Turned rows.old self rows.new result }
+    {
+        let step = self.next_digit();
+        let row = Row {
+            left: self.row,
+            right: 0,
+            shift: step.gap,
+            sign: step.sign,
+            value: step.value,
+        };
+        Chain {
+            form: self.form,
+            row: reach(rows, row),
+            value: step.value,
+            place: step.place,
+            rest: step.rest,
+        }
     }
 }
 
-// One digit further.
-fn turn(table: &mut [u32], heads: &mut [u16], links: &mut [u16], form: Form, chain: Chain) -> Chain
-    requires indexed { Indexed table.old heads.old links.old chain.rows }
-    requires reading { Reading form chain (rows_of table.old chain.rows) × (0 < chain.rest) }
-    requires has_room { HasRoom table.old links.old (length (to_come form chain (rows_of table.old chain.rows))) }
-    ensures { Turned form table.old chain table.new heads.new links.new result }
-{
-    let step = next_digit(form, chain);
-    let row = Row {
-        left: chain.row,
-        right: 0,
-        shift: step.gap,
-        sign: step.sign,
-        value: step.value,
-    };
-    let reached = reach(table, heads, links, chain.rows, row);
-    Chain {
-        rows: reached.rows,
-        row: reached.row,
-        value: step.value,
-        place: step.place,
-        rest: step.rest,
-    }
-}
-
-// Adds the rows of a form, and returns their number with those that were there. The highest nonzero
-// digit, a 1, is row 0.
-pub fn add_chain(
-    table: &mut [u32],
-    heads: &mut [u16],
-    links: &mut [u16],
-    n: usize,
-    form: Form,
-) -> usize
-    requires indexed { Indexed table.old heads.old links.old n × Readable form (rows_of table.old n) }
-    requires has_room { HasRoom table.old links.old (length (chained (rows_of table.old n) (string_of form))) }
-    ensures { Grown table.old table.new heads.new links.new result
-        (chained (rows_of table.old n) (string_of form)) }
+// Adds the rows of a form to those that are there. The highest nonzero digit, a 1, is row 0.
+pub fn add_chain(rows: &mut Rows, form: Form)
+    requires indexed { IsIndexed rows.old × Readable form (rows_in rows.old) }
+    requires has_room { HasRoom rows.old (length (chained (rows_in rows.old) (string_of form))) }
+    ensures { Grown rows.old rows.new (chained (rows_in rows.old) (string_of form)) }
 {
     let mask = form.plus | form.minus;
-    let place = highest(mask);
+    let place = mask.ilog2();
     let mut chain = Chain {
-        rows: n,
+        form,
         row: 0,
         value: 1,
         place,
         rest: mask - lifted(1, place),
     };
     while chain.rest != 0 {
-        chain = turn(table, heads, links, form, chain);
+        chain = chain.turn(rows);
     }
-    chain.rows
 }

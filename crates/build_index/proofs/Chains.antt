@@ -2,7 +2,7 @@
 use mathlib.Core.Path.{◌≡◌, sym, ap, ◌∙◌, subst}
 use mathlib.Core.List.{List}
 use mathlib.Core.Logic.{⊎_elim}
-use Prim.Native.Nat.{ℕ, suc, ◌+◌, ◌-◌, ◌*◌, ◌/◌, ◌^◌, ◌<◌, ◌≤◌}
+use Prim.Native.Nat.{ℕ, ◌+◌, ◌-◌, ◌*◌, ◌/◌, ◌^◌, ◌<◌, ◌≤◌}
 use native.Mathlib.Nat.{eq-or-lt_of_le}
 use native.Mathlib.Omega.{arith}
 use lib.Bits.{bit_xor, and_le_r}
@@ -12,7 +12,7 @@ use Rattle.refusal.specs.Answer.{nowhere}
 use Rattle.network.specs.Rows.{row_words, rows_of}
 use Rattle.build_steps.specs.Search.{row_with}
 use Rattle.build_index.specs.Inner.{value_at, bucket_of, Last, Indexed}
-use Rattle.build_index.proofs.Compare.{le_or_lt, eq_or_ne}
+use Rattle.std.proofs.lemmas.Bool.{cases_eq}
 use Rattle.build_index.proofs.Values.{row_missing}
 
 pub bucket_below : (m v : ℕ) → 0 < m → bucket_of m v < m
@@ -24,24 +24,6 @@ pub record Passed (t : List ℕ) (m n x p : ℕ) : Type 0 where
   pub low : p ≤ n
   pub none : (i : ℕ) → p ≤ i → i < n → value_at t i ≡ x → ⊥
   pub last : 0 < p → bucket_of m (value_at t (p - 1)) ≡ bucket_of m x
-
-pub passed_start : {t : List ℕ} {m n x p : ℕ} → Last t m (bucket_of m x) p n → Passed t m n x p
-passed_start {t} {m} l = record { low = l.low; none = λ i h k e. l.none i h k (ap (bucket_of m) e); last = l.last }
-
-pub passed_next : {t : List ℕ} {m n x p q : ℕ} → Passed t m n x p → 0 < p → (value_at t (p - 1) ≡ x → ⊥)
-    → Last t m (bucket_of m (value_at t (p - 1))) q (p - 1) → Passed t m n x q
-passed_next {t} {m} {n} {x} {p} {q} s pos ne l =
-    record {
-      low = omega (arith, s.low, l.low);
-      none = λ i h k e.
-          ⊎_elim (λ above. s.none i above k e)
-          (λ below.
-          ⊎_elim (λ (same : suc i ≡ p). ne (ap (value_at t) (omega arith) ∙ e))
-          (λ (lt : suc i < p). l.none i h (omega arith) (ap (bucket_of m) e ∙ sym (s.last pos)))
-          (eq-or-lt_of_le below))
-          (le_or_lt p i);
-      last = λ h. l.last h ∙ s.last pos;
-    }
 
 -- what is said of the rows below k holds of every table that has them
 last_kept : {t : List ℕ} (t' : List ℕ) {m h p k : ℕ} → Last t m h p k → ((i : ℕ) → i < k → value_at t' i ≡ value_at t i) → Last t' m h p k
@@ -92,7 +74,7 @@ module _ (t t' heads links : List ℕ) (n x : ℕ) (ix : Indexed t heads links n
       subst (λ y. Last t' (length heads) y (get_or heads' y 0) (n + 1)) (sym e)
       (rw (get_or-set_same heads (bucket_of (length heads) x) (n + 1) 0 in_heads) own_bucket))
       (λ ne. rw (get_or-set_other heads (bucket_of (length heads) x) k (n + 1) 0 ne) (other_bucket k l ne))
-      (eq_or_ne k (bucket_of (length heads) x))
+      (cases_eq k (bucket_of (length heads) x))
 
   links_next : (i : ℕ) → i < n + 1 → Last t' (length heads) (bucket_of (length heads) (value_at t' i)) (get_or links' i 0) i
   unfolding links'

@@ -4,5 +4,4 @@ pub mod Growth
 pub mod Room
 pub mod Values
 -- What they and the proofs of the functions rest on:
-pub mod Compare
 pub mod Chains

@@ -1,13 +1,11 @@
--- Room for fewer rows, and in tables of the same lengths. Assumes nothing.
-use mathlib.Core.Path.{◌≡◌}
-use mathlib.Core.List.{List}
+-- Room for fewer rows, and while rows are added. Assumes nothing.
 use Prim.Native.Nat.{ℕ, ◌≤◌}
 use native.Mathlib.Omega.{arith}
-use lib.ListN.{length}
-use Rattle.build_index.specs.Inner.{HasRoom}
+use Rattle.build_index.specs.declared.Rows.{Rows}
+use Rattle.build_index.specs.Inner.{HasRoom, SameLent}
 
-pub less_room : (table links : List ℕ) (j k : ℕ) → j ≤ k → HasRoom table links k → HasRoom table links j
-less_room table links j k h r = record { few = omega (arith, r.few); words = omega (arith, r.words); linked = omega (arith, r.linked) }
+pub less_room : (r : Rows) (j k : ℕ) → j ≤ k → HasRoom r k → HasRoom r j
+less_room r j k h m = record { few = omega (arith, m.few); words = omega (arith, m.words); linked = omega (arith, m.linked) }
 
-pub same_room : (table links table' links' : List ℕ) (k : ℕ) → length table' ≡ length table → length links' ≡ length links → HasRoom table links k → HasRoom table' links' k
-same_room table links table' links' k t l r = record { few = r.few; words = omega (arith, r.words); linked = omega (arith, r.linked) }
+pub same_room : (r r' : Rows) (k : ℕ) → SameLent r r' → HasRoom r k → HasRoom r' k
+same_room r r' k s m = record { few = m.few; words = omega (arith, m.words, s.table_long); linked = omega (arith, m.linked, s.links_long) }

@@ -2,16 +2,9 @@
 -- the one before it in its bucket. A row i is stored there as i + 1, and 0 stands for none. For the contracts of internal functions. Definitions only.
 use Rattle.std.specs.Prelude.{◌≡◌, List, ℕ, ◌-◌, ◌*◌, ◌/◌, ◌^◌, ◌≤◌, ◌<◌, length, get_or, drop}
 use Rattle.std.specs.Int.Bits.{bit_and, bit_xor}
-use Rattle.refusal.specs.Answer.{Place, nowhere, at_place}
 use Rattle.network.specs.declared.Row.{Row}
 use Rattle.network.specs.Rows.{row_words, row_at, rows_of}
-use Rattle.build_index.specs.declared.Found.{Found}
-use Rattle.build_index.specs.declared.Found.TheVariants.{At, Missing}
-
--- the number of a row, or none
-abbrev pub found_at : Found → Place
-found_at (At i) = at_place i
-found_at Missing = nowhere
+use Rattle.build_index.specs.declared.Rows.{Rows}
 
 -- the value of row i
 abbrev pub value_at : List ℕ → ℕ → ℕ
@@ -38,13 +31,31 @@ pub record Indexed (table heads links : List ℕ) (n : ℕ) : Type 0 where
   pub distinct : (i j : ℕ) → i < j → j < n → value_at table i ≡ value_at table j → ⊥
 
 -- table and index have room for k rows
-pub record HasRoom (table links : List ℕ) (k : ℕ) : Type 0 where
+pub record Room (table links : List ℕ) (k : ℕ) : Type 0 where
   pub few : k ≤ 4096
   pub words : row_words * k ≤ length table
   pub linked : k ≤ length links
 
--- a table has become table': it holds n' rows, which are these, with their index, and is untouched past them
-pub record Grown (table table' heads' links' : List ℕ) (n' : ℕ) (rows' : List Row) : Type 0 where
-  pub rows_are : rows_of table' n' ≡ rows'
-  pub rest : drop (row_words * n') table' ≡ drop (row_words * n') table
-  pub index : Indexed table' heads' links' n'
+-- rows with their index
+abbrev pub IsIndexed : Rows → Type 0
+IsIndexed r = Indexed r.table.now r.heads.now r.links.now r.count
+
+-- table and index have room for k rows
+abbrev pub HasRoom : Rows → ℕ → Type 0
+HasRoom r k = Room r.table.now r.links.now k
+
+-- what is lent stays lent: the same slices, as long as they were
+pub record SameLent (r r' : Rows) : Type 0 where
+  pub table : r'.table.ghost_name ≡ r.table.ghost_name
+  pub heads : r'.heads.ghost_name ≡ r.heads.ghost_name
+  pub links : r'.links.ghost_name ≡ r.links.ghost_name
+  pub table_long : length r'.table.now ≡ length r.table.now
+  pub heads_long : length r'.heads.now ≡ length r.heads.now
+  pub links_long : length r'.links.now ≡ length r.links.now
+
+-- r has become r': these are its rows, with their index, and the table is untouched past them
+pub record Grown (r r' : Rows) (rows' : List Row) : Type 0 where
+  pub rows_are : rows_of r'.table.now r'.count ≡ rows'
+  pub rest : drop (row_words * r'.count) r'.table.now ≡ drop (row_words * r'.count) r.table.now
+  pub index : IsIndexed r'
+  pub lent : SameLent r r'

@@ -2,19 +2,22 @@
 // row of each bucket of values, and for each row the one before it in its bucket.
 #![tactic(auto)]
 
-ghost use Rattle.std.specs.Prelude.{◌≡◌, [], ◌∷◌, ◌++◌, ◌+◌, ◌*◌, ◌≤◌, ◌<◌, length, get_or, set};
-ghost use Rattle.refusal.specs.Answer.{nowhere};
+ghost use Rattle.std.specs.Prelude.{◌≡◌, [], ◌∷◌, ◌++◌, ◌+◌, ◌*◌, ◌≤◌, ◌<◌, length};
+ghost use Rattle.refusal.specs.Answer.{nowhere, found_at};
 ghost use Rattle.network.specs.Rows.{row_words, rows_of};
 ghost use Rattle.build_steps.specs.Search.{row_with};
-ghost use Rattle.build_index.specs.Inner.{bucket_of, Indexed, Grown, found_at};
+ghost use Rattle.build_index.specs.Inner.{value_at, bucket_of, IsIndexed, Grown};
 
 use network::Row;
 
-// What a look-up finds: the number of a row, or none.
-#[derive(Clone, Copy)]
-pub enum Found {
-    At(usize),
-    Missing,
+// Rows in a lent table, and an index by value over them.
+#[derive(Drop)]
+pub struct Rows<'a> {
+    pub table: &'a mut [u32],
+    // Stays: row k as k + 1 in 16 bits, and 0 for none: Option<NonZeroU16> takes 32, and memory is fixed.
+    pub heads: &'a mut [u16],
+    pub links: &'a mut [u16],
+    pub count: usize,
 }
 
 // The bucket of a value, of m buckets: each digit of the value has a say in the upper half of the
@@ -28,43 +31,44 @@ fn bucket(x: u32, m: usize) -> usize
     ((product ^ (product / 0x1_0000_0000)) as usize) & (m - 1)
 }
 
-// The row that has the value x.
-pub fn find(table: &[u32], heads: &[u16], links: &[u16], n: usize, x: u32) -> Found
-    requires { Indexed table.now heads.now links.now n }
-    ensures { found_at result ≡ row_with (rows_of table.now n) x }
-{
-    let h = bucket(x, heads.len());
-    let mut p = word::index_16(heads[h]);
-    while p != 0 {
-        let k = p - 1;
-        if network::read_value(table, k) == x {
-            return Found::At(k);
-        }
-        p = word::index_16(links[k]);
+impl<'a> Rows<'a> {
+    // The value of row i.
+    pub fn value(&self, i: usize) -> u32
+        requires { row_words * i + row_words ≤ length self.now.table.now }
+        ensures { result ≡ value_at self.now.table.now i }
+    {
+        network::read_value(self.table, i)
     }
-    Found::Missing
-}
 
-// Row n, of value x, becomes the last row of its bucket.
-fn enter(heads: &mut [u16], links: &mut [u16], n: usize, x: u32)
-    requires { (n < 4096) × (0 < length heads.old) × (n < length links.old) }
-    ensures links_after { links.new ≡ set links.old n (get_or heads.old (bucket_of (length heads.old) x) 0) }
-    ensures heads_after { heads.new ≡ set heads.old (bucket_of (length heads.old) x) (n + 1) }
-{
-    let own = bucket(x, heads.len());
-    links[n] = heads[own];
-    heads[own] = (n + 1) as u16;
-}
+    // The row that has the value x.
+    pub fn find(&self, x: u32) -> Option<usize>
+        requires { IsIndexed self.now }
+        ensures { found_at result ≡ row_with (rows_of self.now.table.now self.now.count) x }
+    {
+        let h = bucket(x, self.heads.len());
+        let mut p = self.heads[h] as usize;
+        while p != 0 {
+            let k = p - 1;
+            if self.value(k) == x {
+                return Some(k);
+            }
+            p = self.links[k] as usize;
+        }
+        None
+    }
 
-// Row n is written and joins the index. No row has its value yet.
-pub fn put(table: &mut [u32], heads: &mut [u16], links: &mut [u16], n: usize, row: Row)
-    requires indexed { Indexed table.old heads.old links.old n }
-    requires room { (n < 4096) × (row_words * n + row_words ≤ length table.old) × (n < length links.old) }
-    requires new_value { row_with (rows_of table.old n) row.value ≡ nowhere }
-    ensures { Grown table.old table.new heads.new links.new (n + 1)
-        (rows_of table.old n ++ (row ∷ [])) }
-{
-    network::write_row(table, n, row);
-    let x = row.value;
-    enter(heads, links, n, x);
+    // One row more, which joins the index. No row has its value yet.
+    pub fn put(&mut self, row: Row)
+        requires indexed { IsIndexed self.old }
+        requires room { (self.old.count < 4096) × (row_words * self.old.count + row_words ≤ length self.old.table.now) × (self.old.count < length self.old.links.now) }
+        requires new_value { row_with (rows_of self.old.table.now self.old.count) row.value ≡ nowhere }
+        ensures grown { Grown self.old self.new (rows_of self.old.table.now self.old.count ++ (row ∷ [])) }
+        ensures one_more { self.new.count ≡ self.old.count + 1 }
+    {
+        network::write_row(self.table, self.count, row);
+        let own = bucket(row.value, self.heads.len());
+        self.links[self.count] = self.heads[own];
+        self.count += 1;
+        self.heads[own] = self.count as u16;
+    }
 }

@@ -1,3 +1,3 @@
 pub mod NamedRows
-pub mod Sifted
 pub mod Turns
+pub mod Sifted

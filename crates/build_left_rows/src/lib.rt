@@ -2,236 +2,135 @@
 // rows. Left row i at shift s is turn 32·i + s.
 #![tactic(auto)]
 
-ghost use Rattle.std.specs.Prelude.{◌≡◌, true, false, ◌⊎◌, ℕ, ◌+◌, ◌*◌, ◌-◌, ◌/◌, ◌%◌, ◌^◌, ◌≤◌, ◌<◌, length, get_or};
-ghost use Rattle.build_index.specs.Inner.{value_at, Indexed};
-ghost use Rattle.build_sieve.specs.Inner.{mark_at};
-ghost use Rattle.build_left_rows.specs.Inner.{NoTurn, number_for, NoLeft, Sifting, InBlock, Telling};
+ghost use Rattle.std.specs.Prelude.{◌≡◌, ◌⊎◌, ℕ, ◌+◌, ◌*◌, ◌/◌, ◌%◌, ◌^◌, ◌≤◌, ◌<◌, length, get_or};
+ghost use Rattle.build_index.specs.Inner.{value_at, IsIndexed};
+ghost use Rattle.build_sieve.specs.Inner.{mark_at, InMarks};
+ghost use Rattle.build_left_rows.specs.Inner.{NoTurn, NoLeft, Sifting, Passing, InBlock};
 
-use build_index::Found;
+use build_index::Rows;
+use build_sieve::{Pairs, Sieve};
 
-fn distance(a: u32, b: u32) -> u32
-    ensures { result ≡ (a - b) + (b - a) }
-{
-    if a < b { b - a } else { a - b }
+// A pass over the right rows for a new row of value v.
+#[derive(Drop)]
+struct Pass<'a> {
+    rows: &'a Rows<'a>,
+    sieve: &'a Sieve<'a>,
+    v: u32,
 }
 
 // The turn in which x is 2^s·left, and m where there is none below m.
-fn lower(table: &[u32], heads: &[u16], links: &[u16], n: usize, m: usize, x: u32) -> usize
-    requires { Indexed table.now heads.now links.now n × (m ≤ 32 * n) × ((i : ℕ) → i < n → value_at table.now i % 2 ≡ 1) × (0 < x) }
-    ensures { (result ≤ m) × NoTurn table.now result x }
+fn lower(rows: &Rows, m: usize, x: u32) -> usize
+    requires { IsIndexed rows.now × (m ≤ 32 * rows.now.count) × ((i : ℕ) → i < rows.now.count → value_at rows.now.table.now i % 2 ≡ 1) × (0 < x) }
+    ensures { (result ≤ m) × NoTurn rows.now.table.now result x }
 {
-    let shift = u32::trailing_zeros(x);
-    match build_index::find(table, heads, links, n, x >> shift) {
-        Found::At(k) => {
-            let turn = 32 * k + word::index(shift);
-            if turn < m {
-                return turn;
-            }
-            m
-        }
-        Found::Missing => m,
+    let shift = x.trailing_zeros();
+    match rows.find(x >> shift) {
+        Some(k) => m.min(32 * k + (shift as usize)),
+        None => m,
     }
-}
-
-// No turn below the result goes with one of the right rows that a mask of eight names, the first of
-// them at a place, where they make v by their sum with it, or by their difference.
-fn lower_named(
-    table: &[u32],
-    heads: &[u16],
-    links: &[u16],
-    values: &[u32],
-    n: usize,
-    m: usize,
-    v: u32,
-    at: usize,
-    mask: u32,
-    sum: bool,
-) -> usize
-    requires indexed { Indexed table.now heads.now links.now n × (m ≤ 32 * n) × ((i : ℕ) → i < n → value_at table.now i % 2 ≡ 1) }
-    requires right_rows { (v < 2 ^ 31) × (0 < v) × ((i : ℕ) → get_or values.now i 0 < 2 ^ 31) × ((i : ℕ) → get_or values.now i 0 ≡ v → ⊥) }
-    requires named { (mask < 2 ^ 8) × (at + 8 ≤ length values.now) }
-    ensures { (result ≤ m) × ((i : ℕ) → mask / 2 ^ i % 2 ≡ 1 → NoTurn table.now result (number_for sum v (get_or values.now (at + i) 0))) }
-{
-    let mut low = m;
-    let mut rest = mask;
-    let mut j = at;
-    while rest != 0 {
-        let zeros = u32::trailing_zeros(rest);
-        j += word::index(zeros);
-        let r = values[j];
-        let x = word::choose(sum, v + r, distance(v, r));
-        low = lower(table, heads, links, n, low, x);
-        rest = (rest >> zeros) / 2;
-        j += 1;
-    }
-    low
-}
-
-// The same for eight right rows, from one on, by the marks of their cells; `all` has these in one. Most
-// often none of them counts.
-fn lower_marked(
-    table: &[u32],
-    heads: &[u16],
-    links: &[u16],
-    values: &[u32],
-    marks: &[u8],
-    n: usize,
-    m: usize,
-    v: u32,
-    at: usize,
-    cells: &[u32; 32],
-    k: usize,
-    all: u8,
-    sum: bool,
-) -> usize
-    requires sifting { Sifting table.now heads.now links.now values.now marks.now n v × (m ≤ 32 * n) × (at + (k + 8) ≤ length values.now) }
-    requires telling { Telling table.now marks.now cells.now at (k + 8) n v sum × ((i : ℕ) → i < 8 → mark_at marks.now cells.now (k + i) ≤ all) }
-    ensures { (result ≤ m) × ((i : ℕ) → i < 8 → at + (k + i) < n → NoTurn table.now result (number_for sum v (value_at table.now (at + (k + i))))) }
-{
-    let rows = (m + 31) / 32;
-    if !build_sieve::may_be_below(rows, all) {
-        return m;
-    }
-    let mask = build_sieve::marked(marks, cells, k, rows);
-    lower_named(table, heads, links, values, n, m, v, at + k, mask, sum)
-}
-
-// No turn below the result makes v with one of eight right rows, from one on.
-fn lower_eight(
-    table: &[u32],
-    heads: &[u16],
-    links: &[u16],
-    values: &[u32],
-    marks: &[u8],
-    n: usize,
-    m: usize,
-    v: u32,
-    at: usize,
-    sums: &[u32; 32],
-    differences: &[u32; 32],
-    k: usize,
-) -> usize
-    requires sifting { Sifting table.now heads.now links.now values.now marks.now n v × (m ≤ 32 * n) }
-    requires in_block { InBlock values.now marks.now at (k + 8) v sums.now differences.now }
-    ensures { (result ≤ m) × ((i : ℕ) → i < 8 → at + (k + i) < n → NoLeft table.now result v (value_at table.now (at + (k + i)))) }
-{
-    let sum = build_sieve::joined(marks, sums, k);
-    let difference = build_sieve::joined(marks, differences, k);
-    if !build_sieve::may_be_below((m + 31) / 32, sum | difference) {
-        return m;
-    }
-    let a = lower_marked(
-        table, heads, links, values, marks, n, m, v, at, sums, k, sum, true,
-    );
-    lower_marked(
-        table,
-        heads,
-        links,
-        values,
-        marks,
-        n,
-        a,
-        v,
-        at,
-        differences,
-        k,
-        difference,
-        false,
-    )
-}
-
-// The same for a stretch of right rows, eight by eight.
-fn lower_block(
-    table: &[u32],
-    heads: &[u16],
-    links: &[u16],
-    values: &[u32],
-    marks: &[u8],
-    n: usize,
-    m: usize,
-    v: u32,
-    at: usize,
-    count: usize,
-    sums: &[u32; 32],
-    differences: &[u32; 32],
-) -> usize
-    requires sifting { Sifting table.now heads.now links.now values.now marks.now n v × (m ≤ 32 * n) }
-    requires in_block { InBlock values.now marks.now at count v sums.now differences.now × (count % 8 ≡ 0) }
-    ensures { (result ≤ m) × ((i : ℕ) → i < count → at + i < n → NoLeft table.now result v (value_at table.now (at + i))) }
-{
-    let mut low = m;
-    let mut k: usize = 0;
-    while k < count {
-        low = lower_eight(
-            table,
-            heads,
-            links,
-            values,
-            marks,
-            n,
-            low,
-            v,
-            at,
-            sums,
-            differences,
-            k,
-        );
-        k += 8;
-    }
-    low
 }
 
 // How many of so many rows are passed together: 32, or the last of them and zeros up to a multiple of 8.
 fn stretch(rows: usize) -> usize
-    requires { 0 < rows }
+    requires { (0 < rows) × (rows ≤ 4096) }
     ensures { (result ≤ 32) × (result % 8 ≡ 0) × (result ≤ rows + 7) × (rows ≤ result ⊎ (result ≡ 32)) }
 {
-    if rows > 24 {
-        return 32;
+    ((rows + 7) / 8 * 8).min(32)
+}
+
+impl<'a> Pass<'a> {
+    // No turn below the result is the number that belongs to one of the right rows that a mask of eight
+    // names, the first of them at a place.
+    fn lower_named<F: Fn(u32) -> u32>(&self, m: usize, at: usize, mask: u32, number: F) -> usize
+        requires passing { Passing self.now × (m ≤ 32 * self.now.rows.now.count) }
+        requires named { (mask < 2 ^ 8) × (at + 8 ≤ length self.now.sieve.now.values.now) }
+        requires callable { (i : ℕ) → F.pre number (get_or self.now.sieve.now.values.now i 0) }
+        requires positive { (i x : ℕ) → F.post number (get_or self.now.sieve.now.values.now i 0) x → 0 < x }
+        ensures { (result ≤ m) × ((i : ℕ) → mask / 2 ^ i % 2 ≡ 1 → (x : ℕ) × F.post number (get_or self.now.sieve.now.values.now (at + i) 0) x × NoTurn self.now.rows.now.table.now result x) }
+    {
+        let mut low = m;
+        let mut rest = mask;
+        let mut j = at;
+        while rest != 0 {
+            let zeros = rest.trailing_zeros();
+            j += zeros as usize;
+            low = lower(self.rows, low, number(self.sieve.values[j]));
+            rest = (rest >> zeros) / 2;
+            j += 1;
+        }
+        low
     }
-    (rows + 7) / 8 * 8
+
+    // The eight cells from place k on as a mask: digit i is 1 where cell k + i may have the mark of a
+    // row that has a turn below m. `all` has their marks in one: most often none of them counts.
+    fn marked(&self, m: usize, cells: &[u32; 32], k: usize, all: u8) -> u32
+        requires cells { (k + 8 ≤ 32) × InMarks self.now.sieve.now.marks.now cells.now (k + 8) × (m ≤ 32 * 4096) }
+        requires in_one { (i : ℕ) → i < 8 → mark_at self.now.sieve.now.marks.now cells.now (k + i) ≤ all }
+        ensures { (result < 2 ^ 8) × ((i : ℕ) → i < 8 → result / 2 ^ i % 2 ≡ 0 → mark_at self.now.sieve.now.marks.now cells.now (k + i) * ((m + 31) / 32) < 128) }
+    {
+        let rows = (m + 31) / 32;
+        if !build_sieve::may_be_below(rows, all) {
+            return 0;
+        }
+        self.sieve.marked(cells, k, rows)
+    }
+
+    // No turn below the result makes v with one of eight right rows, from one on. Most often none of
+    // their cells has a mark that counts.
+    fn lower_eight(&self, m: usize, at: usize, pairs: &Pairs, k: usize) -> usize
+        requires passing { Passing self.now × (m ≤ 32 * self.now.rows.now.count) }
+        requires in_block { InBlock self.now.sieve.now at (k + 8) self.now.v pairs.now }
+        ensures { (result ≤ m) × ((i : ℕ) → i < 8 → at + (k + i) < self.now.rows.now.count → NoLeft self.now.rows.now.table.now result self.now.v (value_at self.now.rows.now.table.now (at + (k + i)))) }
+    {
+        let v = self.v;
+        let sum = self.sieve.joined(&pairs.sums, k);
+        let difference = self.sieve.joined(&pairs.differences, k);
+        // Stays: (m + 31) / 32 for m.div_ceil(32), which was slower: 3 % more instructions for building.
+        if !build_sieve::may_be_below((m + 31) / 32, sum | difference) {
+            return m;
+        }
+        let sums = self.marked(m, &pairs.sums, k, sum);
+        let low = self.lower_named(m, at + k, sums, |r| v + r);
+        let differences = self.marked(low, &pairs.differences, k, difference);
+        self.lower_named(low, at + k, differences, |r| v.abs_diff(r))
+    }
+
+    // The same for a stretch of right rows, eight by eight.
+    fn lower_block(&self, m: usize, at: usize, count: usize, pairs: &Pairs) -> usize
+        requires passing { Passing self.now × (m ≤ 32 * self.now.rows.now.count) }
+        requires in_block { InBlock self.now.sieve.now at count self.now.v pairs.now × (count % 8 ≡ 0) }
+        ensures { (result ≤ m) × ((i : ℕ) → i < count → at + i < self.now.rows.now.count → NoLeft self.now.rows.now.table.now result self.now.v (value_at self.now.rows.now.table.now (at + i))) }
+    {
+        let mut low = m;
+        for eight in 0..count / 8 {
+            low = self.lower_eight(low, at, pairs, 8 * eight);
+        }
+        low
+    }
 }
 
 // No turn below the result makes v with any right row. The pass is cut short, with 0, where an early
 // turn may: then the search itself comes there sooner.
-pub fn first_turn(
-    table: &[u32],
-    heads: &[u16],
-    links: &[u16],
-    values: &[u32],
-    marks: &[u8],
-    n: usize,
-    v: u32,
-) -> usize
-    requires { Sifting table.now heads.now links.now values.now marks.now n v }
-    ensures { (result ≤ 32 * n) × ((k : ℕ) → k < n → NoLeft table.now result v (value_at table.now k)) }
+pub fn first_turn<'a>(rows: &'a Rows<'a>, sieve: &'a Sieve<'a>, v: u32) -> usize
+    requires { Sifting rows.now sieve.now v }
+    ensures { (result ≤ 32 * rows.now.count) × ((k : ℕ) → k < rows.now.count → NoLeft rows.now.table.now result v (value_at rows.now.table.now k)) }
 {
-    let shift = build_sieve::shift_for(marks.len());
-    let mut sums = [0u32; 32];
-    let mut differences = [0u32; 32];
+    let pass = Pass { rows, sieve, v };
+    let n = rows.count;
+    let shift = build_sieve::shift_for(sieve.marks.len());
+    let mut pairs = Pairs {
+        sums: [0; 32],
+        differences: [0; 32],
+    };
     let mut low = 32 * n;
-    let mut j: usize = 0;
-    while j < n {
-        let count = stretch(n - j);
-        build_sieve::fill_cells(values, j, count, v, shift, &mut sums, &mut differences);
-        low = lower_block(
-            table,
-            heads,
-            links,
-            values,
-            marks,
-            n,
-            low,
-            v,
-            j,
-            count,
-            &sums,
-            &differences,
-        );
-        if low < (n - j) / 2 {
+    for block in 0..(n + 31) / 32 {
+        let at = 32 * block;
+        let count = stretch(n - at);
+        sieve.fill(at, count, v, shift, &mut pairs);
+        low = pass.lower_block(low, at, count, &pairs);
+        if low < (n - at) / 2 {
             return 0;
         }
-        j += 32;
     }
     low
 }

@@ -17,15 +17,15 @@ use Rattle.word.proofs.Bounds.{i32_coefficient}
 use Rattle.signed_digit.proofs.Coefficients.{canonical_32}
 use Rattle.signed_digit.proofs.Reduction.{reduction}
 use Rattle.coefficient.specs.declared.Reduction.{Reduction}
-use Rattle.coefficient.specs.declared.Reduced.TheVariants.{Split}
+use Rattle.std.specs.Prelude.{Some}
 use Rattle.coefficient.specs.Parts.{Parts, no_odd_part, parts, parts_of, parts_in}
 use Rattle.coefficient.proofs.PartsOf.{reduction_parts, reduction_bounds}
 use Rattle.coefficient.proofs.TheReduction.{answer_right}
 use Rattle.build_steps.specs.Answer.{no_such_form}
 
 -- the odd part of a coefficient is below 2^31
-pub split_small : (n : ℤ) → SFits w32 n → (r : Reduction) → parts_in (Split r) ≡ parts_of n → r.odd_part < 2 ^ 31
-split_small n f r e = ((answer_right n (parts_in (Split r)) (record { split = e })).bounds (i32_coefficient n f)).0
+pub split_small : (n : ℤ) → SFits w32 n → (r : Reduction) → parts_in (Some r) ≡ parts_of n → r.odd_part < 2 ^ 31
+split_small n f r e = ((answer_right n (parts_in (Some r)) (record { split = e })).bounds (i32_coefficient n f)).0
 
 -- every odd part has a form
 some_form : (v : ℕ) → v ≤ 2 ^ 31 → 0 < length (listing 32 (pos v))

@@ -1,6 +1,4 @@
 pub mod Rises
-pub mod Slots
-pub mod Shifts
-pub mod KeyParts
+pub mod Places
+pub mod InOrder
 pub mod Taken
-pub mod Totals

@@ -2,9 +2,12 @@
 use mathlib.Core.Path.{◌≡◌, refl, sym, ap, ◌∙◌}
 use mathlib.Core.List.{List, [], ◌∷◌, ◌++◌}
 use mathlib.Core.Logic.{⊎_elim}
-use Prim.Native.Nat.{ℕ, zero, suc, ◌≤◌, ◌<◌}
+use Prim.Native.Nat.{ℕ, zero, suc, ◌+◌, ◌≤◌, ◌<◌}
 use native.Mathlib.Nat.{eq-or-lt_of_le}
+use native.Mathlib.Numerals.{add-one}
 use native.Mathlib.Omega.{arith}
+use lib.ListN.{length, get_or, drop}
+use Rattle.std.proofs.Common.{drop-cons}
 use Rattle.sequence.specs.UpTo.{up_to}
 use Rattle.network.specs.declared.Row.{Row}
 use Rattle.build_steps.specs.Search.{Fit, fit, none_fits, or_else, first_over}
@@ -44,3 +47,8 @@ module _ {A : Type 0} (try : A → Fit) where
         (λ (q : i ≡ n). rw (over_none n (λ k b. h k (omega arith)), ap (λ (k : ℕ). try (f k)) (sym q) ∙ e) refl)
         (λ (b : i < n). rw (over_first n i r b h e) refl)
         (eq-or-lt_of_le (let q : i ≤ n = omega arith in q))
+
+-- the place that comes first decides, where it has a fit
+pub over_drop : (try : ℕ → Fit) (xs : List ℕ) (k : ℕ) → k < length xs → first_over try (drop k xs) ≡ or_else (try (get_or xs k 0)) (first_over try (drop (k + 1) xs))
+unfolding first_over
+over_drop try xs k l = ap (first_over try) (drop-cons xs k 0 l ∙ ap (λ (j : ℕ). get_or xs k 0 ∷ drop j xs) (sym (add-one k)))

@@ -11,20 +11,22 @@ use Rattle.build_pair.proofs.FirstOver.{over_none}
 use Rattle.build_pair.proofs.Tries.{plus_none, minus_none, reversed_none}
 use Rattle.build_pair.proofs.Signs.{three_signs}
 use Rattle.build_index.proofs.Values.{row_missing}
-use Rattle.build_sieve.specs.Inner.{Sieve}
+use Rattle.build_index.specs.declared.Rows.{Rows}
+use Rattle.build_sieve.specs.declared.Sieve.{Sieve}
+use Rattle.build_sieve.specs.Inner.{HasSieve}
 use Rattle.build_left_rows.specs.Inner.{NoLeft, Sifting}
 use Rattle.build_pair.specs.Inner.{Searchable}
 
 -- what is known of a search is enough for the pass over the right rows
-pub sifting : (t heads links values marks : List ℕ) (n most v : ℕ) → Searchable t heads links n most v → Sieve t values marks n → Sifting t heads links values marks n v
-sifting t heads links values marks n most v s w = record {
+pub sifting : (r : Rows) (w : Sieve) (most v : ℕ) → Searchable r most v → HasSieve r w → Sifting r w v
+sifting r w most v s h = record {
   index = s.index;
-  sieve = w;
+  sieve = h;
   odd = s.odd;
   bounded = λ i l. omega (arith, s.bounded i l, s.small);
   new_odd = s.new_odd;
   new_small = s.new_small;
-  new = row_missing t n v s.new;
+  new = row_missing r.table.now r.count v s.new;
 }
 
 -- where no right row goes with a turn, nothing fits in it

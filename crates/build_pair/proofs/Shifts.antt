@@ -12,8 +12,9 @@ use Rattle.network.specs.declared.Row.{Row}
 use Rattle.network.specs.Rows.{rows_of}
 use Rattle.network.specs.RowRule.{lifted}
 use Rattle.build_steps.specs.Search.{fit, none_fits, or_else, first_fit_of, fit_at_shift, fit_at_left}
+use Rattle.build_index.specs.declared.Rows.{Rows}
 use Rattle.build_index.specs.Inner.{value_at}
-use Rattle.build_index.proofs.Compare.{le_or_lt}
+use Rattle.std.proofs.lemmas.Bool.{cases_lt}
 use Rattle.build_index.proofs.Values.{length_rows}
 use Rattle.build_pair.specs.Inner.{Searchable}
 use Rattle.build_pair.proofs.FirstOver.{over_none, over_first}
@@ -43,7 +44,13 @@ pub record Trying (t : List ℕ) (n v left z a : ℕ) : Type 0 where
   pub is_lifted : a ≡ lifted z (value_at t left)
   pub tried_below : (k : ℕ) → suc k < z → fit_at_shift (rows_of t n) v left (suc k) ≡ none_fits
 
-module _ (t heads links : List ℕ) (n most v : ℕ) (s : Searchable t heads links n most v) where
+module _ (r : Rows) (most v : ℕ) (s : Searchable r most v) where
+  abbrev t : List ℕ
+  t = r.table.now
+
+  abbrev n : ℕ
+  n = r.count
+
   -- ---- the limit
 
   -- past v + the largest value nothing fits
@@ -52,7 +59,7 @@ module _ (t heads links : List ℕ) (n most v : ℕ) (s : Searchable t heads lin
   shift_past left shift w h =
       let a = lifted shift (value_at t left) in
       three_signs (rows_of t n) v left shift none_fits none_fits none_fits
-      (plus_none t n v left shift a w refl (λ k l e. omega (arith, positive t heads links n most v s k l)))
+      (plus_none t n v left shift a w refl (λ k l e. omega (arith, positive r most v s k l)))
       (minus_none t n v left shift a w refl (λ k l e. omega (arith, s.bounded k l)))
       (reversed_none t n v left shift a w refl (λ k l e. omega (arith, s.bounded k l)))
 
@@ -62,11 +69,10 @@ module _ (t heads links : List ℕ) (n most v : ℕ) (s : Searchable t heads lin
     -- below 2^32 there is a shift to try
     pub few_shifts : a < 2 ^ 32 → z < 32
     few_shifts h =
-        ⊎_elim
+        ⊎_elim (λ b. b)
         (λ (b : 32 ≤ z).
-        absurd (omega (arith, g.is_lifted, le-mul_of_pos_right (2 ^ z) (positive t heads links n most v s left w), pow_mono {i = 32} b)))
-        (λ b. b)
-        (le_or_lt 32 z)
+        absurd (omega (arith, g.is_lifted, le-mul_of_pos_right (2 ^ z) (positive r most v s left w), pow_mono {i = 32} b)))
+        (cases_lt z 32)
 
     pub try_next : a < 2 ^ 32 → fit_at_shift (rows_of t n) v left z ≡ none_fits → Trying t n v left (z + 1) (a * 2)
     try_next h e =
@@ -84,15 +90,15 @@ module _ (t heads links : List ℕ) (n most v : ℕ) (s : Searchable t heads lin
     left_none h =
         over_none (λ (shift : ℕ). fit_at_shift (rows_of t n) v left shift) suc 31
         (λ k l.
-        ⊎_elim (λ (past : z ≤ suc k). shift_past left (suc k) w (omega (arith, g.is_lifted, lifted_up z (suc k) (value_at t left) past)))
-        (λ (b : suc k < z). g.tried_below k b)
-        (le_or_lt z (suc k)))
+        ⊎_elim (λ (b : suc k < z). g.tried_below k b)
+        (λ (past : z ≤ suc k). shift_past left (suc k) w (omega (arith, g.is_lifted, lifted_up z (suc k) (value_at t left) past)))
+        (cases_lt (suc k) z))
 
-    pub left_first : a < 2 ^ 32 → (r : Row) → fit_at_shift (rows_of t n) v left z ≡ fit r → fit_at_left (rows_of t n) v left ≡ fit r
+    pub left_first : a < 2 ^ 32 → (f : Row) → fit_at_shift (rows_of r.table.now r.count) v left z ≡ fit f → fit_at_left (rows_of r.table.now r.count) v left ≡ fit f
     unfolding fit_at_left
-    left_first h r e =
+    left_first h f e =
         let q : suc (z - 1) ≡ z = omega (arith, g.from) in
-        over_first (λ (shift : ℕ). fit_at_shift (rows_of t n) v left shift) suc 31 (z - 1) r (omega (arith, few_shifts h, g.from))
+        over_first (λ (shift : ℕ). fit_at_shift (rows_of t n) v left shift) suc 31 (z - 1) f (omega (arith, few_shifts h, g.from))
         (λ k l. g.tried_below k (omega (arith, g.from)))
         (ap (fit_at_shift (rows_of t n) v left) q ∙ e)
 

@@ -10,7 +10,6 @@ use Rattle.signed_digit.specs.Masks.{plus_mask, minus_mask, from_masks}
 use Rattle.signed_digit.proofs.Masks.{masks_string}
 use Rattle.form_masks.specs.Form.{form_of, string_of}
 use Rattle.network.specs.declared.Row.{Row}
-use Rattle.network.specs.Rows.{rows_of}
 use Rattle.build_steps.specs.Parts.{Part}
 use Rattle.build_steps.specs.Search.{row_with, Fit, fit, none_fits, first_fit_of}
 use Rattle.build_steps.specs.Chain.{chosen_form_of, chained, chain_end}
@@ -19,20 +18,22 @@ use Rattle.build_steps.proofs.ChosenForm.{chosen_form_lem}
 use Rattle.build_steps.proofs.Chain.{one_has_row}
 use Rattle.build_steps.proofs.FirstFit.{fit_is_first}
 use Rattle.build_steps.proofs.Lawful.{lawful_value}
+use Rattle.build_index.specs.declared.Rows.{Rows}
 use Rattle.build_index.specs.Inner.{value_at}
 use Rattle.build_index.proofs.Values.{length_rows, value_in}
+use Rattle.build_sieve.specs.declared.Sieve.{Sieve}
 use Rattle.build_pair.specs.Inner.{Searchable}
-use Rattle.build_chain.specs.Inner.{Readable}
+use Rattle.build_chain.specs.Inner.{rows_in, Readable}
 use Rattle.build_part.specs.Inner.{Ready}
 
-module _ (table heads links values marks : List ℕ) (n most : ℕ) (p : Part) (r : Ready table heads links values marks n most p) where
+module _ (own : Rows) (sieve : Sieve) (most : ℕ) (p : Part) (r : Ready own sieve most p) where
   abbrev rows : List Row
-  rows = rows_of table n
+  rows = rows_in own
 
   -- a row's value is odd
-  odd : (i : ℕ) → i < n → value_at table i % 2 ≡ 1
+  odd : (i : ℕ) → i < own.count → value_at own.table.now i % 2 ≡ 1
   odd i h =
-      ap (λ (v : ℕ). v % 2) (sym (value_in table n i h)) ∙ (lawful_value r.lawful i (omega (arith, length_rows table n))).odd
+      ap (λ (v : ℕ). v % 2) (sym (value_in own.table.now own.count i h)) ∙ (lawful_value r.lawful i (omega (arith, length_rows own.table.now own.count))).odd
 
   -- step 1
   pub row_used : (i : ℕ) → row_with rows p.value ≡ at_place i → rows ≡ step rows p
@@ -54,7 +55,7 @@ module _ (table heads links values marks : List ℕ) (n most : ℕ) (p : Part) (
       record { one = one_has_row r.lawful; above = omega (arith, e, r.part.odd); below = omega (arith, e, r.part.below) }
 
   module _ (e : row_with rows p.value ≡ nowhere) where
-    pub searchable : Searchable table heads links n most p.value
+    pub searchable : Searchable own most p.value
     searchable = record {
       index = r.index;
       odd = odd;
@@ -69,14 +70,14 @@ module _ (table heads links values marks : List ℕ) (n most : ℕ) (p : Part) (
     unfolding step looked_up
     step_is f q = sym (ap (λ (w : Place). looked_up w rows p) e ∙ ap (λ (x : Fit). searched x rows p) q)
 
-    -- step 2: a fit is written as row n
+    -- step 2: a fit is written as one row more
     module _ (row : Row) (f : first_fit_of rows p.value ≡ fit row) where
       pub fit_added : rows ++ (row ∷ []) ≡ step rows p
       unfolding searched
       fit_added = step_is (fit row) f
 
-      pub fit_length : length (step rows p) ≡ n + 1
-      fit_length = ap length (sym fit_added) ∙ length-append rows (row ∷ []) ∙ omega (arith, length_rows table n)
+      pub fit_length : length (step rows p) ≡ own.count + 1
+      fit_length = ap length (sym fit_added) ∙ length-append rows (row ∷ []) ∙ omega (arith, length_rows own.table.now own.count)
 
       pub fit_new : row_with rows row.value ≡ nowhere
       fit_new = ap (row_with rows) (fit_is_first rows p.value r.part.odd r.part.below row f).value ∙ e

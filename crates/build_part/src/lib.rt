@@ -1,44 +1,28 @@
 // Steps 1 to 3 of building, for one odd part.
 #![tactic(auto)]
 
-ghost use Rattle.network.specs.Rows.{rows_of};
 ghost use Rattle.build_steps.specs.Steps.{step};
 ghost use Rattle.build_index.specs.Inner.{Grown};
+ghost use Rattle.build_chain.specs.Inner.{rows_in};
 ghost use Rattle.build_part.specs.Inner.{part_of, Ready};
 
-use build_index::Found;
-use build_pair::NewRow;
+use build_index::Rows;
+use build_sieve::Sieve;
 
 // The rows with those of one odd part: a row that has its value, a new row from two that are there, or the
 // chain of its chosen form.
-pub fn add_part(
-    table: &mut [u32],
-    heads: &mut [u16],
-    links: &mut [u16],
-    values: &[u32],
-    marks: &[u8],
-    n: usize,
-    most: u32,
-    v: u32,
-    choice: u32,
-) -> usize
-    requires { Ready table.old heads.old links.old values.now marks.now n most (part_of v choice) }
-    ensures { Grown table.old table.new heads.new links.new result
-        (step (rows_of table.old n) (part_of v choice)) }
+pub fn add_part(rows: &mut Rows, sieve: &Sieve, most: u32, v: u32, choice: u32)
+    requires { Ready rows.old sieve.now most (part_of v choice) }
+    ensures { Grown rows.old rows.new (step (rows_in rows.old) (part_of v choice)) }
 {
-    match build_index::find(table, heads, links, n, v) {
-        Found::At(_) => n,
-        Found::Missing => match build_pair::first_fit(
-            table, heads, links, values, marks, n, most, v,
-        ) {
-            NewRow::Fits(row) => {
-                build_index::put(table, heads, links, n, row);
-                n + 1
-            }
-            NewRow::NoneFits => {
-                let form = build_chain::chosen_form(v, choice);
-                build_chain::add_chain(table, heads, links, n, form)
-            }
-        },
+    if rows.find(v).is_some() {
+        return;
+    }
+    match build_pair::first_fit(rows, sieve, most, v) {
+        Some(row) => rows.put(row),
+        None => {
+            let form = build_chain::chosen_form(v, choice);
+            build_chain::add_chain(rows, form);
+        }
     }
 }

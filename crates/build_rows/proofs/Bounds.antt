@@ -5,6 +5,7 @@ use mathlib.Core.Logic.{⊎_elim}
 use Prim.Native.Nat.{ℕ, suc, ◌+◌, ◌*◌, ◌-◌, ◌^◌, ◌≤◌, ◌<◌}
 use native.Mathlib.Omega.{arith}
 use lib.ListN.{length, length-append}
+use Rattle.std.proofs.lemmas.Bool.{cases_lt}
 use Rattle.refusal.specs.Answer.{Place, nowhere, at_place}
 use Rattle.signed_digit.specs.Digit.{one, nought, minus_one}
 use Rattle.signed_digit.specs.String.{DigitString}
@@ -19,7 +20,6 @@ use Rattle.build_steps.proofs.ChainValue.{doubled, no_less, never_falls}
 use Rattle.build_steps.proofs.ChosenForm.{chosen_form_lem}
 use Rattle.build_steps.proofs.FirstFit.{fit_is_first}
 use Rattle.build_steps.proofs.Lawful.{row_at_end, row_before}
-use Rattle.build_index.proofs.Compare.{le_or_lt}
 
 -- no row has a larger value
 abbrev pub Below : ℕ → List Row → Type 0
@@ -29,11 +29,11 @@ module _ (b : ℕ) where
   more_below : (rows : List Row) (r : Row) → Below b rows → r.value ≤ b → Below b (rows ++ (r ∷ []))
   more_below rows r h l i m =
       ⊎_elim
+      (λ (p : i < length rows). omega (arith, h i p, ap (λ (x : Row). x.value) (row_before rows (r ∷ []) i p)))
       (λ (p : length rows ≤ i).
       let e : i ≡ length rows = omega (arith, length-append rows (r ∷ [])) in
       omega (arith, l, ap (λ (k : ℕ). (row_in (rows ++ (r ∷ [])) k).value) e, ap (λ (x : Row). x.value) (row_at_end rows r)))
-      (λ (p : i < length rows). omega (arith, h i p, ap (λ (x : Row). x.value) (row_before rows (r ∷ []) i p)))
-      (le_or_lt (length rows) i)
+      (cases_lt i (length rows))
 
   unless_below : (p : Place) (rows : List Row) (r : Row) → Below b rows → r.value ≤ b → Below b (add_unless p rows r)
   unfolding add_unless

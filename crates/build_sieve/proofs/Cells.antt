@@ -3,7 +3,6 @@ use mathlib.Core.Path.{◌≡◌, refl, sym, ap, ◌∙◌, subst}
 use mathlib.Core.Bool.{Bool, true, false, not, cond}
 use Prim.Native.Nat.{ℕ, suc, ◌+◌, ◌-◌, ◌*◌, ◌/◌, ◌%◌, ◌^◌, ◌≤◌, ◌<◌}
 use native.Mathlib.Nat.{le_trans, le_of_lt, le_of_eq, lt_of_lt_of_le, lt_of_le_of_lt, lt_of_not-le, not-le_of_lt, zero-add, one-mul, mul-one, mul_comm, mul_assoc, mul_right_comm, mul-le-mul_right, mul-pos, mul-div_cancel, mod-lt}
-use native.Mathlib.Numerals.{add-one}
 use native.Mathlib.Omega.{arith}
 use lib.Dec.{T, lit≤}
 use lib.IntN.{ℤ, pos, negsuc, nat_abs}
@@ -107,9 +106,6 @@ negative shift k h =
     ap (λ (b : ℕ). b / 2 ^ 32 * 2 ^ 12 % 2 ^ 32 / 2 ^ shift) (negative_bits k (le_trans (le_of_lt h) (lit≤ tt)))
     ∙ ap (λ (b : ℕ). b / 2 ^ shift) (cut_signed (fields binary64 (suc k * 2 ^ 1074)))
     ∙ sym (cell_fields shift (suc k) h)
-
-pub cell_negative : (shift k : ℕ) → k + 1 < 2 ^ 32 → to_bits binary64 (of_int binary64 (negsuc k)) / 2 ^ 32 * 2 ^ 12 % 2 ^ 32 / 2 ^ shift ≡ cell_of shift (k + 1)
-cell_negative shift k h = negative shift k (subst (λ (j : ℕ). j < 2 ^ 32) (add-one k) h) ∙ ap (cell_of shift) (sym (add-one k))
 
 -- whatever the sign
 pub cell_of_lem : (shift : ℕ) (z : ℤ) → nat_abs z < 2 ^ 32 → to_bits binary64 (of_int binary64 z) / 2 ^ 32 * 2 ^ 12 % 2 ^ 32 / 2 ^ shift ≡ cell_of shift (nat_abs z)

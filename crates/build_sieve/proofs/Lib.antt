@@ -1,4 +1,3 @@
 pub mod Cells
-pub mod Differences
 pub mod MaskDigits
 pub mod Sieves

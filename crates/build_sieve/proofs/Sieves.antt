@@ -3,19 +3,18 @@ use mathlib.Core.Path.{◌≡◌, refl, sym, ap, subst, ◌∙◌}
 use mathlib.Core.Bool.{Bool, true, false, cond}
 use mathlib.Core.List.{List}
 use mathlib.Core.Logic.{⊎_elim}
-use Prim.Native.Nat.{ℕ, ◌+◌, ◌*◌, ◌-◌, ◌/◌, ◌^◌, ◌≤◌, ◌<◌}
+use Prim.Native.Nat.{ℕ, ◌+◌, ◌*◌, ◌-◌, ◌^◌, ◌≤◌, ◌<◌}
 use native.Mathlib.Nat.{le_trans, mul-le-mul_right}
 use native.Mathlib.Omega.{arith}
 use borrow.Author.Count.{below_more}
 use borrow.Author.Tests.{ltb-false}
-use lib.Bits.{bit_or, and_le_l, and_le_r, or_add_and}
 use lib.Dec.{ltb}
 use lib.ListN.{length, get_or, set, length-set, replicate}
 use lib.Seq.{get_or-set_same, get_or-set_other}
 use Rattle.sequence.proofs.Members.{same_at}
 use Rattle.build_index.specs.Inner.{value_at}
-use Rattle.build_index.proofs.Compare.{eq_or_ne}
-use Rattle.build_sieve.specs.Inner.{cell_of, shift_for_of, cell_within, Sieve, Cells}
+use Rattle.std.proofs.lemmas.Bool.{cases_eq}
+use Rattle.build_sieve.specs.Inner.{shift_for_of, cell_within, SieveOf}
 use Rattle.build_sieve.proofs.Cells.{cell_low}
 
 -- ---- a cell is one of the marks
@@ -41,16 +40,10 @@ cells_fit m h = go (ltb m 8192) (ltb m 32768) refl refl
 pub cell_in : (m x : ℕ) → 2048 ≤ m → cell_within m x < m
 cell_in m x h = let s = shift_small m in omega (arith, cell_low (shift_for_of m) x (omega arith), cells_fit m h)
 
--- ---- marks
-
--- two marks in one are no less than either
-pub or_over : (a b : ℕ) → (a ≤ bit_or a b) × (b ≤ bit_or a b)
-or_over a b = (omega (arith, or_add_and a b, and_le_r a b), omega (arith, or_add_and a b, and_le_l a b))
-
 -- ---- a row more
 
 -- row i, of value x, joins: its cell keeps its marks and has y for one
-module _ (t values marks : List ℕ) (i x y : ℕ) (s : Sieve t values marks i) (room : i + 8 ≤ length values) (e : x ≡ value_at t i)
+module _ (t values marks : List ℕ) (i x y : ℕ) (s : SieveOf t values marks i) (room : i + 8 ≤ length values) (e : x ≡ value_at t i)
     (kept : get_or marks (cell_within (length marks) x) 0 ≤ y) (high : 128 ≤ y * (i + 1)) where
   abbrev cell : ℕ
   cell = cell_within (length marks) x
@@ -62,7 +55,7 @@ module _ (t values marks : List ℕ) (i x y : ℕ) (s : Sieve t values marks i) 
   read_mark : (c : ℕ) → get_or marks c 0 ≤ get_or (set marks cell y) c 0
   read_mark c =
       ⊎_elim (λ (same : c ≡ cell). subst (λ (k : ℕ). get_or marks k 0 ≤ get_or (set marks cell y) k 0) (sym same) (omega (arith, kept, get_or-set_same marks cell y 0 within)))
-      (λ (other : c ≡ cell → ⊥). omega (arith, get_or-set_other marks cell c y 0 other)) (eq_or_ne c cell)
+      (λ (other : c ≡ cell → ⊥). omega (arith, get_or-set_other marks cell c y 0 other)) (cases_eq c cell)
 
   marked_next : (k : ℕ) → k < i + 1 → 128 ≤ get_or (set marks cell y) (cell_within (length marks) (value_at t k)) 0 * (k + 1)
   marked_next =
@@ -71,7 +64,7 @@ module _ (t values marks : List ℕ) (i x y : ℕ) (s : Sieve t values marks i) 
       (subst (λ (z : ℕ). 128 ≤ get_or (set marks cell y) (cell_within (length marks) z) 0 * (i + 1)) e
       (subst (λ (z : ℕ). 128 ≤ z * (i + 1)) (sym (get_or-set_same marks cell y 0 within)) high))
 
-  pub sieve_next : Sieve t (set values i x) (set marks (cell_within (length marks) x) y) (i + 1)
+  pub sieve_next : SieveOf t (set values i x) (set marks (cell_within (length marks) x) y) (i + 1)
   sieve_next =
       let q : length marks ≡ length (set marks cell y) = sym (simp length-set) in
       record {
@@ -86,7 +79,7 @@ module _ (t values marks : List ℕ) (i x y : ℕ) (s : Sieve t values marks i) 
       }
 
 -- what is said of n rows holds of every table that has them
-pub sieve_kept : (t t' values marks : List ℕ) (n : ℕ) → ((i : ℕ) → i < n → value_at t' i ≡ value_at t i) → Sieve t values marks n → Sieve t' values marks n
+pub sieve_kept : (t t' values marks : List ℕ) (n : ℕ) → ((i : ℕ) → i < n → value_at t' i ≡ value_at t i) → SieveOf t values marks n → SieveOf t' values marks n
 sieve_kept t t' values marks n same s = record {
   room = s.room;
   cells = s.cells;
@@ -96,25 +89,11 @@ sieve_kept t t' values marks n same s = record {
 }
 
 -- no rows: the values are cleared
-pub sieve_none : (t values marks : List ℕ) (a : ℕ) → values ≡ replicate {A = ℕ} a 0 → 7 ≤ length values → 2048 ≤ length marks → Sieve t values marks 0
+pub sieve_none : (t values marks : List ℕ) (a : ℕ) → values ≡ replicate {A = ℕ} a 0 → 7 ≤ length values → 2048 ≤ length marks → SieveOf t values marks 0
 sieve_none t values marks a e h l = record {
   room = h;
   cells = l;
   values_are = λ i k. absurd (omega arith);
   rest = λ i k. ap (λ (xs : List ℕ). get_or xs i 0) e ∙ same_at a i 0;
   marked = λ i k. absurd (omega arith);
-}
-
--- ---- a value more
-
-pub cells_next : (values : List ℕ) (at j v shift : ℕ) (sums differences : List ℕ) (x y : ℕ) → j < length sums → j < length differences → Cells values at j v shift sums differences
-    → x ≡ cell_of shift ((v + get_or values (at + j) 0) / 2) → y ≡ cell_of shift ((v - get_or values (at + j) 0) + (get_or values (at + j) 0 - v))
-    → Cells values at (j + 1) v shift (set sums j x) (set differences j y)
-cells_next values at j v shift sums differences x y a b c p q = record {
-  sums_are =
-      below_more (λ k. get_or (set sums j x) k 0 ≡ cell_of shift ((v + get_or values (at + k) 0) / 2)) j
-      (λ k l. get_or-set_other sums j k x 0 (λ f. omega arith) ∙ c.sums_are k l) (get_or-set_same sums j x 0 a ∙ p);
-  differences_are =
-      below_more (λ k. get_or (set differences j y) k 0 ≡ cell_of shift ((v - get_or values (at + k) 0) + (get_or values (at + k) 0 - v))) j
-      (λ k l. get_or-set_other differences j k y 0 (λ f. omega arith) ∙ c.differences_are k l) (get_or-set_same differences j y 0 b ∙ q);
 }

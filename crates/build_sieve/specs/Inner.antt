@@ -3,7 +3,10 @@
 use Rattle.std.specs.Prelude.{◌≡◌, cond, List, ℕ, ◌+◌, ◌*◌, ◌-◌, ◌/◌, ◌%◌, ◌^◌, ◌≤◌, ◌<◌, ltb, pos, length, get_or}
 use Rattle.std.specs.Float.Ieee as Ieee
 use Rattle.std.specs.Float.{binary64}
+use Rattle.build_index.specs.declared.Rows.{Rows}
 use Rattle.build_index.specs.Inner.{value_at}
+use Rattle.build_sieve.specs.declared.Sieve.{Sieve}
+use Rattle.build_sieve.specs.declared.Pairs.{Pairs}
 
 -- the leading binary digits of x below the first: of x as a binary64 number the 20 digits that head its fraction, at the high end of 32 places,
 -- less the lowest `shift` places
@@ -19,17 +22,28 @@ abbrev pub cell_within : ℕ → ℕ → ℕ
 cell_within m x = cell_of (shift_for_of m) x
 
 -- the values of n rows, and zeros after them; the cell of each has a mark, the higher the lower the row
-pub record Sieve (table values marks : List ℕ) (n : ℕ) : Type 0 where
+pub record SieveOf (table values marks : List ℕ) (n : ℕ) : Type 0 where
   pub room : n + 7 ≤ length values
   pub cells : 2048 ≤ length marks
   pub values_are : (i : ℕ) → i < n → get_or values i 0 ≡ value_at table i
   pub rest : (i : ℕ) → n ≤ i → get_or values i 0 ≡ 0
   pub marked : (i : ℕ) → i < n → 128 ≤ get_or marks (cell_within (length marks) (value_at table i)) 0 * (i + 1)
 
+-- the rows have this sieve
+abbrev pub HasSieve : Rows → Sieve → Type 0
+HasSieve r s = SieveOf r.table.now s.values.now s.marks.now r.count
+
+-- what is lent stays lent: the same slices, as long as they were
+pub record SameSieve (s s' : Sieve) : Type 0 where
+  pub values : s'.values.ghost_name ≡ s.values.ghost_name
+  pub marks : s'.marks.ghost_name ≡ s.marks.ghost_name
+  pub values_long : length s'.values.now ≡ length s.values.now
+  pub marks_long : length s'.marks.now ≡ length s.marks.now
+
 -- the cells of v + r and of |v - r| for some values r; v + r is even
-pub record Cells (values : List ℕ) (at count v shift : ℕ) (sums differences : List ℕ) : Type 0 where
-  pub sums_are : (j : ℕ) → j < count → get_or sums j 0 ≡ cell_of shift ((v + get_or values (at + j) 0) / 2)
-  pub differences_are : (j : ℕ) → j < count → get_or differences j 0 ≡ cell_of shift ((v - get_or values (at + j) 0) + (get_or values (at + j) 0 - v))
+pub record Cells (values : List ℕ) (at count v shift : ℕ) (pairs : Pairs) : Type 0 where
+  pub sums_are : (j : ℕ) → j < count → get_or pairs.sums j 0 ≡ cell_of shift ((v + get_or values (at + j) 0) / 2)
+  pub differences_are : (j : ℕ) → j < count → get_or pairs.differences j 0 ≡ cell_of shift ((v - get_or values (at + j) 0) + (get_or values (at + j) 0 - v))
 
 -- the mark of the cell at place j
 abbrev pub mark_at : List ℕ → List ℕ → ℕ → ℕ

@@ -3,15 +3,30 @@
 
 mod leading;
 
-ghost use Rattle.std.specs.Prelude.{◌≡◌, ℕ, ◌+◌, ◌*◌, ◌/◌, ◌%◌, ◌^◌, ◌≤◌, ◌<◌, max, leb, length};
+ghost use Rattle.std.specs.Prelude.{◌≡◌, ℕ, ◌+◌, ◌*◌, ◌/◌, ◌%◌, ◌^◌, ◌≤◌, ◌<◌, leb, length, get_or};
 ghost use Rattle.network.specs.Rows.{row_words};
 ghost use Rattle.build_index.specs.Inner.{value_at};
-ghost use Rattle.build_sieve.specs.Inner.{shift_for_of, Sieve, mark_at, InMarks};
+ghost use Rattle.build_sieve.specs.Inner.{shift_for_of, SieveOf, SameSieve, mark_at, InMarks, Cells};
 
-use leading::cell_of;
-pub use leading::fill_cells;
+use build_index::Rows;
+use leading::{cell_between, cell_of};
+
+// The values of the rows, and a mark for the cell of each.
+#[derive(Drop)]
+pub struct Sieve<'a> {
+    pub values: &'a mut [u32],
+    pub marks: &'a mut [u8],
+}
+
+// The cells of the sums and of the differences of a number and some values.
+#[derive(Drop)]
+pub struct Pairs {
+    pub sums: [u32; 32],
+    pub differences: [u32; 32],
+}
 
 // The number of a cell's places that are dropped, with m marks.
+#[tactic(auto, unfolding(crate::specs::Inner::shift_for_of))]
 pub fn shift_for(m: usize) -> u32
     ensures { result ≡ shift_for_of m }
 {
@@ -29,44 +44,7 @@ fn mark_of(i: usize) -> u8
     requires { i < 4096 }
     ensures { 128 ≤ result * (i + 1) }
 {
-    (127 / (word::narrow(i) + 1) + 1) as u8
-}
-
-fn higher(a: u8, b: u8) -> u8
-    ensures { result ≡ max a b }
-{
-    if a < b { b } else { a }
-}
-
-// The rows from one number to below another join the sieve.
-pub fn extend(table: &[u32], from: usize, to: usize, values: &mut [u32], marks: &mut [u8])
-    requires sieve { Sieve table.now values.old marks.old from × (from ≤ to) × (to + 7 ≤ length values.old) × (row_words * to ≤ length table.now) × (to ≤ 4096) }
-    requires by_index { (i : ℕ) → i < to → value_at table.now i < 2 ^ 31 }
-    ensures { Sieve table.now values.new marks.new to }
-{
-    let shift = shift_for(marks.len());
-    let mut i = from;
-    while i < to {
-        let value = network::read_value(table, i);
-        values[i] = value;
-        let cell = word::index(cell_of(value, shift));
-        marks[cell] = higher(marks[cell], mark_of(i));
-        i += 1;
-    }
-}
-
-// The marks of the eight cells from place k on in one: no less than any of them.
-pub fn joined(marks: &[u8], cells: &[u32; 32], k: usize) -> u8
-    requires { (k + 8 ≤ 32) × (length cells.now ≡ 32) × InMarks marks.now cells.now (k + 8) }
-    ensures { (i : ℕ) → i < 8 → mark_at marks.now cells.now (k + i) ≤ result }
-{
-    let mut all: u8 = 0;
-    let mut i: usize = 0;
-    while i < 8 {
-        all = all | marks[word::index(cells[k + i])];
-        i += 1;
-    }
-    all
+    (127 / ((i as u32) + 1) + 1) as u8
 }
 
 // Whether a mark may be that of a row below m.
@@ -74,21 +52,63 @@ pub fn may_be_below(m: usize, mark: u8) -> bool
     requires { m ≤ 4096 }
     ensures { result ≡ leb 128 (mark * m) }
 {
-    word::index(word::byte_32(mark)) * m >= 128
+    (mark as usize) * m >= 128
 }
 
-// The eight cells from place k on as a mask: digit i is 1 where cell k + i may have the mark of a row
-// below m.
-pub fn marked(marks: &[u8], cells: &[u32; 32], k: usize, m: usize) -> u32
-    requires { (k + 8 ≤ 32) × (length cells.now ≡ 32) × InMarks marks.now cells.now (k + 8) × (m ≤ 4096) }
-    ensures { (result < 2 ^ 8) × ((i : ℕ) → i < 8 → result / 2 ^ i % 2 ≡ 0 → mark_at marks.now cells.now (k + i) * m < 128) }
-{
-    let mut mask: u32 = 0;
-    let mut i: usize = 8;
-    while i > 0 {
-        i -= 1;
-        let mark = marks[word::index(cells[k + i])];
-        mask = 2 * mask + word::choose(may_be_below(m, mark), 1, 0);
+impl<'a> Sieve<'a> {
+    // The rows from one number on join the sieve.
+    pub fn extend(&mut self, rows: &Rows, from: usize)
+        requires sieve { SieveOf rows.now.table.now self.old.values.now self.old.marks.now from }
+        requires room { (from ≤ rows.now.count) × (rows.now.count + 7 ≤ length self.old.values.now) × (row_words * rows.now.count ≤ length rows.now.table.now) × (rows.now.count ≤ 4096) }
+        requires by_index { (i : ℕ) → i < rows.now.count → value_at rows.now.table.now i < 2 ^ 31 }
+        ensures sieve { SieveOf rows.now.table.now self.new.values.now self.new.marks.now rows.now.count }
+        ensures lent { SameSieve self.old self.new }
+    {
+        let shift = shift_for(self.marks.len());
+        for i in from..rows.count {
+            let value = rows.value(i);
+            self.values[i] = value;
+            let cell = cell_of(value, shift) as usize;
+            self.marks[cell] = self.marks[cell].max(mark_of(i));
+        }
     }
-    mask
+
+    // The cells of the sums and of the differences of v and so many values, from one on.
+    pub fn fill(&self, at: usize, count: usize, v: u32, shift: u32, pairs: &mut Pairs)
+        requires sizes { (shift < 32) × (v < 2 ^ 31) × (count ≤ 32) × (at + count ≤ length self.now.values.now) }
+        requires small { (i : ℕ) → get_or self.now.values.now i 0 < 2 ^ 31 }
+        ensures { Cells self.now.values.now at count v shift pairs.new }
+    {
+        for j in 0..count {
+            let value = self.values[at + j];
+            pairs.sums[j] = cell_of((v + value) / 2, shift);
+            pairs.differences[j] = cell_between(v, value, shift);
+        }
+    }
+
+    // The marks of the eight cells from place k on in one: no less than any of them.
+    pub fn joined(&self, cells: &[u32; 32], k: usize) -> u8
+        requires { (k + 8 ≤ 32) × InMarks self.now.marks.now cells.now (k + 8) }
+        ensures { (i : ℕ) → i < 8 → mark_at self.now.marks.now cells.now (k + i) ≤ result }
+    {
+        let mut all: u8 = 0;
+        for i in 0..8 {
+            all |= self.marks[cells[k + i] as usize];
+        }
+        all
+    }
+
+    // The eight cells from place k on as a mask: digit i is 1 where cell k + i may have the mark of a
+    // row below m.
+    pub fn marked(&self, cells: &[u32; 32], k: usize, m: usize) -> u32
+        requires { (k + 8 ≤ 32) × InMarks self.now.marks.now cells.now (k + 8) × (m ≤ 4096) }
+        ensures { (result < 2 ^ 8) × ((i : ℕ) → i < 8 → result / 2 ^ i % 2 ≡ 0 → mark_at self.now.marks.now cells.now (k + i) * m < 128) }
+    {
+        let mut mask: u32 = 0;
+        for i in (0..8).rev() {
+            let mark = self.marks[cells[k + i] as usize];
+            mask = 2 * mask + may_be_below(m, mark) as u32;
+        }
+        mask
+    }
 }

@@ -1,170 +1,57 @@
 // A network written into its two tables.
 #![tactic(auto)]
 
-ghost use Rattle.std.specs.Prelude.{◌≡◌, map, ◌*◌, ◌≤◌, length, take};
-ghost use Rattle.network.specs.Rows.{tap_words};
-ghost use Rattle.build_steps.specs.Parts.{parts_to_build};
+ghost use Rattle.std.specs.Prelude.{◌+◌, ◌≤◌, ◌<◌, length};
 ghost use Rattle.build_steps.specs.Steps.{built_rows};
 ghost use Rattle.build_steps.specs.CanBuild.{CanBuildInto};
-ghost use Rattle.build_odd_parts.specs.Inner.{part_in, Ordered};
-ghost use Rattle.build_rows.specs.Inner.{CanStart};
+ghost use Rattle.build_odd_parts.specs.Inner.{Ordered};
 ghost use Rattle.build_tables.specs.Inner.{Written};
 
-// Rows and tap rows, with an index and a sieve that are empty at first.
-fn write_network(
-    coefficients: &[i32],
-    choices: &[u32],
-    keys: &[u64],
-    m: usize,
-    rows: &mut [u32],
-    taps: &mut [u32],
-    heads: &mut [u16],
-    links: &mut [u16],
-    values: &mut [u32],
-    marks: &mut [u8],
-) -> usize
-    requires can_start { CanStart keys.now m choices.now rows.old heads.old links.old values.old marks.old }
-    requires parts_keyed { map (part_in choices.now) (take m keys.now) ≡ parts_to_build coefficients.now choices.now }
-    requires taps_long { tap_words * length coefficients.now ≤ length taps.old }
-    ensures { Written coefficients.now choices.now rows.old taps.old
-        rows.new taps.new result }
-{
-    let n = build_rows::add_rows(keys, m, choices, rows, heads, links, values, marks);
-    build_tap_rows::write_tap_rows(coefficients, rows, heads, links, n, taps);
-    n
-}
+use build_index::Rows;
+use build_odd_parts::OddPart;
+use build_sieve::Sieve;
 
-// The network where it has at most 64 rows, with little to clear.
-fn within_64(
+// Stays: here and below the tables are apart, as the C interface has them.
+// The network, over an index and a sieve of these sizes, which are empty at first. Out of line, so that
+// the tables of two sizes share the stack.
+#[inline(never)]
+fn within<const HEADS: usize, const LINKS: usize, const VALUES: usize, const MARKS: usize>(
     coefficients: &[i32],
     choices: &[u32],
-    keys: &[u64],
-    m: usize,
+    parts: &[OddPart],
     rows: &mut [u32],
     taps: &mut [u32],
 ) -> usize
-    requires can_build_into { CanBuildInto coefficients.now choices.now rows.old taps.old × Ordered coefficients.now keys.now m × (m ≤ length keys.now) }
-    requires rows_few { length (built_rows coefficients.now choices.now) ≤ 64 }
+    requires can_build_into { CanBuildInto coefficients.now choices.now rows.old taps.old }
+    requires ordered { Ordered coefficients.now parts.now }
+    requires index { (0 < HEADS) × (length (built_rows coefficients.now choices.now) ≤ LINKS) }
+    requires small { (HEADS ≤ 4096) × (LINKS ≤ 4096) × (VALUES ≤ 4096) × (MARKS ≤ 32768) }
+    requires sieve { (length (built_rows coefficients.now choices.now) + 7 ≤ VALUES) × (2048 ≤ MARKS) }
     ensures { Written coefficients.now choices.now rows.old taps.old
         rows.new taps.new result }
 {
-    let mut heads = [0u16; 64];
-    let mut links = [0u16; 64];
-    let mut values = [0u32; 72];
-    let mut marks = [0u8; 2048];
-    write_network(
-        coefficients,
-        choices,
-        keys,
-        m,
-        rows,
-        taps,
-        &mut heads,
-        &mut links,
-        &mut values,
-        &mut marks,
-    )
-}
-
-// The same with at most 512 rows.
-fn within_512(
-    coefficients: &[i32],
-    choices: &[u32],
-    keys: &[u64],
-    m: usize,
-    rows: &mut [u32],
-    taps: &mut [u32],
-) -> usize
-    requires can_build_into { CanBuildInto coefficients.now choices.now rows.old taps.old × Ordered coefficients.now keys.now m × (m ≤ length keys.now) }
-    requires rows_few { length (built_rows coefficients.now choices.now) ≤ 512 }
-    ensures { Written coefficients.now choices.now rows.old taps.old
-        rows.new taps.new result }
-{
-    let mut heads = [0u16; 512];
-    let mut links = [0u16; 512];
-    let mut values = [0u32; 520];
-    let mut marks = [0u8; 8192];
-    write_network(
-        coefficients,
-        choices,
-        keys,
-        m,
-        rows,
-        taps,
-        &mut heads,
-        &mut links,
-        &mut values,
-        &mut marks,
-    )
-}
-
-// The same with at most 3,072 rows.
-fn within_3072(
-    coefficients: &[i32],
-    choices: &[u32],
-    keys: &[u64],
-    m: usize,
-    rows: &mut [u32],
-    taps: &mut [u32],
-) -> usize
-    requires can_build_into { CanBuildInto coefficients.now choices.now rows.old taps.old × Ordered coefficients.now keys.now m × (m ≤ length keys.now) }
-    requires rows_few { length (built_rows coefficients.now choices.now) ≤ 3072 }
-    ensures { Written coefficients.now choices.now rows.old taps.old
-        rows.new taps.new result }
-{
-    let mut heads = [0u16; 4096];
-    let mut links = [0u16; 3072];
-    let mut values = [0u32; 3080];
-    let mut marks = [0u8; 32768];
-    write_network(
-        coefficients,
-        choices,
-        keys,
-        m,
-        rows,
-        taps,
-        &mut heads,
-        &mut links,
-        &mut values,
-        &mut marks,
-    )
-}
-
-// The same with at most 3,841 rows, which is all that there can be. Half of the heads are left out, so
-// that no more than 64 KB of stack are needed.
-fn within_3841(
-    coefficients: &[i32],
-    choices: &[u32],
-    keys: &[u64],
-    m: usize,
-    rows: &mut [u32],
-    taps: &mut [u32],
-) -> usize
-    requires can_build_into { CanBuildInto coefficients.now choices.now rows.old taps.old × Ordered coefficients.now keys.now m × (m ≤ length keys.now) }
-    requires rows_few { length (built_rows coefficients.now choices.now) ≤ 3841 }
-    ensures { Written coefficients.now choices.now rows.old taps.old
-        rows.new taps.new result }
-{
-    let mut heads = [0u16; 2048];
-    let mut links = [0u16; 3841];
-    let mut values = [0u32; 3848];
-    let mut marks = [0u8; 32768];
-    write_network(
-        coefficients,
-        choices,
-        keys,
-        m,
-        rows,
-        taps,
-        &mut heads,
-        &mut links,
-        &mut values,
-        &mut marks,
-    )
+    let mut heads = [0u16; HEADS];
+    let mut links = [0u16; LINKS];
+    let mut values = [0u32; VALUES];
+    let mut marks = [0u8; MARKS];
+    let mut built = Rows {
+        table: rows,
+        heads: &mut heads,
+        links: &mut links,
+        count: 0,
+    };
+    let mut sieve = Sieve {
+        values: &mut values,
+        marks: &mut marks,
+    };
+    build_rows::add_rows(parts, choices, &mut built, &mut sieve);
+    build_tap_rows::write_tap_rows(coefficients, &built, taps);
+    built.count
 }
 
 // The odd parts in order, and the network, with an index and a sieve as large as the rows can need:
-// row 0, and for each odd part one less than its weight.
+// row 0, and for each odd part one less than its weight. There can be 3,841 rows at most, for which
+// half of the heads are left out, so that no more than 64 KB of stack are needed.
 pub fn build_accepted(
     coefficients: &[i32],
     choices: &[u32],
@@ -175,17 +62,18 @@ pub fn build_accepted(
     ensures { Written coefficients.now choices.now rows.old taps.old
         rows.new taps.new result }
 {
-    let mut keys = [0u64; 256];
-    let m = build_odd_parts::order(coefficients, &mut keys);
-    let weights = build_odd_parts::total_weight(&keys, m);
-    if weights < m + 64 {
-        return within_64(coefficients, choices, &keys, m, rows, taps);
+    let mut room = [OddPart::NONE; 256];
+    let count = build_odd_parts::order(coefficients, &mut room);
+    let parts = &room[..count];
+    let weights = build_odd_parts::total_weight(parts);
+    if weights < count + 64 {
+        return within::<64, 64, 72, 2048>(coefficients, choices, parts, rows, taps);
     }
-    if weights < m + 512 {
-        return within_512(coefficients, choices, &keys, m, rows, taps);
+    if weights < count + 512 {
+        return within::<512, 512, 520, 8192>(coefficients, choices, parts, rows, taps);
     }
-    if weights < m + 3072 {
-        return within_3072(coefficients, choices, &keys, m, rows, taps);
+    if weights < count + 3072 {
+        return within::<4096, 3072, 3080, 32768>(coefficients, choices, parts, rows, taps);
     }
-    within_3841(coefficients, choices, &keys, m, rows, taps)
+    within::<2048, 3841, 3848, 32768>(coefficients, choices, parts, rows, taps)
 }

@@ -1,4 +1,4 @@
-// The tap rows of a built network, over rows with their index.
+// The tap rows of a built network.
 #![tactic(auto)]
 
 ghost use Rattle.std.specs.Prelude.{◌≡◌, ◌*◌, ◌≤◌, length};
@@ -7,65 +7,48 @@ ghost use Rattle.coefficient.specs.Parts.{parts_of, sign_if};
 ghost use Rattle.network.specs.Rows.{rows_of, tap_words, words_of_tap_rows};
 ghost use Rattle.build_steps.specs.Search.{row_with};
 ghost use Rattle.build_steps.specs.TapRows.{sign_code, tap_row_of};
-ghost use Rattle.build_index.specs.Inner.{Indexed};
+ghost use Rattle.build_index.specs.Inner.{IsIndexed};
 ghost use Rattle.build_tap_rows.specs.Inner.{over, tap_rows_for};
 
-use build_index::Found;
-use coefficient::Reduced;
+use build_index::Rows;
 use network::TapRow;
 
 // The sign as it is stored.
 fn sign_code(negative: bool) -> u32
     ensures { result ≡ sign_code (sign_if negative) }
 {
-    if negative {
-        network::MINUS
-    } else {
-        network::PLUS
-    }
+    word::choose(negative, network::MINUS, network::PLUS)
 }
 
 // The row that has the value x, 0 where there is none.
-fn row_of(table: &[u32], heads: &[u16], links: &[u16], n: usize, x: u32) -> u32
-    requires { Indexed table.now heads.now links.now n }
-    ensures { result ≡ place_or 0 (row_with (rows_of table.now n) x) }
+// Stays: no Option, since `tap_row_of` says row 0 for none, and a tap row holds a number.
+fn row_of(rows: &Rows, x: u32) -> u32
+    requires { IsIndexed rows.now }
+    ensures { result ≡ place_or 0 (row_with (rows_of rows.now.table.now rows.now.count) x) }
 {
-    match build_index::find(table, heads, links, n, x) {
-        Found::At(i) => i as u32,
-        Found::Missing => 0,
-    }
+    rows.find(x).unwrap_or(0) as u32
 }
 
-fn tap_row(table: &[u32], heads: &[u16], links: &[u16], n: usize, coefficient: i32) -> TapRow
-    requires { Indexed table.now heads.now links.now n }
-    ensures { result ≡ tap_row_of (rows_of table.now n) (parts_of coefficient) }
+fn tap_row(rows: &Rows, coefficient: i32) -> TapRow
+    requires { IsIndexed rows.now }
+    ensures { result ≡ tap_row_of (rows_of rows.now.table.now rows.now.count) (parts_of coefficient) }
 {
     match coefficient::reduce(coefficient) {
-        Reduced::Zero => network::EMPTY,
-        Reduced::Split(reduction) => TapRow {
+        None => network::EMPTY,
+        Some(reduction) => TapRow {
             sign: sign_code(reduction.negative),
-            row: row_of(table, heads, links, n, reduction.odd_part),
+            row: row_of(rows, reduction.odd_part),
             shift: reduction.shift,
         },
     }
 }
 
 // The tap rows of the coefficients, over the rows that are built.
-pub fn write_tap_rows(
-    coefficients: &[i32],
-    table: &[u32],
-    heads: &[u16],
-    links: &[u16],
-    n: usize,
-    taps: &mut [u32],
-)
-    requires { Indexed table.now heads.now links.now n × (tap_words * length coefficients.now ≤ length taps.old) }
-    ensures { taps.new ≡ over (words_of_tap_rows (tap_rows_for (rows_of table.now n) coefficients.now)) taps.old }
+pub fn write_tap_rows(coefficients: &[i32], rows: &Rows, taps: &mut [u32])
+    requires { IsIndexed rows.now × (tap_words * length coefficients.now ≤ length taps.old) }
+    ensures { taps.new ≡ over (words_of_tap_rows (tap_rows_for (rows_of rows.now.table.now rows.now.count) coefficients.now)) taps.old }
 {
-    let mut j: usize = 0;
-    while j < coefficients.len() {
-        let row = tap_row(table, heads, links, n, coefficients[j]);
-        network::write_tap_row(taps, j, row);
-        j += 1;
+    for (j, coefficient) in coefficients.iter().enumerate() {
+        network::write_tap_row(taps, j, tap_row(rows, *coefficient));
     }
 }

@@ -2,23 +2,19 @@
 -- the digits still to come give the rows of the whole chain. `turn` reads one nonzero digit and keeps both. The measure is the mask of the nonzero
 -- digits still to come, which loses its highest bit each time. Where none is left, only zeros are still to come, and zeros add no row.
 -- Assumes nothing.
-use mathlib.Core.Path.{◌≡◌}
-use lib.ListN.{length}
+use Rattle.std.proofs.Common.{◌≡◌}
 use Rattle.form_masks.specs.Form.{string_of}
-use Rattle.network.specs.Rows.{rows_of}
 use Rattle.build_steps.specs.Chain.{chained}
 use Rattle.build_index.specs.Inner.{Grown}
-use Rattle.build_chain.specs.Inner.{Reading, to_come}
+use Rattle.build_chain.specs.Inner.{rows_in, Reading, to_come}
 use Rattle.build_chain.proofs.add_chain.Given as goal
 
 abbrev pub invariant-loop-chain : goal.invariant-loop-chain
-invariant-loop-chain l =
-    (length l.table ≡ length l.initial.table)
-    × (length l.heads ≡ length l.initial.heads)
-    × (length l.links ≡ length l.initial.links)
-    × Grown l.initial.table l.table l.heads l.links l.chain.rows (rows_of l.table l.chain.rows)
-    × Reading l.form l.chain (rows_of l.table l.chain.rows)
-    × (to_come l.form l.chain (rows_of l.table l.chain.rows) ≡ chained (rows_of l.initial.table l.n) (string_of l.form))
+invariant-loop-chain l = record {
+  grown : Grown l.initial.rows l.rows (rows_in l.rows);
+  reading : Reading l.chain (rows_in l.rows);
+  same : to_come l.chain (rows_in l.rows) ≡ chained (rows_in l.initial.rows) (string_of l.fn.form);
+}
 
 abbrev pub decreases-loop-chain : goal.decreases-loop-chain
 decreases-loop-chain l = l.chain.rest

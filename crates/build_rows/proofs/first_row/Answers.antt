@@ -1,37 +1,35 @@
 -- `build_rows::first_row` meets its contract. Assumes nothing.
-use mathlib.Core.Path.{refl}
-use mathlib.Core.List.{[], ◌∷◌}
-use native.Mathlib.Omega.{arith}
+use Rattle.std.proofs.Common.{◌≡◌, ℕ, ◌++◌, List, [], ◌∷◌, ap, subst}
 use Rattle.refusal.specs.Answer.{lowest_from}
 use Rattle.sequence.specs.UpTo.{up_to}
-use Rattle.network.specs.Rows.{first_row_of}
+use Rattle.network.specs.declared.Row.{Row}
+use Rattle.network.specs.Rows.{rows_of, first_row_of}
 use Rattle.build_steps.specs.Search.{row_with}
 use Rattle.build_index.specs.Inner.{Grown}
-use Rattle.build_sieve.proofs.Sieves.{sieve_kept}
 use Rattle.build_rows.proofs.Sieved.{first_bounded}
-use Rattle.build_rows.proofs.first_row.Goals.{After-put}
+use Rattle.build_rows.proofs.first_row.Goals.{Start, After-put}
 use Rattle.build_rows.proofs.first_row.Goals as goal
 
--- row 0 is there
-row_0_put : (c : After-put) → Grown c.args.table.now c.put.new.table c.put.new.heads c.put.new.links 1 (first_row_of ∷ [])
+-- no rows are there
+no_rows : (table : List ℕ) (n : ℕ) → n ≡ 0 → rows_of table n ≡ []
 unfolding up_to
-row_0_put c = c.put.ensures
+no_rows table n e = ap (rows_of table) e
 
-pub put-requires : goal.put-requires
-unfolding row_with lowest_from up_to
-put-requires c =
-    let room = c.requires.indexed.1 in
-    record { indexed = c.requires.indexed.0; room = (omega arith, omega (arith, room.words), omega (arith, room.linked)); new_value = refl }
+empty : (s : Start) → rows_of s.args.rows.now.table.now s.args.rows.now.count ≡ []
+empty s = no_rows s.args.rows.now.table.now s.args.rows.now.count s.requires.indexed.0
 
-pub extend-requires : goal.extend-requires
-extend-requires c =
-    let a = c.args in
-    let t = c.put.new.table in
-    let g = row_0_put (goal.at-extend-requires c).After-put in record {
-      sieve = (sieve_kept a.table.now t a.values.now a.marks.now 0 (λ i l. absurd (omega arith)) c.requires.sieve.0, omega arith, omega (arith, c.requires.sieve.1), g.index.room, g.index.few);
-      by_index = first_bounded a.table.now t c.put.new.heads c.put.new.links g;
-    }
+-- row 0 is there
+row_0_put : (c : After-put) → Grown c.args.rows.now c.put.new.self (first_row_of ∷ [])
+row_0_put c =
+    subst (λ (l : List Row). Grown c.args.rows.now c.put.new.self (l ++ (first_row_of ∷ []))) (empty (goal.at-After-put c).Start) c.put.ensures.grown
 
-pub returns : goal.returns
-returns c =
-    record { grown = row_0_put (goal.at-returns c).After-put; sieved = c.extend.ensures }
+pub put-requires-clause-new_value : goal.put-requires-clause-new_value
+unfolding row_with lowest_from
+put-requires-clause-new_value c = ap (λ (l : List Row). row_with l 1) (empty (goal.at-put-requires-clause-new_value c).Start)
+
+pub extend-requires-clause-by_index : goal.extend-requires-clause-by_index
+extend-requires-clause-by_index c =
+    first_bounded c.args.rows.now c.put.new.self (row_0_put (goal.at-extend-requires-clause-by_index c).After-put)
+
+pub returns-clause-grown : goal.returns-clause-grown
+returns-clause-grown c = row_0_put (goal.at-returns-clause-grown c).After-put

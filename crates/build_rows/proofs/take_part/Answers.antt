@@ -7,16 +7,14 @@ pub extend-requires : goal.extend-requires
 extend-requires c =
     let a = c.args in
     let p = part_of a.v a.choice in
-    let add = c.add_part-more in
-    let t = add.new.table in
-    let h = add.new.heads in
-    let l = add.new.links in record {
-      sieve = (
-        sieve_carried a.table.now a.heads.now a.links.now a.values.now a.marks.now a.n a.most p c.requires t h l add.result add.ensures,
-        no_fewer a.table.now a.heads.now a.links.now a.values.now a.marks.now a.n a.most p c.requires t h l add.result add.ensures,
-        room_left a.table.now a.heads.now a.links.now a.values.now a.marks.now a.n a.most p c.requires t h l add.result add.ensures,
+    let add = c.add_part in
+    let r' = add.new.rows in record {
+      sieve = sieve_carried a.rows.now a.sieve.now a.most p c.requires r' add.ensures;
+      room = (
+        no_fewer a.rows.now a.sieve.now a.most p c.requires r' add.ensures,
+        room_left a.rows.now a.sieve.now a.most p c.requires r' add.ensures,
         add.ensures.index.room,
         add.ensures.index.few,
       );
-      by_index = step_bounded a.table.now a.heads.now a.links.now a.values.now a.marks.now a.n a.most p c.requires t h l add.result add.ensures;
+      by_index = step_bounded a.rows.now a.sieve.now a.most p c.requires r' add.ensures;
     }

@@ -1,55 +1,66 @@
--- `build_tables::build_accepted` meets its contract. What can be built and the keys in order say which parts are built, that each can be, and that there
+-- `build_tables::build_accepted` meets its contract. What can be built and the odd parts in order say which parts are built, that each can be, and that there
 -- are at most as many rows besides row 0 as the weights of all odd parts together, less one for each. Assumes nothing.
-use Prim.Native.Nat.{◌+◌, ◌≤◌}
-use native.Mathlib.Omega.{arith}
-use mathlib.Core.Path.{◌≡◌}
-use lib.ListN.{length}
+use Rattle.std.proofs.Common.{◌≡◌, ℕ, ◌+◌, ◌≤◌, ◌<◌, length, take, arith}
+use lib.Seq.{length-take-le}
 use Rattle.build_steps.specs.Steps.{built_rows}
 use Rattle.build_tables.proofs.Plans.{rows_few, rows_weighed}
-use Rattle.build_tables.proofs.build_accepted.Goals.{After-order-m, After-total_weight-weights}
+use Rattle.build_tables.proofs.build_accepted.Goals.{After-order-count, After-total_weight-weights}
 use Rattle.build_tables.proofs.build_accepted.Goals as goal
 
--- as many odd parts as coefficients at most
-few : (c : After-order-m) → c.order-m.result ≤ 256
-few c = omega (arith, c.order-m.ensures.few, c.requires.can_build.few)
-
-keyed : (c : After-order-m) → c.order-m.result ≤ length c.order-m.new.keys
-keyed c =
-    let l : length c.order-m.new.keys ≡ 256 = c.order-m.auto.keys in
-    omega (arith, few c, l)
+counted : (c : After-order-count) → length (take c.order-count.result c.order-count.new.parts) ≡ c.order-count.result
+counted c =
+    let long : length c.order-count.new.parts ≡ 256 = c.order-count.auto.parts in
+    length-take-le c.order-count.result c.order-count.new.parts (omega (arith, c.order-count.ensures.few, c.requires.can_build.few, long))
 
 -- row 0, and for each odd part one row less than its weight
-weighed : (c : After-total_weight-weights) → length (built_rows c.args.coefficients.now c.args.choices.now) + c.order-m.result ≤ 1 + c.total_weight-weights.result
+weighed : (c : After-total_weight-weights) → length (built_rows c.args.coefficients.now c.args.choices.now) + c.order-count.result ≤ 1 + c.total_weight-weights.result
 weighed c =
     let a = c.args in
-    omega (arith, c.total_weight-weights.ensures.0, rows_weighed a.coefficients.now a.choices.now a.rows.now a.taps.now c.order-m.new.keys c.order-m.result c.requires c.order-m.ensures (keyed (goal.at-After-total_weight-weights c).After-order-m))
+    omega (arith, c.total_weight-weights.ensures.total, counted (goal.at-After-total_weight-weights c).After-order-count, rows_weighed a.coefficients.now a.choices.now a.rows.now a.taps.now (take c.order-count.result c.order-count.new.parts) c.requires c.order-count.ensures.ordered)
 
-pub total_weight-weights-requires : goal.total_weight-weights-requires
-total_weight-weights-requires c =
-    (keyed (goal.at-total_weight-weights-requires c).After-order-m, few (goal.at-total_weight-weights-requires c).After-order-m)
+-- no more rows than a table has room for
+few : (c : After-total_weight-weights) (k : ℕ) → c.total_weight-weights.result < c.order-count.result + k → length (built_rows c.args.coefficients.now c.args.choices.now) ≤ k
+few c k h = omega (arith, weighed c, h)
 
-pub overflow_add-m : goal.overflow_add-m
-overflow_add-m c = omega (arith, few (goal.at-overflow_add-m c).After-order-m)
+-- its sieve too
+sieved : (c : After-total_weight-weights) (k w b : ℕ) → length (built_rows c.args.coefficients.now c.args.choices.now) ≤ k → k + 7 ≤ w → 2048 ≤ b
+    → (length (built_rows c.args.coefficients.now c.args.choices.now) + 7 ≤ w) × (2048 ≤ b)
+sieved c k w b h l m = (omega (arith, h, l), m)
 
-pub within_64-requires : goal.within_64-requires
-within_64-requires c =
-    record { can_build_into = (c.requires, c.order-m.ensures, keyed (goal.at-within_64-requires c).After-order-m); rows_few = omega (arith, weighed (goal.at-within_64-requires c).After-total_weight-weights, c.if-weights-m.true) }
+all_few : (c : After-total_weight-weights) → length (built_rows c.args.coefficients.now c.args.choices.now) ≤ 3841
+all_few c =
+    let a = c.args in rows_few a.coefficients.now a.choices.now a.rows.now a.taps.now (take c.order-count.result c.order-count.new.parts) c.requires c.order-count.ensures.ordered
 
-pub overflow_add-m-2 : goal.overflow_add-m-2
-overflow_add-m-2 c = omega (arith, few (goal.at-overflow_add-m-2 c).After-order-m)
+pub within-requires-clause-index : goal.within-requires-clause-index
+within-requires-clause-index c = (omega arith, few (goal.at-within-requires-clause-index c).After-total_weight-weights 64 c.if-weights-count.true)
 
-pub within_512-requires : goal.within_512-requires
-within_512-requires c =
-    record { can_build_into = (c.requires, c.order-m.ensures, keyed (goal.at-within_512-requires c).After-order-m); rows_few = omega (arith, weighed (goal.at-within_512-requires c).After-total_weight-weights, c.if-weights-m-2.true) }
+pub within-requires-clause-sieve : goal.within-requires-clause-sieve
+within-requires-clause-sieve c =
+    let w = (goal.at-within-requires-clause-sieve c).After-total_weight-weights in
+    sieved w 64 72 2048 (few w 64 c.if-weights-count.true) (omega arith) (omega arith)
 
-pub overflow_add-m-3 : goal.overflow_add-m-3
-overflow_add-m-3 c = omega (arith, few (goal.at-overflow_add-m-3 c).After-order-m)
+pub within-requires-then-weights-count-2-clause-index : goal.within-requires-then-weights-count-2-clause-index
+within-requires-then-weights-count-2-clause-index c =
+    (omega arith, few (goal.at-within-requires-then-weights-count-2-clause-index c).After-total_weight-weights 512 c.if-weights-count-2.true)
 
-pub within_3072-requires : goal.within_3072-requires
-within_3072-requires c =
-    record { can_build_into = (c.requires, c.order-m.ensures, keyed (goal.at-within_3072-requires c).After-order-m); rows_few = omega (arith, weighed (goal.at-within_3072-requires c).After-total_weight-weights, c.if-weights-m-3.true) }
+pub within-requires-then-weights-count-2-clause-sieve : goal.within-requires-then-weights-count-2-clause-sieve
+within-requires-then-weights-count-2-clause-sieve c =
+    let w = (goal.at-within-requires-then-weights-count-2-clause-sieve c).After-total_weight-weights in
+    sieved w 512 520 8192 (few w 512 c.if-weights-count-2.true) (omega arith) (omega arith)
 
-pub within_3841-requires : goal.within_3841-requires
-within_3841-requires c =
-    let a = c.args in
-    record { can_build_into = (c.requires, c.order-m.ensures, keyed (goal.at-within_3841-requires c).After-order-m); rows_few = rows_few a.coefficients.now a.choices.now a.rows.now a.taps.now c.order-m.new.keys c.order-m.result c.requires c.order-m.ensures (keyed (goal.at-within_3841-requires c).After-order-m) }
+pub within-requires-then-weights-count-3-clause-index : goal.within-requires-then-weights-count-3-clause-index
+within-requires-then-weights-count-3-clause-index c =
+    (omega arith, few (goal.at-within-requires-then-weights-count-3-clause-index c).After-total_weight-weights 3072 c.if-weights-count-3.true)
+
+pub within-requires-then-weights-count-3-clause-sieve : goal.within-requires-then-weights-count-3-clause-sieve
+within-requires-then-weights-count-3-clause-sieve c =
+    let w = (goal.at-within-requires-then-weights-count-3-clause-sieve c).After-total_weight-weights in
+    sieved w 3072 3080 32768 (few w 3072 c.if-weights-count-3.true) (omega arith) (omega arith)
+
+pub within-requires-2-clause-index : goal.within-requires-2-clause-index
+within-requires-2-clause-index c = (omega arith, all_few (goal.at-within-requires-2-clause-index c).After-total_weight-weights)
+
+pub within-requires-2-clause-sieve : goal.within-requires-2-clause-sieve
+within-requires-2-clause-sieve c =
+    let w = (goal.at-within-requires-2-clause-sieve c).After-total_weight-weights in
+    sieved w 3841 3848 32768 (all_few w) (omega arith) (omega arith)

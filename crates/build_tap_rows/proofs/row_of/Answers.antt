@@ -1,18 +1,18 @@
 -- `build_tap_rows::row_of` meets its contract. Assumes nothing.
-use mathlib.Core.Path.{sym, ap, ◌∙◌}
-use native.Mathlib.Omega.{arith}
-use Rattle.refusal.specs.Answer.{place_or}
-use Rattle.build_index.specs.Inner.{found_at}
+use Rattle.std.proofs.Common.{◌≡◌, ℕ, ◌^◌, ◌<◌, ◌≤◌, List, Option, Some, None, sym, arith}
+use Rattle.std.specs.Option.{unwrap_or}
+use Rattle.refusal.specs.Answer.{found_at}
+use Rattle.network.specs.Rows.{rows_of}
+use Rattle.build_steps.specs.Search.{row_with}
 use Rattle.build_index.proofs.Values.{row_found}
 use Rattle.build_tap_rows.proofs.row_of.Goals as goal
 
+-- rows are few
+small : (table : List ℕ) (n x : ℕ) → n ≤ 4096 → (o : Option ℕ) → found_at o ≡ row_with (rows_of table n) x → unwrap_or o 0 < 2 ^ 32
+small table n x h None e = omega arith
+small table n x h (Some i) e = omega (arith, h, (row_found table n x i (sym e)).0)
+
 pub overflow_cast-result : goal.overflow_cast-result
 overflow_cast-result c =
-    record { fits = omega (arith, (row_found c.args.table.now c.args.n c.args.x c.in-At.i (sym c.find.ensures ∙ ap found_at c.in-At.is)).0, c.requires.few) }
-
-pub returns-in-At : goal.returns-in-At
-returns-in-At c = ap (place_or 0) (sym (sym c.find.ensures ∙ ap found_at c.in-At.is))
-
-pub returns-in-Missing : goal.returns-in-Missing
-returns-in-Missing c =
-    ap (place_or 0) (sym (ap found_at c.in-Missing.is) ∙ c.find.ensures)
+    let rows = c.args.rows.now in
+    record { fits = rw c.unwrap_or.ensures (small rows.table.now rows.count c.args.x c.requires.few c.find.result c.find.ensures) }

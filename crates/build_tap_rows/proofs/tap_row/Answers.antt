@@ -14,15 +14,15 @@ reduced : (c : After-reduce) → parts_in c.reduce.result ≡ parts_of c.args.co
 reduced c =
     c.reduce.ensures.split ∙ ap parts_of (to_z-of_z w32 c.args.coefficient c.ranges.coefficient)
 
-pub returns-in-Zero : goal.returns-in-Zero
+pub returns-in-None : goal.returns-in-None
 unfolding tap_row_of
-returns-in-Zero c =
+returns-in-None c =
     let args = c.args in
-    ap (tap_row_of (rows_of args.table.now args.n)) (ap parts_in (sym c.in-Zero.is) ∙ reduced (goal.at-returns-in-Zero c).After-reduce)
+    ap (tap_row_of (rows_of args.rows.now.table.now args.rows.now.count)) (ap parts_in (sym c.in-None.is) ∙ reduced (goal.at-returns-in-None c).After-reduce)
 
-pub returns-in-Split : goal.returns-in-Split
+pub returns-in-Some : goal.returns-in-Some
 unfolding tap_row_of
-returns-in-Split c =
+returns-in-Some c =
     let args = c.args in
-    ap₂ (λ (x y : ℕ). record { sign = x; row = y; shift = c.in-Split.reduction.shift }) c.sign_code.ensures c.row_of.ensures
-    ∙ ap (tap_row_of (rows_of args.table.now args.n)) (ap parts_in (sym c.in-Split.is) ∙ reduced (goal.at-returns-in-Split c).After-reduce)
+    ap₂ (λ (x y : ℕ). record { sign = x; row = y; shift = c.in-Some.reduction.shift }) c.sign_code.ensures c.row_of.ensures
+    ∙ ap (tap_row_of (rows_of args.rows.now.table.now args.rows.now.count)) (ap parts_in (sym c.in-Some.is) ∙ reduced (goal.at-returns-in-Some c).After-reduce)
