@@ -4,3 +4,4 @@ pub mod Terms
 pub mod Steps
 pub mod Theorems
 pub mod Trailing
+pub mod Past

@@ -2,10 +2,15 @@
 use mathlib.Core.Path.{◌≡◌, refl, sym, ap, subst, ◌∙◌}
 use mathlib.Core.List.{List, [], ◌∷◌, ◌++◌}
 use Prim.Native.Nat.{ℕ, suc, ◌+◌, ◌<◌, ◌≤◌, ◌^◌}
-use native.Mathlib.Nat.{zero-add}
 use native.Mathlib.Omega.{arith}
 use lib.IntN.{ℤ, pos, ◌+ℤ◌, ◌*ℤ◌}
-use lib.ListN.{length, get_or, drop}
+use lib.ListN.{length, get_or, take, drop}
+use borrow.Rule.Slice.PartMut.{put_mid}
+use Rattle.std.proofs.lemmas.Slice.{put_mid-paste}
+use Rattle.std.proofs.Math.Seq.{take-length}
+use Rattle.std.proofs.lemmas.List.{drop-drop, take_all}
+use Rattle.std.proofs.Math.ListN.{drop_of_length-le}
+use Rattle.std.proofs.Common.{append-nil, append_assoc, length-drop, ap₂}
 use lib.Seq.{drop-cons, sets, sets-eq}
 use Rattle.sequence.specs.Inner.{front}
 use Rattle.run_convolution.specs.Running.{next, outputs_of, registers_of}
@@ -66,32 +71,50 @@ length_four h x0 x1 x2 x3 r l =
 next_word : (h : List ℤ) → length h ≤ 256 → (x : ℤ) (r : List ℕ) (k : ℕ) → held (next h x r) k < 2 ^ 64
 next_word h few x r k = rw (held_next h few x r k) (wrapped_lt (pos (held r (suc k)) +ℤ get_or h (suc k) (pos 0) *ℤ x))
 
+-- outputs written to a part are those set there
+pub sets_mid : (outs os : List ℤ) (i k : ℕ) → length os ≡ k → i + k ≤ length outs → put_mid i k outs os ≡ sets outs i os
+sets_mid outs os i k e l =
+    put_mid-paste i k outs os os (length os) refl e refl ∙ ap (λ t. take i outs ++ t ++ drop (i + length os) outs) (take-length os) ∙ sym (sets-eq os outs i (omega arith))
+
+-- outputs written to the rest, where it has more places than they are
+pub sets_rest : (outs os new : List ℤ) (i k : ℕ) → i + k ≡ length outs → length new ≡ k → length os ≤ k
+    → new ≡ os ++ drop (length os) (take k (drop i outs)) → put_mid i k outs new ≡ sets outs i os
+sets_rest outs os new i k e m l f =
+    let whole : take k (drop i outs) ≡ drop i outs = take_all k (drop i outs) (omega (arith, length-drop i outs)) in
+    let tail : drop (length os) (take k (drop i outs)) ≡ drop (i + length os) outs = ap (drop (length os)) whole ∙ drop-drop (length os) i outs in
+    put_mid-paste i k outs new new k refl refl (sym m)
+    ∙ ap₂ (λ s t. take i outs ++ s ++ t) (take_all k new (omega arith)) (drop_of_length-le outs (omega arith))
+    ∙ append-nil (take i outs ++ new) ∙ ap (λ t. take i outs ++ t) (f ∙ ap (λ t. os ++ t) tail) ∙ sym (append_assoc (take i outs) os (drop (i + length os) outs))
+    ∙ sym (sets-eq os outs i (omega arith))
+
 module _ (h : List ℤ) (few : length h ≤ 256) (w : ℕ) (v r : List ℕ) (xs outs : List ℤ) where
   pub passed_none : (words : List ℕ) → ZeroFrom w h r → Raised w v 0 r words → Passed h w v r xs outs 0 0 words outs
   passed_none words q f = record { registers = r; zero_from = q; size = refl; past = refl; fit = λ l. absurd (omega arith); raised = f; to_come_lem = refl; outputs = refl }
 
   -- four samples more
-  pub passed_four : (i g n : ℕ) (words new : List ℕ) (news outputs : List ℤ) → i + 4 ≤ length xs → 256 ≤ length r
-      → ((s : List ℕ) → ZeroFrom w h s → Raised w v g s words
-      → (Raised w v n (after4 h (get_or xs i (pos 0)) (get_or xs (i + 1) (pos 0)) (get_or xs (i + 2) (pos 0)) (get_or xs (i + 3) (pos 0)) s) new)
-      × (outputs ≡ sets news i (outputs_of h s (get_or xs i (pos 0) ∷ get_or xs (i + 1) (pos 0) ∷ get_or xs (i + 2) (pos 0) ∷ get_or xs (i + 3) (pos 0) ∷ []))))
-      → Passed h w v r xs outs i g words news → Passed h w v r xs outs (i + 4) n new outputs
-  passed_four i g n words new news outputs l b f p =
+  pub passed_four : (i g n : ℕ) (words new : List ℕ) (news outputs four os : List ℤ) → i + 4 ≤ length xs → 256 ≤ length r → length xs ≤ length news → four ≡ get_or xs i (pos 0) ∷ get_or xs (i + 1) (pos 0) ∷ get_or xs (i + 2) (pos 0) ∷ get_or xs (i + 3) (pos 0) ∷ []
+      → ((s : List ℕ) → ZeroFrom w h s → Raised w v g s words → (Raised w v n (registers_of h s four) new) × (os ≡ outputs_of h s four))
+      → outputs ≡ put_mid i 4 news os → Passed h w v r xs outs i g words news → Passed h w v r xs outs (i + 4) n new outputs
+  unfolding registers_of
+  passed_four i g n words new news outputs four os l b m e f o p =
       let s = p.registers in
-      let step = f s p.zero_from p.raised in
       let y0 = get_or xs i (pos 0) in
       let y1 = get_or xs (i + 1) (pos 0) in
       let y2 = get_or xs (i + 2) (pos 0) in
       let y3 = get_or xs (i + 3) (pos 0) in
+      let step = f s p.zero_from p.raised in
+      let k : length os ≡ 4 = ap length step.1 ∙ length_outputs h s four ∙ ap length e in
+      let q : outputs ≡ sets news i (outputs_of h s (y0 ∷ y1 ∷ y2 ∷ y3 ∷ [])) =
+      o ∙ sets_mid news os i 4 k (omega arith) ∙ ap (sets news i) (step.1 ∙ ap (outputs_of h s) e) in
       record {
         registers = after4 h y0 y1 y2 y3 s;
         zero_from = zero_from_four h few w y0 y1 y2 y3 s p.zero_from;
         size = length_four h y0 y1 y2 y3 s (omega (arith, b, p.size)) ∙ p.size;
         past = next_drop h y3 _ ∙ next_drop h y2 _ ∙ next_drop h y1 _ ∙ next_drop h y0 s ∙ p.past;
         fit = λ m k. next_word h few y3 (next h y2 (next h y1 (next h y0 s))) k;
-        raised = step.0;
+        raised = subst (λ x. Raised w v n (registers_of h s x) new) e step.0;
         to_come_lem = four_registers h xs s i l ∙ p.to_come_lem;
-        outputs = four_outputs h xs s i l news outputs step.1 ∙ p.outputs;
+        outputs = four_outputs h xs s i l news outputs q ∙ p.outputs;
       }
 
 -- the same coefficients by another name
@@ -115,9 +138,3 @@ module _ {h : List ℤ} {w : ℕ} {v r : List ℕ} {xs outs : List ℤ} {i bias 
 
   pub passed_outputs : sets news i (outputs_of h new (drop i xs)) ≡ sets outs 0 (outputs_of h r xs)
   passed_outputs = ap (λ s. sets news i (outputs_of h s (drop i xs))) e ∙ p.outputs
-
-pub all_outputs : (h xs : List ℤ) (r : List ℕ) (outs : List ℤ) → length xs ≤ length outs
-    → sets outs 0 (outputs_of h r xs) ≡ outputs_of h r xs ++ drop (length xs) outs
-all_outputs h xs r outs l =
-    sets-eq (outputs_of h r xs) outs 0 (omega (arith, length_outputs h r xs))
-    ∙ ap (λ n. outputs_of h r xs ++ drop n outs) (zero-add (length (outputs_of h r xs)) ∙ length_outputs h r xs)

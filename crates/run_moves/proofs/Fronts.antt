@@ -3,7 +3,7 @@ use mathlib.Core.Path.{◌≡◌, sym, ap, ap₂, ◌∙◌}
 use mathlib.Core.List.{List, ◌++◌}
 use Prim.Native.Nat.{ℕ, zero, suc, ◌+◌, ◌-◌, ◌<◌, ◌≤◌}
 use native.Mathlib.Omega.{arith}
-use lib.ListN.{length, get_or, take, drop, set, take-append-drop, length-append, length-drop}
+use lib.ListN.{length, get_or, take, drop, set, take-append-drop}
 use lib.Seq.{set-get_or, ext_get_or, get_or-take, length-take-le}
 use Rattle.sequence.specs.UpTo.{up_to}
 use Rattle.sequence.specs.Inner.{front}
@@ -29,10 +29,6 @@ pub front_rest : (f : ℕ → ℕ) (r : List ℕ) (n m : ℕ) → n ≤ m → m 
 front_rest f r n m l b e =
     let q : n + (m - n) ≡ m = omega arith in
     front_more f r (m - n) n (omega arith) (λ k a c. e k a (omega arith)) ∙ ap (front f r) q
-
-pub front_length : (f : ℕ → ℕ) (r : List ℕ) (n : ℕ) → n ≤ length r → length (front f r n) ≡ length r
-unfolding front
-front_length f r n l = length-append (up_to n f) (drop n r) ∙ omega (arith, length_up_to n f, length-drop n r)
 
 -- all 256 registers filled
 pub front_all : (r s : List ℕ) → 256 ≤ length r → length s ≡ length r → drop 256 s ≡ drop 256 r → front (held s) r 256 ≡ s

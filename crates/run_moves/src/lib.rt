@@ -10,68 +10,54 @@ ghost use Rattle.run_tables.specs.Inner.{Raised};
 ghost use Rattle.run_moves.specs.Inner.{placed};
 
 use run_products::{four, lowered, raised};
+use run_tables::Tables;
+
+// The raised registers of a running call, and the bias that they share.
+#[derive(Drop)]
+pub struct Line {
+    pub bias: u64,
+    pub words: [u64; 260],
+}
 
 // What place j comes to, from the word that it starts from.
-pub fn place(stored: &[u64; 264], j: usize, word: u64, y0: u16, y1: u16, y2: u16, y3: u16) -> u64
+pub fn place(stored: &[u64; 264], j: usize, word: u64, y: [u16; 4]) -> u64
     requires { j < 260 }
-    ensures { result ≡ placed stored.now y0 y1 y2 y3 j word }
+    ensures { result ≡ placed stored.now y j word }
 {
     four(
         word,
-        stored[j + 4],
-        stored[j + 3],
-        stored[j + 2],
-        stored[j + 1],
-        y0,
-        y1,
-        y2,
-        y3,
+        [stored[j + 4], stored[j + 3], stored[j + 2], stored[j + 1]],
+        y,
     )
 }
 
 // The first n words, from those four places on.
-pub fn slide(
-    stored: &[u64; 264],
-    y0: u16,
-    y1: u16,
-    y2: u16,
-    y3: u16,
-    n: usize,
-    words: &mut [u64; 260],
-)
-    requires { (n ≤ 256) × (length words.old ≡ 260) }
-    ensures { words.new
-        ≡ front (λ k. placed stored.now y0 y1 y2 y3 (k + 4) (get_or words.old (k + 4) 0)) words.old n }
+pub fn slide(stored: &[u64; 264], y: [u16; 4], n: usize, words: &mut [u64; 260])
+    requires { n ≤ 256 }
+    ensures moved { (k : ℕ) → k < n → get_or words.new k 0 ≡ placed stored.now y (k + 4) (get_or words.old (k + 4) 0) }
+    ensures kept { (k : ℕ) → n ≤ k → get_or words.new k 0 ≡ get_or words.old k 0 }
 {
-    let mut k: usize = 0;
-    while k < n {
-        words[k] = place(stored, k + 4, words[k + 4], y0, y1, y2, y3);
-        k += 1;
+    for k in 0..n {
+        words[k] = place(stored, k + 4, words[k + 4], y);
     }
 }
 
-// The first w registers, raised.
-pub fn raise(offsets: &[u64; 265], w: usize, registers: &[u64], words: &mut [u64; 260])
-    requires { (w ≤ 256) × ((256 ≤ length registers.now) × (length words.old ≡ 260)) }
-    ensures words_len { length words.new ≡ 260 }
-    ensures raised { Raised w offsets.now 0 registers.now words.new }
+// The registers in use, raised.
+pub fn raise(tables: &Tables<'_>, registers: &[u64; 256], line: &mut Line)
+    ensures bias { line.new.bias ≡ line.old.bias }
+    ensures raised { Raised tables.now.width tables.now.offsets.now line.new.bias registers.now line.new.words }
 {
-    let mut k: usize = 0;
-    while k < w {
-        words[k] = raised(registers[k], offsets[k + 5], 0);
-        k += 1;
+    for k in 0..tables.width {
+        line.words[k] = raised(registers[k], tables.offsets[k + 5], line.bias);
     }
 }
 
-// The first w registers from words that were raised.
-pub fn lower(offsets: &[u64; 265], w: usize, bias: u64, words: &[u64; 260], registers: &mut [u64])
-    requires { (w ≤ 256) × (256 ≤ length registers.old) }
-    ensures { (r : List ℕ) → Words r → Raised w offsets.now bias r words.now
-        → registers.new ≡ front (held r) registers.old w }
+// The registers in use, from words that were raised.
+pub fn lower(tables: &Tables<'_>, line: &Line, registers: &mut [u64; 256])
+    ensures { (r : List ℕ) → Words r → Raised tables.now.width tables.now.offsets.now line.now.bias r line.now.words
+        → registers.new ≡ front (held r) registers.old tables.now.width }
 {
-    let mut k: usize = 0;
-    while k < w {
-        registers[k] = lowered(words[k], offsets[k + 5], bias);
-        k += 1;
+    for k in 0..tables.width {
+        registers[k] = lowered(line.words[k], tables.offsets[k + 5], line.bias);
     }
 }

@@ -1,31 +1,34 @@
 // Running samples through a network.
 #![tactic(auto)]
 
-ghost use Rattle.network_check.specs.Checked.{answer_of};
+ghost use Rattle.refusal.specs.Answer.{answer_of};
 ghost use Rattle.run_calls.specs.Run.{Ran};
 
-use network_check::Checked;
+use network::NetworkTables;
+use refusal::Refusal;
 
 // The outputs for the samples and the registers after them, where nothing is turned down. The
 // network is checked and its coefficients are worked out once.
 pub fn run(
-    rows: &[u32],
-    row_count: usize,
-    taps: &[u32],
-    tap_count: usize,
+    network: NetworkTables,
     samples: &[i16],
     registers: &mut [u64],
     outputs: &mut [i64],
-) -> Checked
-    ensures { Ran rows.now row_count taps.now tap_count samples.now registers.old outputs.old
+) -> Result<(), Refusal>
+    ensures { Ran network.entry.rows.now network.entry.row_count network.entry.taps.now network.entry.tap_count
+        samples.now registers.old outputs.old
         (answer_of result) registers.new outputs.new }
 {
-    let mut h = [0i32; 256];
-    let short = (registers.len() < 256) | (outputs.len() < samples.len());
-    let answer = network_check::examine(rows, row_count, taps, tap_count, short, &mut h);
-    if network_check::passes(answer) {
-        run_kernel::feed(&h, samples, registers, outputs);
-        return answer;
+    network_check::tables_fit(network)?;
+    let short = outputs.len() < samples.len();
+    if short {
+        return Err(Refusal::ShortTable);
     }
-    answer
+    let Some(first) = registers.first_chunk_mut::<256>() else {
+        return Err(Refusal::ShortTable);
+    };
+    let mut h = [0; 256];
+    network_check::keeps_rules(network, &mut h)?;
+    run_kernel::feed(&h, samples, first, outputs);
+    Ok(())
 }

@@ -1,37 +1,41 @@
 -- The outputs and registers of four samples. Assumes nothing.
-use mathlib.Core.Path.{◌≡◌, sym, ap₂, ◌∙◌}
-use mathlib.Core.List.{List, [], ◌∷◌}
-use Prim.Native.Nat.{ℕ, suc, ◌+◌}
-use native.Mathlib.Omega.{arith}
-use lib.IntN.{ℤ}
-use lib.ListN.{get_or, set}
-use lib.Seq.{sets}
-use mir.Syntax.{w64}
-use mir.Val.{to_z}
-use Rattle.run_convolution.specs.Running.{sum_at, next, outputs_of}
-use Rattle.run_convolution.specs.Sums.{held}
-use Rattle.run_products.specs.Inner.{raised_by}
-use Rattle.run_tables.specs.Inner.{Raised, after4}
+use Rattle.std.proofs.Common.{◌≡◌, ◌<◌, ◌^◌, lit<, ℕ, zero, suc, List, [], ◌∷◌, length, get_or, slice_set, ℤ, pos, w64, to_z, refl, arith}
+use Rattle.run_convolution.specs.Running.{sum_at, next, registers_of, outputs_of}
+use Rattle.run_tables.specs.Inner.{after4}
 
-pub four_outputs : (h : List ℤ) (r : List ℕ) (x0 x1 x2 x3 : ℤ) (outs : List ℤ) (i : ℕ) (o0 o1 o2 o3 : ℤ) → o0 ≡ to_z w64 (sum_at h x0 r 0)
-    → o1 ≡ to_z w64 (sum_at h x1 (next h x0 r) 0) → o2 ≡ to_z w64 (sum_at h x2 (next h x1 (next h x0 r)) 0)
-    → o3 ≡ to_z w64 (sum_at h x3 (next h x2 (next h x1 (next h x0 r))) 0)
-    → set (set (set (set outs i o0) (i + 1) o1) (i + 2) o2) (i + 3) o3 ≡ sets outs i (outputs_of h r (x0 ∷ x1 ∷ x2 ∷ x3 ∷ []))
-unfolding outputs_of
-four_outputs h r x0 x1 x2 x3 outs i o0 o1 o2 o3 e0 e1 e2 e3 =
-    let q1 : i + 1 ≡ suc i = omega arith in
-    let q2 : i + 2 ≡ suc (suc i) = omega arith in
-    let q3 : i + 3 ≡ suc (suc (suc i)) = omega arith in
-    rw (q1, q2, q3, e0, e1, e2, e3)
+module _ (h : List ℤ) (r : List ℕ) (x0 x1 x2 x3 : ℤ) where
+  pub four_registers : after4 h x0 x1 x2 x3 r ≡ registers_of h r (x0 ∷ x1 ∷ x2 ∷ x3 ∷ [])
+  unfolding registers_of
+  four_registers = refl
 
--- ---- the same samples by other names
+  pub four_outputs : (o0 o1 o2 o3 : ℤ) → o0 ≡ to_z w64 (sum_at h x0 r 0) → o1 ≡ to_z w64 (sum_at h x1 (next h x0 r) 0)
+      → o2 ≡ to_z w64 (sum_at h x2 (next h x1 (next h x0 r)) 0) → o3 ≡ to_z w64 (sum_at h x3 (next h x2 (next h x1 (next h x0 r))) 0)
+      → o0 ∷ o1 ∷ o2 ∷ o3 ∷ [] ≡ outputs_of h r (x0 ∷ x1 ∷ x2 ∷ x3 ∷ [])
+  unfolding outputs_of
+  four_outputs o0 o1 o2 o3 e0 e1 e2 e3 = rw (e0, e1, e2, e3)
 
-module _ (h : List ℤ) (r : List ℕ) (x0 x1 x2 x3 y0 y1 y2 y3 : ℤ) (e0 : y0 ≡ x0) (e1 : y1 ≡ x1) (e2 : y2 ≡ x2) (e3 : y3 ≡ x3) where
-  same_registers : after4 h y0 y1 y2 y3 r ≡ after4 h x0 x1 x2 x3 r
-  same_registers = rw (e0, e1, e2, e3)
+-- a list of four is its items
+pub items : (xs : List ℤ) → length xs ≡ 4 → get_or xs 0 (pos 0) ∷ get_or xs 1 (pos 0) ∷ get_or xs 2 (pos 0) ∷ get_or xs 3 (pos 0) ∷ [] ≡ xs
+items [] l = absurd (omega (arith, l))
+items (a ∷ []) l = absurd (omega (arith, l))
+items (a ∷ b ∷ []) l = absurd (omega (arith, l))
+items (a ∷ b ∷ c ∷ []) l = absurd (omega (arith, l))
+items (a ∷ b ∷ c ∷ d ∷ []) l = refl
+items (a ∷ b ∷ c ∷ d ∷ e ∷ xs) l = absurd (omega (arith, l))
 
-  pub same_outputs : (outs : List ℤ) (i : ℕ) → sets outs i (outputs_of h r (y0 ∷ y1 ∷ y2 ∷ y3 ∷ [])) ≡ sets outs i (outputs_of h r (x0 ∷ x1 ∷ x2 ∷ x3 ∷ []))
-  same_outputs outs i = rw (e0, e1, e2, e3)
+-- a list of four that is written over
+pub written : (outs : List ℤ) (a b c d : ℤ) → length outs ≡ 4 → slice_set (slice_set (slice_set (slice_set outs 0 a) 1 b) 2 c) 3 d ≡ a ∷ b ∷ c ∷ d ∷ []
+written [] a b c d l = absurd (omega (arith, l))
+written (p ∷ []) a b c d l = absurd (omega (arith, l))
+written (p ∷ q ∷ []) a b c d l = absurd (omega (arith, l))
+written (p ∷ q ∷ r ∷ []) a b c d l = absurd (omega (arith, l))
+written (p ∷ q ∷ r ∷ s ∷ []) a b c d l = refl
+written (p ∷ q ∷ r ∷ s ∷ t ∷ xs) a b c d l = absurd (omega (arith, l))
 
-  pub same_raised : {w g n : ℕ} {v words : List ℕ} → n ≡ g → Raised w v g (after4 h y0 y1 y2 y3 r) words → Raised w v n (after4 h x0 x1 x2 x3 r) words
-  same_raised {v = v} e f = record { at = λ k l. f.at k l ∙ ap₂ (λ s m. raised_by (get_or v (k + 5) 0) m (held s k)) same_registers (sym e) }
+-- four numbers of 16 bits
+pub four_low : (a b c d : ℕ) → a < 2 ^ 16 → b < 2 ^ 16 → c < 2 ^ 16 → d < 2 ^ 16 → (k : ℕ) → get_or (a ∷ b ∷ c ∷ d ∷ []) k 0 < 2 ^ 16
+four_low a b c d p q s t zero = p
+four_low a b c d p q s t (suc zero) = q
+four_low a b c d p q s t (suc (suc zero)) = s
+four_low a b c d p q s t (suc (suc (suc zero))) = t
+four_low a b c d p q s t (suc (suc (suc (suc k)))) = lit< tt

@@ -1,5 +1,5 @@
 -- Four products in offset binary at once: a sum with an offset and a bias becomes the sum with the products, its offset and its bias. Assumes nothing.
-use Rattle.std.proofs.Common.{◌≡◌, ℕ, ◌+◌, ◌*◌, ◌%◌, ◌^◌, ◌<◌, ℤ, pos, ◌+ℤ◌, ◌*ℤ◌, sym, ap, ◌∙◌, arith}
+use Rattle.std.proofs.Common.{◌≡◌, List, [], ◌∷◌, get_or, ℕ, ◌+◌, ◌*◌, ◌%◌, ◌^◌, ◌<◌, ℤ, pos, ◌+ℤ◌, ◌*ℤ◌, sym, ap, ◌∙◌, arith}
 use lib.IntN.{sub_ℕ}
 use Rattle.run_convolution.proofs.Words.{wrapped_lt}
 use Rattle.run_products.specs.Inner.{coefficient_in, sample_in, plus, four_sums, four_products, offset_of, offset_below_of, bias_after_of, raised_by}
@@ -96,26 +96,19 @@ module _ (v a0 a1 a2 a3 y0 y1 y2 y3 : ℕ) (h0 : a0 < 2 ^ 32) (h1 : a1 < 2 ^ 32)
 mod_lt32 : (c : ℕ) → c % 2 ^ 32 < 2 ^ 32
 mod_lt32 c = omega arith
 
--- what `four` works out, whatever names its products have
-pub four_is : (n c0 c1 c2 c3 y0 y1 y2 y3 p0 p1 p2 p3 : ℕ)
-    → p0 ≡ (c0 % 2 ^ 32) * y0 → p1 ≡ (c1 % 2 ^ 32) * y1 → p2 ≡ (c2 % 2 ^ 32) * y2 → p3 ≡ (c3 % 2 ^ 32) * y3
-    → (n + (p0 + p1 + p2 + p3)) % 2 ^ 64 ≡ four_products n c0 c1 c2 c3 y0 y1 y2 y3
-unfolding four_products
-four_is n c0 c1 c2 c3 y0 y1 y2 y3 p0 p1 p2 p3 e0 e1 e2 e3 = rw (e0, e1, e2, e3)
-
 -- what `four` makes of a raised sum is the sum with four products, raised further
-pub four_raised : (n v g c0 c1 c2 c3 y0 y1 y2 y3 : ℕ) → y0 < 2 ^ 16 → y1 < 2 ^ 16 → y2 < 2 ^ 16 → y3 < 2 ^ 16
-    → four_products (raised_by v g n) c0 c1 c2 c3 y0 y1 y2 y3
-    ≡ raised_by (offset_below_of (offset_below_of (offset_below_of (offset_below_of v c0) c1) c2) c3) (bias_after_of g y0 y1 y2 y3)
-    (four_sums n (coefficient_in c0) (coefficient_in c1) (coefficient_in c2) (coefficient_in c3) (sample_in y0) (sample_in y1) (sample_in y2) (sample_in y3))
+pub four_raised : (n v g c0 c1 c2 c3 : ℕ) (y : List ℕ) → ((k : ℕ) → get_or y k 0 < 2 ^ 16)
+    → four_products (raised_by v g n) (c0 ∷ c1 ∷ c2 ∷ c3 ∷ []) y
+    ≡ raised_by (offset_below_of (offset_below_of (offset_below_of (offset_below_of v c0) c1) c2) c3) (bias_after_of g y)
+    (four_sums n (coefficient_in c0) (coefficient_in c1) (coefficient_in c2) (coefficient_in c3) (sample_in (get_or y 0 0)) (sample_in (get_or y 1 0)) (sample_in (get_or y 2 0)) (sample_in (get_or y 3 0)))
 unfolding four_products four_sums
-four_raised n v g c0 c1 c2 c3 y0 y1 y2 y3 g0 g1 g2 g3 =
-    total n (c0 % 2 ^ 32) (c1 % 2 ^ 32) (c2 % 2 ^ 32) (c3 % 2 ^ 32) y0 y1 y2 y3 (mod_lt32 c0) (mod_lt32 c1) (mod_lt32 c2) (mod_lt32 c3) g0 g1 g2 g3 g v
-    ∙ ap (λ l. (fours + (l + bias_after_of g y0 y1 y2 y3)) % 2 ^ 64)
+four_raised n v g c0 c1 c2 c3 y low =
+    total n (c0 % 2 ^ 32) (c1 % 2 ^ 32) (c2 % 2 ^ 32) (c3 % 2 ^ 32) (get_or y 0 0) (get_or y 1 0) (get_or y 2 0) (get_or y 3 0) (mod_lt32 c0) (mod_lt32 c1) (mod_lt32 c2) (mod_lt32 c3) (low 0) (low 1) (low 2) (low 3) g v
+    ∙ ap (λ l. (fours + (l + bias_after_of g y)) % 2 ^ 64)
     (sym (offsets_four v (offset_of (c0 % 2 ^ 32)) (offset_of (c1 % 2 ^ 32)) (offset_of (c2 % 2 ^ 32)) (offset_of (c3 % 2 ^ 32))))
   where
     fours : ℕ
-    fours = plus (plus (plus (plus n (coefficient_in c0) (sample_in y0)) (coefficient_in c1) (sample_in y1)) (coefficient_in c2) (sample_in y2)) (coefficient_in c3) (sample_in y3)
+    fours = plus (plus (plus (plus n (coefficient_in c0) (sample_in (get_or y 0 0))) (coefficient_in c1) (sample_in (get_or y 1 0))) (coefficient_in c2) (sample_in (get_or y 2 0))) (coefficient_in c3) (sample_in (get_or y 3 0))
 
 -- four sums are a word
 pub four_word : (n : ℕ) (a b c d x0 x1 x2 x3 : ℤ) → four_sums n a b c d x0 x1 x2 x3 < 2 ^ 64

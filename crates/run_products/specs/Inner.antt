@@ -1,5 +1,5 @@
 -- Offset binary and four sums at a time, for the contracts of inner functions; document 01 does not speak of them. Definitions only.
-use Rattle.std.specs.Prelude.{ℕ, ◌+◌, ◌-◌, ◌*◌, ◌%◌, ◌^◌, ℤ, pos, ◌+ℤ◌, ◌-ℤ◌, ◌*ℤ◌}
+use Rattle.std.specs.Prelude.{List, ℕ, ◌+◌, ◌-◌, ◌*◌, ◌%◌, ◌^◌, ℤ, pos, ◌+ℤ◌, ◌-ℤ◌, ◌*ℤ◌, get_or}
 use Rattle.run_convolution.specs.Words.{wrapped}
 
 -- the coefficient that is stored with 2^31 added
@@ -19,8 +19,9 @@ unfoldable pub four_sums : ℕ → ℤ → ℤ → ℤ → ℤ → ℤ → ℤ �
 four_sums n a b c d x0 x1 x2 x3 = plus (plus (plus (plus n a x0) b x1) c x2) d x3
 
 -- a register and four products of stored numbers, modulo 2^64
-unfoldable pub four_products : (n c0 c1 c2 c3 y0 y1 y2 y3 : ℕ) → ℕ
-four_products n c0 c1 c2 c3 y0 y1 y2 y3 = (n + ((c0 % 2 ^ 32) * y0 + (c1 % 2 ^ 32) * y1 + (c2 % 2 ^ 32) * y2 + (c3 % 2 ^ 32) * y3)) % 2 ^ 64
+unfoldable pub four_products : ℕ → List ℕ → List ℕ → ℕ
+four_products n c y =
+    (n + ((get_or c 0 0 % 2 ^ 32) * get_or y 0 0 + (get_or c 1 0 % 2 ^ 32) * get_or y 1 0 + (get_or c 2 0 % 2 ^ 32) * get_or y 2 0 + (get_or c 3 0 % 2 ^ 32) * get_or y 3 0)) % 2 ^ 64
 
 -- 2^15 times the coefficient that is stored as a, that is 2^15 * a - 2^46, modulo 2^64: what the 2^15 in a sample adds to its product
 abbrev pub offset_of : ℕ → ℕ
@@ -31,8 +32,8 @@ abbrev pub offset_below_of : ℕ → ℕ → ℕ
 offset_below_of v c = (v + offset_of (c % 2 ^ 32)) % 2 ^ 64
 
 -- the bias g and 2^31 times four stored samples: what the 2^31 in the coefficients adds to their products
-abbrev pub bias_after_of : ℕ → ℕ → ℕ → ℕ → ℕ → ℕ
-bias_after_of g y0 y1 y2 y3 = (g + 2 ^ 31 * (y0 + y1 + y2 + y3)) % 2 ^ 64
+abbrev pub bias_after_of : ℕ → List ℕ → ℕ
+bias_after_of g y = (g + 2 ^ 31 * (get_or y 0 0 + get_or y 1 0 + get_or y 2 0 + get_or y 3 0)) % 2 ^ 64
 
 -- a sum with an offset and a bias added, modulo 2^64
 abbrev pub raised_by : ℕ → ℕ → ℕ → ℕ

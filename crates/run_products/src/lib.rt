@@ -6,21 +6,8 @@
 #![tactic(auto)]
 
 ghost use Rattle.std.specs.Prelude.{◌≡◌, ◌+◌, ◌*◌, ◌%◌, ◌^◌, ◌≤◌, pos, ◌+ℤ◌, ◌*ℤ◌};
-ghost use Rattle.std.specs.Int.{w64};
-ghost use Rattle.std.proofs.Common.{to_z};
 ghost use Rattle.run_convolution.specs.Words.{wrapped};
 ghost use Rattle.run_products.specs.Inner.{coefficient_in, sample_in, four_products, offset_below_of, bias_after_of, raised_by};
-
-// A word read as signed.
-pub fn signed(word: u64) -> i64
-    ensures { result ≡ to_z w64 word }
-{
-    if word < 0x8000_0000_0000_0000 {
-        word as i64
-    } else {
-        !((0xffff_ffff_ffff_ffff - word) as i64)
-    }
-}
 
 fn product(c: i32, x: i16) -> i64
     ensures { result ≡ c *ℤ x }
@@ -32,57 +19,42 @@ fn product(c: i32, x: i16) -> i64
 pub fn sum(register: u64, c: i32, x: i16) -> u64
     ensures { result ≡ wrapped (pos register +ℤ c *ℤ x) }
 {
-    std::num::wrapping_add_u64(register, word::pattern_64(product(c, x)))
+    register.wrapping_add(product(c, x).cast_unsigned())
 }
 
 // A coefficient with 2^31 added.
 pub fn offset_coefficient(n: i32) -> u64
     ensures { coefficient_in result ≡ n }
 {
-    if n < 0 {
-        0x7fff_ffff - (!n) as u64
-    } else {
-        n as u64 + 0x8000_0000
-    }
+    n.cast_unsigned().wrapping_add(0x8000_0000) as u64
 }
 
 // A sample with 2^15 added.
 pub fn offset_sample(x: i16) -> u16
     ensures { sample_in result ≡ x }
 {
-    if x < 0 {
-        0x7fff - (!x) as u16
-    } else {
-        x as u16 + 0x8000
-    }
+    x.cast_unsigned().wrapping_add(0x8000)
 }
 
 // One multiplication without a sign.
 fn part(c: u64, y: u16) -> u64
-    ensures { (result ≡ (c % 2 ^ 32) * y) × (result ≤ 2 ^ 48) }
+    ensures product { result ≡ (c % 2 ^ 32) * y }
+    ensures bound { result ≤ 2 ^ 48 }
 {
     (c % 0x1_0000_0000) * (y as u64)
 }
 
 // A register and four products of stored numbers.
-pub fn four(
-    register: u64,
-    c0: u64,
-    c1: u64,
-    c2: u64,
-    c3: u64,
-    y0: u16,
-    y1: u16,
-    y2: u16,
-    y3: u16,
-) -> u64
-    ensures { result ≡ four_products register c0 c1 c2 c3 y0 y1 y2 y3 }
+// Stays: four products by name, as `four_products` has them: a loop over them is no plainer and no faster.
+#[tactic(auto, unfolding(crate::specs::Inner::four_products))]
+pub fn four(register: u64, c: [u64; 4], y: [u16; 4]) -> u64
+    ensures { result ≡ four_products register c y }
 {
-    let p0 = part(c0, y0);
-    let p1 = part(c1, y1);
-    let p2 = part(c2, y2);
-    let p3 = part(c3, y3);
-    std::num::wrapping_add_u64(register, p0 + p1 + p2 + p3)
+    let p0 = part(c[0], y[0]);
+    let p1 = part(c[1], y[1]);
+    let p2 = part(c[2], y[2]);
+    let p3 = part(c[3], y[3]);
+    register.wrapping_add(p0 + p1 + p2 + p3)
 }
 
 // 2^64 - 2^46, which is -(2^15 · 2^31) modulo 2^64. A coefficient is stored with 2^31 added, so 2^15
@@ -93,30 +65,27 @@ const LESS_2_TO_46: u64 = 0xffff_c000_0000_0000;
 pub fn offset_below(offset: u64, c: u64) -> u64
     ensures { result ≡ offset_below_of offset c }
 {
-    let by = std::num::wrapping_add_u64(LESS_2_TO_46, 0x8000 * (c % 0x1_0000_0000));
-    std::num::wrapping_add_u64(offset, by)
+    let by = LESS_2_TO_46.wrapping_add(0x8000 * (c % 0x1_0000_0000));
+    offset.wrapping_add(by)
 }
 
 // The bias four samples on.
-pub fn bias_after(bias: u64, y0: u16, y1: u16, y2: u16, y3: u16) -> u64
-    ensures { result ≡ bias_after_of bias y0 y1 y2 y3 }
+pub fn bias_after(bias: u64, y: [u16; 4]) -> u64
+    ensures { result ≡ bias_after_of bias y }
 {
-    std::num::wrapping_add_u64(
-        bias,
-        0x8000_0000
-            * (word::wide_16(y0) + word::wide_16(y1) + word::wide_16(y2) + word::wide_16(y3)),
-    )
+    let sum = (y[0] as u64) + (y[1] as u64) + (y[2] as u64) + (y[3] as u64);
+    bias.wrapping_add(0x8000_0000 * sum)
 }
 
 pub fn raised(n: u64, offset: u64, bias: u64) -> u64
     ensures { result ≡ raised_by offset bias n }
 {
-    std::num::wrapping_add_u64(n, std::num::wrapping_add_u64(offset, bias))
+    n.wrapping_add(offset.wrapping_add(bias))
 }
 
 // The word that was raised.
 pub fn lowered(n: u64, offset: u64, bias: u64) -> u64
     ensures { raised_by offset bias result ≡ n }
 {
-    std::num::wrapping_sub_u64(n, std::num::wrapping_add_u64(offset, bias))
+    n.wrapping_sub(offset.wrapping_add(bias))
 }

@@ -1,20 +1,18 @@
 -- Filling a table of offset words: the coefficients so far, zeros around them. Assumes nothing.
 use mathlib.Core.Path.{◌≡◌, refl, sym, ap, ◌∙◌, subst}
-use mathlib.Core.Logic.{◌≢◌, ⊎_elim}
 use mathlib.Core.Bool.{Bool, true, false}
 use mathlib.Core.List.{List}
 use Prim.Native.Nat.{ℕ, ◌+◌, ◌-◌, ◌<◌, ◌≤◌, ◌^◌}
-use native.Mathlib.Nat.{eq-or-lt_of_le}
 use native.Mathlib.Omega.{arith}
 use borrow.Author.Tests.{ltb-true, ltb-false}
 use lib.Dec.{ltb}
 use lib.IntN.{ℤ, pos}
-use lib.ListN.{length, get_or, set, replicate, length-set, get_or-replicate, length-replicate}
-use lib.Seq.{get_or-set_same, get_or-set_other, ext_get_or}
+use lib.ListN.{length, get_or, replicate, get_or-replicate, length-replicate}
+use lib.Seq.{ext_get_or}
 use Rattle.sequence.specs.UpTo.{up_to}
 use Rattle.sequence.proofs.UpTo.{length_up_to, get_d_up_to}
 use Rattle.run_products.specs.Inner.{coefficient_in}
-use Rattle.run_tables.specs.Inner.{coefficients_in, Padded, StoredZeroFrom}
+use Rattle.run_tables.specs.Inner.{coefficients_in, StoredZeroFrom}
 
 -- c holds the first k coefficients, and 0 at every other place
 pub record Filled (h : List ℤ) (c : List ℕ) (k : ℕ) : Type 0 where
@@ -32,35 +30,13 @@ filled_start h c e =
       rest = λ j a b. ap (λ q. get_or q (j + 4) 0) e ∙ get_or-replicate 264 (j + 4) (2 ^ 31) 0 (omega arith);
     }
 
-module _ (h : List ℤ) (c : List ℕ) (k v : ℕ) (l : k < 256) (f : Filled h c k) (e : coefficient_in v ≡ get_or h k (pos 0)) where
-  new : coefficient_in (get_or (set c (k + 4) v) (k + 4) 0) ≡ get_or h k (pos 0)
-  new = ap coefficient_in (get_or-set_same c (k + 4) v 0 (omega (arith, f.size))) ∙ e
-
-  other : (i : ℕ) → i ≢ k + 4 → get_or (set c (k + 4) v) i 0 ≡ get_or c i 0
-  other i n = get_or-set_other c (k + 4) i v 0 n
-
-  before : (j : ℕ) → j < k → coefficient_in (get_or (set c (k + 4) v) (j + 4) 0) ≡ get_or h j (pos 0)
-  before j u = ap coefficient_in (other (j + 4) (λ p. omega (arith, p))) ∙ f.done j u
-
-  pub filled_next : Filled h (set c (k + 4) v) (k + 1)
-  filled_next =
-      record {
-        size = length-set c (k + 4) v ∙ f.size;
-        done =
-            λ j m. ⊎_elim (λ p. subst (λ i. coefficient_in (get_or (set c (k + 4) v) (i + 4) 0) ≡ get_or h i (pos 0)) (sym p) new) (before j)
-            (eq-or-lt_of_le {n = j} {m = k} (omega arith));
-        low = λ j m. other j (λ p. omega (arith, p)) ∙ f.low j m;
-        rest = λ j a b. other (j + 4) (λ p. omega (arith, p)) ∙ f.rest j (omega arith) b;
-      }
+pub filled_zero_from : (h : List ℤ) (c : List ℕ) (w : ℕ) → Filled h c w → StoredZeroFrom w c
+filled_zero_from h c w f j l m =
+    let e : j - 4 + 4 ≡ j = omega arith in
+    subst (λ i. get_or c i 0 ≡ 2 ^ 31) e (f.rest (j - 4) (omega arith) (omega arith))
 
 -- the coefficients that are not filled in are 0
 module _ (h : List ℤ) (c : List ℕ) (w : ℕ) (b : w ≤ 256) (n : length h ≡ 256) (q : (k : ℕ) → w ≤ k → get_or h k (pos 0) ≡ pos 0) (f : Filled h c w) where
-  pub filled_padded : Padded c
-  filled_padded = record { low = λ k l. ap coefficient_in (f.low k l); high = λ k a m. ap coefficient_in (f.rest k (omega arith) m) }
-
-  pub filled_zero_from : StoredZeroFrom w c
-  filled_zero_from j l m = let e : j - 4 + 4 ≡ j = omega arith in subst (λ i. get_or c i 0 ≡ 2 ^ 31) e (f.rest (j - 4) (omega arith) (omega arith))
-
   at_by : (k : ℕ) → k < 256 → (t : Bool) → ltb k w ≡ t → coefficient_in (get_or c (k + 4) 0) ≡ get_or h k (pos 0)
   at_by k l true e = f.done k (ltb-true k w e)
   at_by k l false e =

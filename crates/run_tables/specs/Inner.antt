@@ -35,10 +35,3 @@ after4 h x0 x1 x2 x3 r = next h x3 (next h x2 (next h x1 (next h x0 r)))
 -- from w on, registers and coefficients are 0
 abbrev pub ZeroFrom : ℕ → List ℤ → List ℕ → Type 0
 ZeroFrom w h r = (k : ℕ) → w ≤ k → (held r k ≡ 0) × (get_or h k (pos 0) ≡ pos 0)
-
--- the registers alone, and the coefficients alone
-abbrev pub RegistersZero : List ℕ → ℕ → Type 0
-RegistersZero r w = (k : ℕ) → w ≤ k → held r k ≡ 0
-
-abbrev pub CoefficientsZero : List ℤ → ℕ → Type 0
-CoefficientsZero h w = (k : ℕ) → w ≤ k → get_or h k (pos 0) ≡ pos 0

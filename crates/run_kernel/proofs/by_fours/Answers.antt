@@ -1,24 +1,14 @@
 -- `run_kernel::by_fours` meets its contract. The words stand for the registers, raised, before `fours` and after it, and `lower` finds the registers that they stand for (`lowered_to`). Assumes nothing.
-use mathlib.Core.Path.{sym, subst}
-use native.Mathlib.Omega.{arith}
-use borrow.Author.Rules.{rules}
+use Rattle.std.proofs.Common.{sym, subst, arith}
 use Rattle.run_tables.specs.Inner.{ZeroFrom}
 use Rattle.run_kernel.proofs.Passes.{passed_same, lowered_to, passed_zero_from, passed_registers, passed_outputs}
 use Rattle.run_kernel.proofs.by_fours.Goals as goal
 
-pub fill_coefficients-requires : goal.fill_coefficients-requires
-fill_coefficients-requires c =
-    ((c.requires.0.0, c.requires.1.1.0), (search rules, λ k l. (c.requires.1.1.1 k l).1))
-
-pub fours-bias-requires : goal.fours-bias-requires
-fours-bias-requires c =
-    ((c.requires.1.1.0, c.raise.ensures.words_len), (c.requires.0.1.1, (c.fill_coefficients.ensures.0, c.fill_offsets.ensures)))
-
 pub returns : goal.returns
 returns c =
-    let args = c.args in
-    let r = args.registers.now in
-    let zero_from = subst (λ g. ZeroFrom args.w g r) (sym c.fill_coefficients.ensures.1.0) c.requires.1.1.1 in
-    let p = passed_same c.fill_coefficients.ensures.1.0 (c.fours-bias.ensures r c.requires.0.1.0 zero_from c.raise.ensures.raised) in
-    let e = lowered_to c.requires.0.0 c.requires.0.1.0 c.requires.1.1.0 (omega (arith, c.requires.1.0)) c.requires.1.1.1 p _ c.lower.ensures in
-    record { zero_from = passed_zero_from p e; registers_after = passed_registers p e; outputs_after = passed_outputs p e }
+    let r = c.args.registers.now in
+    let e = c.fill_coefficients.ensures.coefficients in
+    let zero_from = subst (λ g. ZeroFrom c.args.w g r) (sym e) c.requires.zero_from in
+    let p = passed_same e (c.fours.ensures r (omega arith) zero_from c.raise.ensures.raised) in
+    let s = lowered_to (omega arith) (omega arith) c.requires.width_to (omega arith) c.requires.zero_from p _ c.lower.ensures in
+    record { zero_from = passed_zero_from p s; registers_after = passed_registers p s; outputs_after = passed_outputs p s }

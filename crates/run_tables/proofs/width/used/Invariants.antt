@@ -1,10 +1,6 @@
--- `run_tables::width::used` meets its contract. The invariant: from w on, registers and coefficients are 0. Where both are 0 at w - 1 too, w falls by one. The measure is w. Assumes nothing.
-use Prim.Native.Nat.{◌≤◌}
+-- From k on, registers and coefficients are 0.
 use Rattle.run_tables.specs.Inner.{ZeroFrom}
 use Rattle.run_tables.proofs.width.used.Given as goal
 
-abbrev pub invariant-loop-w : goal.invariant-loop-w
-invariant-loop-w l = (l.w ≤ 256) × (ZeroFrom l.w l.h l.registers)
-
-abbrev pub decreases-loop-w : goal.decreases-loop-w
-decreases-loop-w l = l.w
+abbrev pub invariant-loop-k : goal.invariant-loop-k
+invariant-loop-k l = ZeroFrom l.k l.h l.registers
