@@ -1,14 +1,17 @@
 -- The rows of a stage, filled two by two. Assumes nothing.
 use mathlib.Core.Path.{◌≡◌, sym, ap, ap₂, ◌∙◌}
 use mathlib.Core.Bool.{Bool, true, false, cond}
-use mathlib.Core.List.{List}
-use Prim.Native.Nat.{ℕ, ◌+◌, ◌*◌, ◌<◌, ◌/◌, ◌%◌, ◌^◌}
+use mathlib.Core.List.{List, ◌++◌}
+use Prim.Native.Nat.{ℕ, ◌+◌, ◌*◌, ◌<◌, ◌≤◌, ◌/◌, ◌%◌, ◌^◌}
 use native.Mathlib.Omega.{arith}
 use borrow.Author.Tests.{eq-eqb, ne_eqb}
 use lib.Bits.{bit_and, bit_or, or_lt, and_le_r}
 use lib.Dec.{eqb}
-use lib.ListN.{length, get_or, set}
+use lib.ListN.{length, get_or, set, take}
+use Rattle.sequence.specs.UpTo.{up_to}
 use Rattle.sequence.specs.Inner.{front}
+use Rattle.sequence.proofs.UpTo.{length_up_to, get_d_up_to, up_to_take, up_to_same}
+use Rattle.std.proofs.Common.{drop_of_length-le, append-nil}
 use Rattle.sequence.proofs.Front.{front_next}
 use Rattle.plane_blocks.specs.Inner.{mixed}
 
@@ -49,6 +52,19 @@ module _ (j m : ℕ) (from : List ℕ) where
       ∙ ap (λ (t : List ℕ). set t (2 * q + 1) (f (2 * q + 1))) (front_next f old (2 * q) 0 (omega arith))
       ∙ front_next f old (2 * q + 1) 0 h
       ∙ ap (front f old) w
+
+-- all places are filled
+pub front_all : (f : ℕ → ℕ) (old : List ℕ) (n : ℕ) → length old ≡ n → front f old n ≡ up_to n f
+unfolding front
+front_all f old n h =
+    let l : length old ≤ n = omega arith in
+    ap (λ (r : List ℕ). up_to n f ++ r) (drop_of_length-le old l) ∙ append-nil (up_to n f)
+
+-- the first of them
+pub take_front : (f : ℕ → ℕ) (all : List ℕ) (n m : ℕ) → n ≤ m → all ≡ up_to m f → take n all ≡ up_to n f
+take_front f all n m h e =
+    sym (up_to_take all 0 n (omega (arith, ap length e, length_up_to m f)))
+    ∙ up_to_same (λ (k : ℕ). get_or all k 0) f n (λ i l. ap (λ (t : List ℕ). get_or t i 0) e ∙ get_d_up_to m f 0 i (omega arith))
 
 -- a row fits where the mask does
 pub mixed_small : (j m : ℕ) (from : List ℕ) (r : ℕ) → m < 2 ^ 32 → mixed j m from r < 2 ^ 32

@@ -1,16 +1,13 @@
 -- Five stages transpose 32 rows. Assumes nothing.
 use mathlib.Core.Path.{◌≡◌, refl, sym, ap, ap₂, ◌∙◌}
 use mathlib.Core.Bool.{Bool, true, ◌&&◌}
-use mathlib.Core.List.{List, ◌++◌}
+use mathlib.Core.List.{List}
 use Prim.Native.Nat.{ℕ, ◌<◌}
 use borrow.Author.Tests.{eqb-true}
 use lib.Dec.{eqb, lit<}
-use lib.ListN.{get_or, drop}
-use lib.Seq.{drop_at}
+use lib.ListN.{get_or}
 use Rattle.sequence.specs.UpTo.{up_to}
-use Rattle.sequence.specs.Inner.{front}
-use Rattle.sequence.proofs.UpTo.{length_up_to, up_to_same}
-use Rattle.sequence.proofs.Front.{front_done}
+use Rattle.sequence.proofs.UpTo.{get_d_up_to, up_to_same}
 use Rattle.plane_masks.specs.Binary.{bit_at}
 use Rattle.plane_masks.proofs.Binary.{binary_ext, binary_whole}
 use Rattle.plane_blocks.specs.Inner.{mixed, column, transposed}
@@ -29,14 +26,14 @@ after j at r b = at (row_of j r b) (place_of j r b)
 pub leads_start : (f : List ℕ) → Leads f f (λ (r b : ℕ). r) (λ (r b : ℕ). b)
 leads_start f = record { same = λ (r b : ℕ) h l. refl }
 
-pub leads_on : (j m : ℕ) (f g k old : List ℕ) (row place : ℕ → ℕ → ℕ) → all_below 32 (apart j m) ≡ true → Leads f g row place → k ≡ front (mixed j m g) old 32
+pub leads_on : (j m : ℕ) (f g k : List ℕ) (row place : ℕ → ℕ → ℕ) → all_below 32 (apart j m) ≡ true → Leads f g row place → k ≡ up_to 32 (mixed j m g)
     → Leads f k (after j row) (after j place)
-leads_on j m f g k old row place e p is = record { same = same }
+leads_on j m f g k row place e p is = record { same = same }
   where
     same : (r b : ℕ) → r < 32 → b < 32 → bit_at (get_or k r 0) b ≡ bit_at (get_or f (after j row r b) 0) (after j place r b)
     same r b h l =
         let a = apart_at j m e b l in
-        ap (λ (x : ℕ). bit_at x b) (ap (λ (t : List ℕ). get_or t r 0) is ∙ front_done (mixed j m g) old 32 r 0 h)
+        ap (λ (x : ℕ). bit_at x b) (ap (λ (t : List ℕ). get_or t r 0) is ∙ get_d_up_to 32 (mixed j m g) 0 r h)
         ∙ stage_bit j m g r b l a
         ∙ p.same (row_of j r b) (place_of j r b) (in_rows j m g r b l a h) (in_places j m g r b l a)
 
@@ -56,20 +53,16 @@ changed_about f g p r b h l =
     let w = and_true (eqb (five_times (λ (r b : ℕ). r) r b) b) _ (all_at 32 (transposes r) (all_at 32 (λ (r : ℕ). all_below 32 (transposes r)) all_transpose r h) b l) in
     p.same r b h l ∙ ap₂ (λ (r b : ℕ). bit_at (get_or f r 0) b) (eqb-true _ b w.0) (eqb-true _ r w.1)
 
-past : (g : ℕ → ℕ) (old : List ℕ) → drop 32 (front g old 32) ≡ drop 32 old
-unfolding front
-past g old = drop_at (up_to 32 g) (drop 32 old) 32 (length_up_to 32 g)
-
 -- what the stages leave that are run to and fro, with the masks 0x0000ffff, 0x00ff00ff, 0x0f0f0f0f, 0x33333333 and 0x55555555
-module _ (rows spare to a b c d e : List ℕ) (is-a : a ≡ front (mixed 16 65535 rows) to 32) (is_b : b ≡ front (mixed 8 16711935 a) spare 32)
-    (is_c : c ≡ front (mixed 4 252645135 b) a 32) (is-d : d ≡ front (mixed 2 858993459 c) b 32) (is-e : e ≡ front (mixed 1 1431655765 d) c 32) where
+module _ (rows a b c d e : List ℕ) (is-a : a ≡ up_to 32 (mixed 16 65535 rows)) (is_b : b ≡ up_to 32 (mixed 8 16711935 a))
+    (is_c : c ≡ up_to 32 (mixed 4 252645135 b)) (is-d : d ≡ up_to 32 (mixed 2 858993459 c)) (is-e : e ≡ up_to 32 (mixed 1 1431655765 d)) where
   all_lead : Leads rows e (five_times (λ (r b : ℕ). r)) (five_times (λ (r b : ℕ). b))
   all_lead =
-      leads_on 1 1431655765 rows d e c _ _ refl
-      (leads_on 2 858993459 rows c d b _ _ refl
-      (leads_on 4 252645135 rows b c a _ _ refl
-      (leads_on 8 16711935 rows a b spare _ _ refl
-      (leads_on 16 65535 rows rows a to _ _ refl (leads_start rows) is-a)
+      leads_on 1 1431655765 rows d e _ _ refl
+      (leads_on 2 858993459 rows c d _ _ refl
+      (leads_on 4 252645135 rows b c _ _ refl
+      (leads_on 8 16711935 rows a b _ _ refl
+      (leads_on 16 65535 rows rows a _ _ refl (leads_start rows) is-a)
       is_b)
       is_c)
       is-d)
@@ -80,11 +73,8 @@ module _ (rows spare to a b c d e : List ℕ) (is-a : a ≡ front (mixed 16 6553
   row_is r h =
       sym (binary_whole 32 (mixed 1 1431655765 d r) (mixed_small 1 1431655765 d r (lit< tt)))
       ∙ binary_ext 32 (bit_at (mixed 1 1431655765 d r)) (λ (p : ℕ). bit_at (get_or rows p 0) r) (λ (p : ℕ) l.
-      ap (λ (x : ℕ). bit_at x p) (sym (ap (λ (t : List ℕ). get_or t r 0) is-e ∙ front_done (mixed 1 1431655765 d) c 32 r 0 h)) ∙ changed_about rows e all_lead r p h l)
+      ap (λ (x : ℕ). bit_at x p) (sym (ap (λ (t : List ℕ). get_or t r 0) is-e ∙ get_d_up_to 32 (mixed 1 1431655765 d) 0 r h)) ∙ changed_about rows e all_lead r p h l)
 
-  pub all_transposed : e ≡ transposed rows ++ drop 32 to
-  unfolding transposed front
-  all_transposed =
-      is-e
-      ∙ ap₂ (λ (x y : List ℕ). x ++ y) (up_to_same (mixed 1 1431655765 d) (column rows) 32 row_is)
-      (ap (drop 32) is_c ∙ past (mixed 4 252645135 b) a ∙ ap (drop 32) is-a ∙ past (mixed 16 65535 rows) to)
+  pub all_transposed : e ≡ transposed rows
+  unfolding transposed
+  all_transposed = is-e ∙ up_to_same (mixed 1 1431655765 d) (column rows) 32 row_is

@@ -1,9 +1,9 @@
 -- The form of a cell as the machine hands its coefficient on. Assumes nothing.
-use mathlib.Core.Path.{◌≡◌, sym, ap, ◌∙◌, subst}
+use mathlib.Core.Path.{◌≡◌, ap, ◌∙◌}
 use mathlib.Core.List.{List, []}
-use Prim.Native.Nat.{ℕ, ◌<◌}
+use Prim.Native.Nat.{ℕ}
 use lib.IntN.{ℤ, pos}
-use lib.ListN.{length, get_or}
+use lib.ListN.{get_or}
 use mir.Syntax.{w32}
 use mir.Val.{SFits, to_z, of_z}
 use mir.ValLaws.{to_z-of_z}
@@ -11,7 +11,6 @@ use Rattle.signed_digit.specs.Forms.{listing}
 use Rattle.form_masks.specs.declared.Form.{Form}
 use Rattle.form_masks.specs.Form.{form_of}
 use Rattle.plane_masks.specs.Grid.{chosen}
-use Rattle.plane_masks.specs.Claims.{HasForm}
 
 module _ (coefficients : List ℤ) (choices : List ℕ) (c : ℕ) (fits : SFits w32 (get_or coefficients c (pos 0))) where
   -- the coefficient as it is handed on
@@ -20,9 +19,6 @@ module _ (coefficients : List ℤ) (choices : List ℕ) (c : ℕ) (fits : SFits 
 
   same : handed ≡ get_or coefficients c (pos 0)
   same = to_z-of_z w32 (get_or coefficients c (pos 0)) fits
-
-  pub choice_below : HasForm coefficients choices c → get_or choices c 0 < length (listing 32 handed)
-  choice_below h = subst (λ (z : ℤ). get_or choices c 0 < length (listing 32 z)) (sym same) h.below
 
   pub form_chosen : (form : Form) → form ≡ form_of (get_or (listing 32 handed) (get_or choices c 0) []) → form ≡ form_of (chosen coefficients choices c)
   form_chosen form e = e ∙ ap (λ (z : ℤ). form_of (get_or (listing 32 z) (get_or choices c 0) [])) same

@@ -1,3 +1,3 @@
-pub mod Forms
 pub mod Planes
 pub mod Masks
+pub mod Forms

@@ -1,53 +1,42 @@
 // The masks of all cells of a grid, read from the planes of one table.
-ghost use Rattle.std.specs.Prelude.{◌≡◌, ◌++◌, ◌≤◌, min, length, drop};
+ghost use Rattle.std.specs.Prelude.{◌≡◌, ◌≤◌, length};
 ghost use Rattle.plane_masks.specs.Planes.{cell_masks};
 
 use plane_blocks::read_block;
+use plane_masks::MaskTable;
 use plane_words::read_cell;
 
 // Cell by cell.
-fn singly(table: &[u64], cells: usize, masks: &mut [u32])
-    requires { (128 ≤ length table.now) × (cells ≤ 256) × (cells ≤ length masks.old) }
-    ensures { masks.new ≡ cell_masks cells table.now ++ drop cells masks.old }
+fn singly(table: &MaskTable, masks: &mut [u32])
+    requires { length masks.old ≤ 256 }
+    ensures { masks.new ≡ cell_masks (length masks.old) table.now }
 {
-    let mut c: usize = 0;
-    while c < cells {
-        masks[c] = read_cell(table, c);
-        c += 1;
+    for (c, mask) in masks.iter_mut().enumerate() {
+        *mask = read_cell(table, c);
     }
-}
-
-// How many of the cells that are left stand in the next block.
-fn in_block(left: usize) -> usize
-    ensures { result ≡ min left 32 }
-{
-    if left < 32 {
-        return left;
-    }
-    32
 }
 
 // 32 cells at a time.
-fn by_blocks(table: &[u64], cells: usize, masks: &mut [u32])
-    requires { (128 ≤ length table.now) × (cells ≤ 256) × (cells ≤ length masks.old) }
-    ensures { masks.new ≡ cell_masks cells table.now ++ drop cells masks.old }
+fn by_blocks(table: &MaskTable, masks: &mut [u32])
+    requires { length masks.old ≤ 256 }
+    ensures { masks.new ≡ cell_masks (length masks.old) table.now }
 {
-    let mut block: usize = 0;
-    while 32 * block < cells {
-        let n = in_block(cells - 32 * block);
-        read_block(table, block, n, masks);
-        block += 1;
+    let cells = masks.len();
+    for block in 0..cells.div_ceil(32) {
+        let from = 32 * block;
+        let to = (from + 32).min(cells);
+        read_block(table, block, &mut masks[from..to]);
     }
 }
 
-// The masks of all cells. Up to three cells take less time one by one.
-pub fn read_masks(table: &[u64], cells: usize, masks: &mut [u32])
-    requires { (128 ≤ length table.now) × (cells ≤ 256) × (cells ≤ length masks.old) }
-    ensures { masks.new ≡ cell_masks cells table.now ++ drop cells masks.old }
+// The masks of as many cells as there is room for. Up to three cells take less time one by one.
+pub fn read_masks(table: &MaskTable, masks: &mut [u32])
+    requires { length masks.old ≤ 256 }
+    ensures { masks.new ≡ cell_masks (length masks.old) table.now }
 {
-    if cells < 4 {
-        singly(table, cells, masks);
-        return;
+    if masks.len() < 4 {
+        singly(table, masks);
+    } else {
+        by_blocks(table, masks);
     }
-    by_blocks(table, cells, masks);
 }

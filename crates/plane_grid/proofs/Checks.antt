@@ -14,11 +14,6 @@ module _ (height width plus minus first second : ℕ) where
   unfolding sizes_answer
   bad_sides_lem e = check_applies (bad_sides_of height width) 14 (refuse_if short 3 (given tt)) e
 
-  module _ (good : bad_sides_of height width ≡ false) where
-    pub table_short : short ≡ true → sizes_answer height width plus minus first second ≡ refused 3 0
-    unfolding sizes_answer
-    table_short e = check_passes (bad_sides_of height width) 14 (refuse_if short 3 (given tt)) good ∙ check_applies short 3 (given tt) e
-
-    pub sizes_fit : short ≡ false → sizes_answer height width plus minus first second ≡ given tt
-    unfolding sizes_answer
-    sizes_fit e = check_passes (bad_sides_of height width) 14 (refuse_if short 3 (given tt)) good ∙ check_passes short 3 (given tt) e
+  pub table_short : bad_sides_of height width ≡ false → short ≡ true → sizes_answer height width plus minus first second ≡ refused 3 0
+  unfolding sizes_answer
+  table_short good e = check_passes (bad_sides_of height width) 14 (refuse_if short 3 (given tt)) good ∙ check_applies short 3 (given tt) e

@@ -1,36 +1,24 @@
 -- What both entries answer and leave, by what their checks said. Assumes nothing.
-use mathlib.Core.Path.{◌≡◌, refl, sym, ap, ◌∙◌}
-use mathlib.Core.Bool.{Bool}
+use Rattle.std.proofs.Common.{length-take}
+use Rattle.std.specs.Array.{IsFirstChunk}
+use mathlib.Core.Path.{◌≡◌, refl, sym, ap, ap₂, ◌∙◌}
 use mathlib.Core.List.{List, ◌++◌, map}
 use Prim.Native.Nat.{ℕ, ◌*◌, ◌≤◌, ◌<◌}
 use native.Mathlib.Omega.{arith}
 use lib.IntN.{ℤ}
-use lib.ListN.{length, drop}
-use Rattle.refusal.specs.Answer.{Answer, given, refused, Place, nowhere, at_place, place_or, lowest, filled}
+use lib.ListN.{length, take, drop}
+use Rattle.refusal.specs.Answer.{Answer, given, refused, Place, nowhere, at_place, filled}
 use Rattle.sequence.proofs.UpTo.{length_up_to}
 use Rattle.signed_digit.specs.Masks.{plus_mask, minus_mask}
-use Rattle.plane_masks.specs.Planes.{cell_mask, cell_masks}
-use Rattle.plane_masks.specs.Grid.{sizes_answer, cell_numbers, chosen_forms, formless_cell, planes_answer, overlap_cell, cells_answer}
+use Rattle.signed_digit.specs.String.{DigitString}
+use Rattle.plane_masks.specs.Planes.{cell_mask, cell_masks, plane_words_of}
+use Rattle.plane_masks.specs.Claims.{Fits, HasForm}
+use Rattle.plane_masks.specs.Grid.{sizes_answer, no_form, chosen_forms, formless_cell, planes_answer, overlaps, overlap_cell, cells_answer}
 use Rattle.plane_masks.specs.Written.{grid_words, PlanesWritten, PlanesRead}
-use Rattle.plane_masks.proofs.Lists.{cell_of_lem}
+use Rattle.plane_masks.proofs.Lists.{cell_of_lem, none_of}
 use Rattle.plane_masks.proofs.Planes.{words_length}
-use Rattle.plane_masks.proofs.Answers.{pass, stopped, found_at}
-
--- ---- the cell that a search found, or that it found none
-module _ (breaks : ℕ → Bool) (cells i : ℕ) (e : i ≡ place_or cells (lowest breaks (cell_numbers cells))) where
-  pub found : i < cells → lowest breaks (cell_numbers cells) ≡ at_place i
-  found h = go (lowest breaks (cell_numbers cells)) e
-    where
-      go : (p : Place) → i ≡ place_or cells p → p ≡ at_place i
-      go nowhere q = absurd (omega (arith, q, h))
-      go (at_place k) q = ap at_place (sym q)
-
-  pub found_none : cells ≤ i → lowest breaks (cell_numbers cells) ≡ nowhere
-  found_none h = go (lowest breaks (cell_numbers cells)) refl e
-    where
-      go : (p : Place) → lowest breaks (cell_numbers cells) ≡ p → i ≡ place_or cells p → p ≡ nowhere
-      go nowhere w q = refl
-      go (at_place k) w q = absurd (omega (arith, q, h, (cell_of_lem breaks cells k w).0))
+use Rattle.plane_masks.proofs.Answers.{few_cells, fits_given, has_form, pass, stopped, place_in}
+use Rattle.plane_grid.proofs.Cells.{formless_taken, chosen_taken, overlap_taken, masks_taken}
 
 -- ---- writing
 module _ (height width : ℕ) (coefficients : List ℤ) (choices plus minus : List ℕ) where
@@ -59,17 +47,57 @@ module _ (height width : ℕ) (coefficients : List ℤ) (choices plus minus : Li
   unfolding planes_answer
   not_written number place e = by_answer (refused number place) plus minus (stopped sizes missing 9 number place e) refl refl
 
-  pub no_form_there : (c : ℕ) → sizes ≡ given tt → missing ≡ at_place c → PlanesWritten height width coefficients choices plus minus (refused 9 c) plus minus
-  unfolding planes_answer
-  no_form_there c e f = by_answer (refused 9 c) plus minus (found_at sizes missing 9 c e f) refl refl
+  -- past the checks of the sizes, with the tables of as many cells
+  module _ (cells : ℕ) (is : cells ≡ height * width) (fits : Fits height width (length plus) (length minus) (length coefficients) (length choices)) where
+    abbrev firsts : List ℤ
+    firsts = take cells coefficients
 
-  pub all_written : (plus' minus' : List ℕ) → sizes ≡ given tt → missing ≡ nowhere → plus' ≡ plus_words ++ drop 128 plus → minus' ≡ minus_words ++ drop 128 minus
-      → PlanesWritten height width coefficients choices plus minus (given tt) plus' minus'
-  unfolding planes_answer
-  all_written plus' minus' e f p m =
-      by_answer (given tt) plus' minus' (pass sizes missing 9 e f)
-      (p ∙ ap (λ (n : ℕ). plus_words ++ drop n plus) (sym (words_length (map plus_mask (chosen_forms (height * width) coefficients choices)))))
-      (m ∙ ap (λ (n : ℕ). minus_words ++ drop n minus) (sym (words_length (map minus_mask (chosen_forms (height * width) coefficients choices)))))
+    abbrev chosens : List ℕ
+    chosens = take cells choices
+
+    abbrev searched : Place
+    searched = formless_cell (length firsts) firsts chosens
+
+    given_sizes : sizes ≡ given tt
+    given_sizes = fits_given height width (length plus) (length minus) (length coefficients) (length choices) fits
+
+    long : cells ≤ length coefficients
+    long = omega (arith, fits.first_long)
+
+    few : cells ≤ 256
+    few = omega (arith, few_cells height width fits.height_to fits.width_to)
+
+    of_missing : missing ≡ searched
+    of_missing = sym (formless_taken cells coefficients choices long ∙ ap (λ (n : ℕ). formless_cell n coefficients choices) is)
+
+    pub same_lengths : (length firsts ≤ 256) × (length chosens ≡ length firsts)
+    same_lengths = simp length-take (omega (arith, few), omega (arith, fits.first_long, fits.second_long))
+
+    pub cell_below : (c : ℕ) → at_place c ≡ searched → c < 256
+    cell_below c e = omega (arith, (cell_of_lem (no_form firsts chosens) (length firsts) c (sym e)).0, same_lengths.0)
+
+    pub no_form_there : (c : ℕ) → at_place c ≡ searched → PlanesWritten height width coefficients choices plus minus (refused 9 c) plus minus
+    unfolding planes_answer
+    no_form_there c e = by_answer (refused 9 c) plus minus (place_in sizes missing 9 c given_sizes (of_missing ∙ sym e)) refl refl
+
+    pub forms_there : nowhere ≡ searched → (c : ℕ) → c < length firsts → HasForm firsts chosens c
+    forms_there e c h = has_form height width firsts chosens c (none_of (no_form firsts chosens) (length firsts) (sym e) c h)
+
+    words_left : (mask : DigitString → ℕ) (table old : List ℕ) → table ≡ plane_words_of (map mask (chosen_forms (length firsts) firsts chosens))
+        → table ++ drop 128 old ≡ grid_words mask height width coefficients choices ++ drop (length (grid_words mask height width coefficients choices)) old
+    words_left mask table old e =
+        let forms : chosen_forms (length firsts) firsts chosens ≡ chosen_forms (height * width) coefficients choices =
+        chosen_taken cells coefficients choices long ∙ ap (λ (n : ℕ). chosen_forms n coefficients choices) is in
+        ap₂ (λ (words : List ℕ) (n : ℕ). words ++ drop n old) (e ∙ ap (λ (l : List DigitString). plane_words_of (map mask l)) forms)
+        (sym (words_length (map mask (chosen_forms (height * width) coefficients choices))))
+
+    pub all_written : (plus' minus' : List ℕ) → nowhere ≡ searched → plus' ≡ plane_words_of (map plus_mask (chosen_forms (length firsts) firsts chosens))
+        → minus' ≡ plane_words_of (map minus_mask (chosen_forms (length firsts) firsts chosens))
+        → PlanesWritten height width coefficients choices plus minus (given tt) (plus' ++ drop 128 plus) (minus' ++ drop 128 minus)
+    unfolding planes_answer
+    all_written plus' minus' e p m =
+        by_answer (given tt) (plus' ++ drop 128 plus) (minus' ++ drop 128 minus) (pass sizes missing 9 given_sizes (of_missing ∙ sym e))
+        (words_left plus_mask plus' plus p) (words_left minus_mask minus' minus m)
 
 -- ---- reading
 module _ (height width : ℕ) (plus minus first second : List ℕ) where
@@ -96,14 +124,43 @@ module _ (height width : ℕ) (plus minus first second : List ℕ) where
   unfolding cells_answer
   not_read number place e = by_reading (refused number place) first second (stopped sizes_read overlapping 8 number place e) refl refl
 
-  pub overlap_there : (c : ℕ) → sizes_read ≡ given tt → overlapping ≡ at_place c → PlanesRead height width plus minus first second (refused 8 c) first second
-  unfolding cells_answer
-  overlap_there c e f = by_reading (refused 8 c) first second (found_at sizes_read overlapping 8 c e f) refl refl
+  -- past the checks of the sizes, with the words of the mask tables
+  module _ (cells : ℕ) (is : cells ≡ height * width) (fits : Fits height width (length plus) (length minus) (length first) (length second)) (p m : List ℕ)
+      (front_plus : IsFirstChunk plus p 128) (front_minus : IsFirstChunk minus m 128) where
+    abbrev searched_read : Place
+    searched_read = overlap_cell cells p m
 
-  pub all_read : (first' second' : List ℕ) → sizes_read ≡ given tt → overlapping ≡ nowhere → first' ≡ cell_masks (height * width) plus ++ drop (height * width) first
-      → second' ≡ cell_masks (height * width) minus ++ drop (height * width) second → PlanesRead height width plus minus first second (given tt) first' second'
-  unfolding cells_answer
-  all_read first' second' e f p m =
-      by_reading (given tt) first' second' (pass sizes_read overlapping 8 e f)
-      (p ∙ ap (λ (n : ℕ). cell_masks (height * width) plus ++ drop n first) (masks_length plus))
-      (m ∙ ap (λ (n : ℕ). cell_masks (height * width) minus ++ drop n second) (masks_length minus))
+    given_read : sizes_read ≡ given tt
+    given_read = fits_given height width (length plus) (length minus) (length first) (length second) fits
+
+    pub few_read : cells ≤ 256
+    few_read = omega (arith, few_cells height width fits.height_to fits.width_to)
+
+    of_overlapping : overlapping ≡ searched_read
+    of_overlapping =
+        sym (ap₂ (overlap_cell cells) front_plus.same front_minus.same ∙ overlap_taken cells plus minus few_read ∙ ap (λ (n : ℕ). overlap_cell n plus minus) is)
+
+    pub overlap_below : (c : ℕ) → at_place c ≡ searched_read → c < 256
+    overlap_below c e = omega (arith, (cell_of_lem (overlaps p m) cells c (sym e)).0, few_read)
+
+    pub overlap_there : (c : ℕ) → at_place c ≡ searched_read → PlanesRead height width plus minus first second (refused 8 c) first second
+    unfolding cells_answer
+    overlap_there c e = by_reading (refused 8 c) first second (place_in sizes_read overlapping 8 c given_read (of_overlapping ∙ sym e)) refl refl
+
+    pub few_taken : (lent : List ℕ) → length (take cells lent) ≤ 256
+    few_taken lent = simp length-take (omega (arith, few_read))
+
+    masks_left : (table t old masks : List ℕ) → cells ≤ length old → t ≡ take 128 table → masks ≡ cell_masks (length (take cells old)) t
+        → masks ++ drop cells old ≡ cell_masks (height * width) table ++ drop (length (cell_masks (height * width) table)) old
+    masks_left table t old masks long front e =
+        let all : length (take cells old) ≡ cells = simp length-take (omega arith) in
+        ap₂ (λ (masks : List ℕ) (n : ℕ). masks ++ drop n old)
+        (e ∙ ap₂ cell_masks all front ∙ masks_taken cells table few_read ∙ ap (λ (n : ℕ). cell_masks n table) is)
+        (is ∙ masks_length table)
+
+    pub all_read : (first' second' : List ℕ) → nowhere ≡ searched_read → first' ≡ cell_masks (length (take cells first)) p → second' ≡ cell_masks (length (take cells second)) m
+        → PlanesRead height width plus minus first second (given tt) (first' ++ drop cells first) (second' ++ drop cells second)
+    unfolding cells_answer
+    all_read first' second' e x y =
+        by_reading (given tt) (first' ++ drop cells first) (second' ++ drop cells second) (pass sizes_read overlapping 8 given_read (of_overlapping ∙ sym e))
+        (masks_left plus p first first' (omega (arith, fits.first_long)) front_plus.same x) (masks_left minus m second second' (omega (arith, fits.second_long)) front_minus.same y)

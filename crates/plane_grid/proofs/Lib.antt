@@ -1,3 +1,3 @@
-pub mod Tests
 pub mod Checks
 pub mod Entries
+pub mod Cells

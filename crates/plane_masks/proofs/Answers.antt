@@ -143,8 +143,8 @@ module _ (a : Answer (Unit {0})) (p : Place) (n : ℕ) where
   pub stopped : (number place : ℕ) → a ≡ refused number place → both ≡ refused number place
   stopped number place e = ap (λ (x : Answer (Unit {0})). and_then x after) e
 
-  pub found_at : (k : ℕ) → a ≡ given tt → p ≡ at_place k → both ≡ refused n k
-  found_at k e f = ap₂ (λ (x : Answer (Unit {0})) (y : Place). and_then x (λ u. refuse_at y n (given tt))) e f
+  pub place_in : (k : ℕ) → a ≡ given tt → p ≡ at_place k → both ≡ refused n k
+  place_in k e f = ap₂ (λ (x : Answer (Unit {0})) (y : Place). and_then x (λ u. refuse_at y n (given tt))) e f
 
   pub refused_both : {C : Type 0} (number place : ℕ) → both ≡ refused number place → (a ≡ refused number place → C) → (a ≡ given tt → p ≡ at_place place → number ≡ n → C) → C
   refused_both {C} number place e first second = go a refl e

@@ -23,7 +23,7 @@ use Rattle.plane_masks.specs.Written.{PlanesWritten, PlanesRead}
 use Rattle.plane_masks.specs.Claims.{AllBelow, CanWrite, HasForm}
 use Rattle.plane_masks.specs.Figures.{three_cells, three_plus, three_minus, two_cells, far_cells, PlaneFigures}
 use Rattle.plane_masks.proofs.Lists.{lowest_cell as lowest_cell_is}
-use Rattle.plane_masks.proofs.Answers.{fits_given, found_at, writes}
+use Rattle.plane_masks.proofs.Answers.{fits_given, place_in, writes}
 
 three_read : PlanesRead 1 3 three_plus three_minus (7 ∷ 7 ∷ 7 ∷ 7 ∷ []) (7 ∷ 7 ∷ 7 ∷ []) (given tt) ((32 + 8 + 4 + 1) ∷ 0 ∷ 0 ∷ 7 ∷ []) (0 ∷ 0 ∷ 2 ^ 31 ∷ [])
 unfolding cells_answer sizes_answer lowest_from up_to overlaps cell_masks cell_mask binary
@@ -138,7 +138,7 @@ module _ (plus minus : List ℕ) (h : 128 ≤ length plus) (k : 128 ≤ length m
   sixth_refused : planes_answer 2 1 (pos 0 ∷ pos 45 ∷ []) (0 ∷ 5 ∷ []) (length plus) (length minus) ≡ refused 9 1
   unfolding planes_answer
   sixth_refused =
-      found_at (sizes_answer 2 1 (length plus) (length minus) 2 2) (formless_cell 2 (pos 0 ∷ pos 45 ∷ []) (0 ∷ 5 ∷ [])) 9 1
+      place_in (sizes_answer 2 1 (length plus) (length minus) 2 2) (formless_cell 2 (pos 0 ∷ pos 45 ∷ []) (0 ∷ 5 ∷ [])) 9 1
       (fits_given 2 1 (length plus) (length minus) 2 2 (record {
         height_from = omega arith;
         height_to = omega arith;

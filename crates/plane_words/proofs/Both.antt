@@ -11,7 +11,7 @@ use lib.Bits.{bit_and, bit_or}
 use lib.Count.{count_trailing_zeros, under}
 use lib.Dec.{eqb, ltb}
 use lib.ListN.{get_or}
-use Rattle.refusal.specs.Answer.{place_or}
+use Rattle.refusal.specs.Answer.{nowhere, at_place}
 use Rattle.plane_masks.specs.Binary.{bit_at}
 use Rattle.plane_masks.specs.Planes.{plane_bit}
 use Rattle.plane_masks.specs.Grid.{any_below, overlaps, overlap_cell}
@@ -97,8 +97,8 @@ module _ (plus minus : List ℕ) (cells : ℕ) where
   abbrev pub NoneBelow : ℕ → Type 0
   NoneBelow n = (c : ℕ) → c < n → overlaps plus minus c ≡ false
 
-  pub none_found : (n : ℕ) → NoneBelow n → cells ≤ n → cells ≡ place_or cells (overlap_cell cells plus minus)
-  none_found n none h = sym (ap (place_or cells) (no_cell (overlaps plus minus) cells (λ c l. none c (omega arith))))
+  pub none_found : (n : ℕ) → NoneBelow n → cells ≤ n → nowhere ≡ overlap_cell cells plus minus
+  none_found n none h = sym (no_cell (overlaps plus minus) cells (λ c l. none c (omega arith)))
 
   module _ (j w : ℕ) (is : w ≡ both_word 32 plus minus j) (none : NoneBelow (64 * j)) where
     at : (b : ℕ) → b < 64 → eqb (bit_at w b) 1 ≡ overlaps plus minus (64 * j + b)
@@ -125,11 +125,11 @@ module _ (plus minus : List ℕ) (cells : ℕ) where
       none_before : NoneBelow (64 * j + count_trailing_zeros 64 w)
       none_before = below (count_trailing_zeros 64 w) (omega (arith, few)) (λ (i : ℕ) h. trailing_below 64 w i h)
 
-      pub word_found : 64 * j + count_trailing_zeros 64 w < cells → 64 * j + count_trailing_zeros 64 w ≡ place_or cells (overlap_cell cells plus minus)
+      pub word_found : 64 * j + count_trailing_zeros 64 w < cells → at_place (64 * j + count_trailing_zeros 64 w) ≡ overlap_cell cells plus minus
       word_found h =
           let c : ℕ = 64 * j + count_trailing_zeros 64 w in
           let o : overlaps plus minus c ≡ true = sym (at (count_trailing_zeros 64 w) few) ∙ eq-eqb (bit_at w (count_trailing_zeros 64 w)) 1 (trailing 64 w some fits).1 in
-          sym (ap (place_or cells) (lowest_cell (overlaps plus minus) cells c h o none_before))
+          sym (lowest_cell (overlaps plus minus) cells c h o none_before)
 
-      pub word_past : cells ≤ 64 * j + count_trailing_zeros 64 w → cells ≡ place_or cells (overlap_cell cells plus minus)
+      pub word_past : cells ≤ 64 * j + count_trailing_zeros 64 w → nowhere ≡ overlap_cell cells plus minus
       word_past h = none_found (64 * j + count_trailing_zeros 64 w) none_before h

@@ -3,3 +3,4 @@ pub mod Places
 pub mod Adding
 pub mod OneMore
 pub mod Both
+pub mod Empty

@@ -4,7 +4,5 @@ use Rattle.plane_blocks.proofs.transpose.Goals as goal
 
 pub returns : goal.returns
 returns c =
-    let args = c.args in
-    all_transposed args.rows.now args.spare.now args.to.now c.stage.new.to c.stage-2.new.to
-    c.stage-3.new.to c.stage-4.new.to c.stage-5.new.to
+    all_transposed c.args.rows.now c.stage.new.to c.stage-2.new.to c.stage-3.new.to c.stage-4.new.to c.stage-5.new.to
     c.stage.ensures c.stage-2.ensures c.stage-3.ensures c.stage-4.ensures c.stage-5.ensures

@@ -1,29 +1,31 @@
 -- `plane_cells::writing::write_cells` meets its contract. Assumes nothing.
-use mathlib.Core.Path.{ap, ◌∙◌}
-use mathlib.Core.List.{List, ◌++◌, map}
-use Prim.Native.Nat.{ℕ}
+use Rattle.std.proofs.Common.{ap, ◌∙◌, arith, rules}
 use Rattle.signed_digit.specs.Masks.{plus_mask, minus_mask}
-use Rattle.plane_masks.specs.Planes.{plane_words_of}
-use Rattle.plane_masks.specs.Grid.{chosen_forms}
-use Rattle.plane_cells.proofs.Planes.{past_kept, empty}
+use Rattle.form_masks.specs.declared.Form.{Form}
+use Rattle.plane_cells.proofs.Forms.{form_chosen}
+use Rattle.plane_cells.proofs.Planes.{no_cells, has_room, cell_added}
 use Rattle.plane_cells.proofs.writing.write_cells.Goals as goal
 
-pub add_cells-requires : goal.add_cells-requires
-add_cells-requires c =
-    record {
-      sizes = c.requires.sizes;
-      have_forms = c.requires.have_forms;
-      empty = (
-        empty c.clear.new.table c.args.plus.now c.clear.ensures,
-        empty c.clear-2.new.table c.args.minus.now c.clear-2.ensures,
-      );
-    }
+pub loop-c-init : goal.loop-c-init
+loop-c-init c = record {
+  plus = c.clear.ensures ∙ no_cells plus_mask c.args.coefficients.now c.args.choices.now;
+  minus = c.clear-2.ensures ∙ no_cells minus_mask c.args.coefficients.now c.args.choices.now;
+}
 
-pub returns : goal.returns
-returns c =
-    let args = c.args in
-    let forms = chosen_forms args.cells args.coefficients.now args.choices.now in
+pub write_cell-requires-clause-by_index : goal.write_cell-requires-clause-by_index
+write_cell-requires-clause-by_index c =
+    has_room plus_mask c.args.coefficients.now c.args.choices.now c.loop-c.c c.loop-c.plus c.loop-c.invariant.plus (omega arith)
+
+pub write_cell-requires-in-loop-c-clause-by_index : goal.write_cell-requires-in-loop-c-clause-by_index
+write_cell-requires-in-loop-c-clause-by_index c =
+    has_room minus_mask c.args.coefficients.now c.args.choices.now c.loop-c.c c.loop-c.minus c.loop-c.invariant.minus (omega arith)
+
+pub loop-c-preserved : goal.loop-c-preserved
+loop-c-preserved c =
+    let n = c.args.coefficients.now in
+    let choices = c.args.choices.now in
+    let form = form_chosen n choices c.loop-c.c (search rules) c.form_at-form.result c.form_at-form.ensures in
     record {
-      plus = c.add_cells.ensures.plus ∙ ap (λ (rest : List ℕ). plane_words_of (map plus_mask forms) ++ rest) (past_kept c.clear.new.table args.plus.now c.clear.ensures);
-      minus = c.add_cells.ensures.minus ∙ ap (λ (rest : List ℕ). plane_words_of (map minus_mask forms) ++ rest) (past_kept c.clear-2.new.table args.minus.now c.clear-2.ensures);
+      plus = c.write_cell.ensures ∙ cell_added plus_mask n choices c.loop-c.c c.form_at-form.result.plus c.loop-c.plus c.loop-c.invariant.plus (ap (λ (g : Form). g.plus) form);
+      minus = c.write_cell-in-loop-c.ensures ∙ cell_added minus_mask n choices c.loop-c.c c.form_at-form.result.minus c.loop-c.minus c.loop-c.invariant.minus (ap (λ (g : Form). g.minus) form);
     }
