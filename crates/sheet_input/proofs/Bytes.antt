@@ -1,43 +1,37 @@
--- Bytes as a number, low byte first. Assumes nothing.
-use mathlib.Core.Path.{◌≡◌, ap, ◌∙◌}
-use mathlib.Core.List.{List}
-use Prim.Native.Nat.{ℕ, suc, ◌+◌, ◌*◌, ◌^◌, ◌≤◌}
+-- Eight bytes as a number, low byte first, and an input by its eights. Assumes nothing.
+use mathlib.Core.Path.{◌≡◌, refl, ap, ◌∙◌}
+use mathlib.Core.List.{List, [], ◌∷◌}
+use Prim.Native.Nat.{ℕ, zero, suc, ◌+◌, ◌*◌, ◌≤◌, ◌<◌}
 use native.Mathlib.Omega.{arith}
-use native.Mathlib.Numerals.{add-one}
 use lib.ListN.{length, take, drop, get_or}
-use lib.Seq.{drop-cons}
+use lib.Seq.{length-take-le}
+use mir.Syntax.{w64}
+use Rattle.std.specs.Int.{from_le_bytes}
+use Rattle.std.specs.Simd.{first_chunks}
+use Rattle.std.proofs.lemmas.List.{drop-drop, length-drop}
 use Rattle.sheet_input.specs.Taps.{low_first}
 
-module _ (s : List ℕ) where
-  -- one byte more
-  low_next : (k at : ℕ) → at + suc k ≤ length s → low_first (take (suc k) (drop at s)) ≡ get_or s at 0 + 256 * low_first (take k (drop (at + 1) s))
-  unfolding low_first
-  low_next k at h = rw (add-one, drop-cons s at 0 (omega arith))
+-- std's word for it
+le_low : (bs : List ℕ) → length bs ≡ 8 → from_le_bytes w64 bs ≡ low_first bs
+unfolding low_first
+le_low [] h = absurd (omega arith)
+le_low (b0 ∷ []) h = absurd (omega arith)
+le_low (b0 ∷ b1 ∷ []) h = absurd (omega arith)
+le_low (b0 ∷ b1 ∷ b2 ∷ []) h = absurd (omega arith)
+le_low (b0 ∷ b1 ∷ b2 ∷ b3 ∷ []) h = absurd (omega arith)
+le_low (b0 ∷ b1 ∷ b2 ∷ b3 ∷ b4 ∷ []) h = absurd (omega arith)
+le_low (b0 ∷ b1 ∷ b2 ∷ b3 ∷ b4 ∷ b5 ∷ []) h = absurd (omega arith)
+le_low (b0 ∷ b1 ∷ b2 ∷ b3 ∷ b4 ∷ b5 ∷ b6 ∷ []) h = absurd (omega arith)
+le_low (b0 ∷ b1 ∷ b2 ∷ b3 ∷ b4 ∷ b5 ∷ b6 ∷ b7 ∷ []) h = omega arith
+le_low (b0 ∷ b1 ∷ b2 ∷ b3 ∷ b4 ∷ b5 ∷ b6 ∷ b7 ∷ b8 ∷ bs) h = absurd (omega arith)
 
-  -- four bytes more
-  low_four_more : (k at : ℕ) → at + suc (suc (suc (suc k))) ≤ length s
-      → low_first (take (suc (suc (suc (suc k)))) (drop at s))
-      ≡ get_or s at 0 + 256 * (get_or s (at + 1) 0 + 256 * (get_or s (at + 2) 0 + 256 * (get_or s (at + 3) 0 + 256 * low_first (take k (drop (at + 4) s)))))
-  low_four_more k at h =
-      let second = ap (λ (n : ℕ). get_or s (at + 1) 0 + 256 * low_first (take (suc (suc k)) (drop n s))) (further 1) in
-      let third = ap (λ (n : ℕ). get_or s (at + 2) 0 + 256 * low_first (take (suc k) (drop n s))) (further 2) in
-      let fourth = ap (λ (n : ℕ). get_or s (at + 3) 0 + 256 * low_first (take k (drop n s))) (further 3) in
-      omega (
-        arith,
-        low_next (suc (suc (suc k))) at h,
-        low_next (suc (suc k)) (at + 1) (omega arith) ∙ second,
-        low_next (suc k) (at + 2) (omega arith) ∙ third,
-        low_next k (at + 3) (omega arith) ∙ fourth,
-      )
-    where
-      further : (i : ℕ) → at + i + 1 ≡ at + (i + 1)
-      further i = omega arith
+-- the eights, one by one
+pub eight_at : (k i : ℕ) (s : List ℕ) → i < k → get_or (first_chunks 8 k s) i [] ≡ take 8 (drop (8 * i) s)
+eight_at zero i s h = absurd (omega arith)
+eight_at (suc k) zero s h = refl
+eight_at (suc k) (suc i) s h =
+    let e : 8 + 8 * i ≡ 8 * suc i = omega arith in
+    eight_at k i (drop 8 s) (omega arith) ∙ ap (take 8) (drop-drop (8 * i) 8 s ∙ ap (λ (n : ℕ). drop n s) e)
 
-  pub low_four : (at : ℕ) → at + 4 ≤ length s
-      → low_first (take 4 (drop at s)) ≡ get_or s at 0 + 256 * (get_or s (at + 1) 0 + 256 * (get_or s (at + 2) 0 + 256 * get_or s (at + 3) 0))
-  unfolding low_first
-  low_four at h = omega (arith, low_four_more 0 at h)
-
-  -- eight bytes are two fours
-  pub low_eight : (at : ℕ) → at + 8 ≤ length s → low_first (take 8 (drop at s)) ≡ low_first (take 4 (drop at s)) + 2 ^ 32 * low_first (take 4 (drop (at + 4) s))
-  low_eight at h = omega (arith, low_four_more 4 at h, low_four at (omega arith))
+pub tap_eight : (i : ℕ) (s : List ℕ) → 8 * i + 8 ≤ length s → from_le_bytes w64 (take 8 (drop (8 * i) s)) ≡ low_first (take 8 (drop (8 * i) s))
+tap_eight i s h = le_low (take 8 (drop (8 * i) s)) (length-take-le 8 (drop (8 * i) s) (omega (arith, length-drop (8 * i) s)))

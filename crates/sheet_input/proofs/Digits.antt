@@ -13,15 +13,6 @@ use Rattle.refusal.specs.Answer.{given, refused}
 use Rattle.text.specs.Numbers.{is_digit, are_digits, number_from}
 use Rattle.sheet_input.specs.Argument.{text, is_fraction, fraction_bits_of}
 
-pub digit_low : (b : ℕ) → b < 48 → is_digit b ≡ false
-digit_low b h = rw (lt-leb 48 b h)
-
-pub digit_high : (b : ℕ) → 57 < b → is_digit b ≡ false
-digit_high b h = rw (le-leb 48 b (omega arith), lt-leb b 57 h)
-
-pub digit_in_lem : (b : ℕ) → 48 ≤ b → b ≤ 57 → is_digit b ≡ true
-digit_in_lem b h k = rw (le-leb 48 b h, le-leb b 57 k)
-
 module _ (t : List ℕ) (i : ℕ) where
   drop_next : i < length t → drop i t ≡ get_or t i 0 ∷ drop (i + 1) t
   drop_next h = rw (add-one, drop-cons t i 0 h)

@@ -1,5 +1,6 @@
 -- The first argument of the program. Document 01, "The sheet". Definitions only.
-use Rattle.std.specs.Prelude.{Bool, true, false, not, ◌&&◌, List, ℕ, leb, ltb, length}
+use Rattle.std.specs.Prelude.{not, ◌&&◌, Bool, Option, Some, None, List, ℕ, leb, ltb, length}
+use Rattle.std.specs.Borrow.{Bor}
 use Rattle.refusal.specs.Answer.{Answer, given, refuse_if}
 use Rattle.text.specs.Numbers.{are_digits, number_from}
 
@@ -8,10 +9,10 @@ pub data Argument : Type 0 where
   missing : Argument
   text : List ℕ → Argument
 
--- as the program hands it on: whether there is one, and its bytes
-abbrev pub argument_of : Bool → List ℕ → Argument
-argument_of false bytes = missing
-argument_of true bytes = text bytes
+-- as the program hands it on
+abbrev pub argument_of : Option (Bor (List ℕ)) → Argument
+argument_of None = missing
+argument_of (Some bytes) = text bytes.now
 
 -- "the digits of a decimal number up to 31, leading zeros allowed": one digit at least
 unfoldable pub is_fraction : List ℕ → Bool

@@ -1,8 +1,6 @@
 -- What the program's input and argument are turned down for before a tap is looked at. Document 01, "Turned down". Definitions only.
 use Rattle.std.specs.Prelude.{not, List, ℕ, ◌%◌, eqb, ltb, length}
-use Rattle.refusal.specs.Answer.{Answer, given, refuse_if, turned_down_of}
-use Rattle.sheet_input.specs.declared.Fraction.{Fraction}
-use Rattle.sheet_input.specs.declared.Fraction.TheVariants.{Bits, Refused}
+use Rattle.refusal.specs.Answer.{Answer, refuse_if}
 use Rattle.sheet_input.specs.Argument.{Argument, fraction_bits_of}
 use Rattle.sheet_input.specs.Taps.{whole_taps}
 
@@ -13,8 +11,3 @@ input_answer input argument =
     (refuse_if (ltb 256 (whole_taps input)) 2
     (refuse_if (not (eqb (length input % 8) 0)) 12
     (fraction_bits_of argument)))
-
--- what each case of `Fraction` says: F, or the table's number and place
-abbrev pub answer_of : Fraction → Answer ℕ
-answer_of (Bits f) = given f
-answer_of (Refused r) = turned_down_of r

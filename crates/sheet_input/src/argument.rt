@@ -1,41 +1,39 @@
 // F from the first argument.
-ghost use Rattle.std.specs.Prelude.{◌≡◌, ◌-◌, ◌≤◌};
+ghost use Rattle.std.specs.Prelude.{◌≡◌, ◌-◌, true, false, MatchResult};
+ghost use Rattle.text.specs.Numbers.{is_digit};
 ghost use Rattle.sheet_input.specs.Argument.{text as bytes, fraction_bits_of};
-ghost use Rattle.sheet_input.specs.Input.{answer_of};
+ghost use Rattle.refusal.specs.Answer.{answer_of};
+ghost use Rattle.refusal.specs.declared.Refusal.TheVariants.{FractionBits};
 
-use crate::Fraction;
 use refusal::Refusal;
 
+// The most fraction bits.
+const MOST: u32 = 31;
+
 // The value of a digit.
-fn digit(b: u8) -> u32
-    requires { (48 ≤ b) × (b ≤ 57) }
-    ensures { result ≡ b - 48 }
+// Stays: a range where std has `to_digit`, since an edit falls at its lower end.
+fn digit(b: u8) -> Result<u32, Refusal>
+    ensures { MatchResult result (λ d. (is_digit b ≡ true) × (d ≡ b - 48)) (λ r. (is_digit b ≡ false) × (r ≡ FractionBits)) }
 {
-    (b - b'0') as u32
+    match b {
+        b'0'..=b'9' => Ok((b - b'0') as u32),
+        _ => Err(Refusal::FractionBits),
+    }
 }
 
 // The number of an argument of any length: what is above 31 stays so with every digit more.
-pub fn bits_of(text: &[u8]) -> Fraction
+pub fn bits_of(text: &[u8]) -> Result<u32, Refusal>
     ensures { answer_of result ≡ fraction_bits_of (bytes text.now) }
 {
-    if text.len() == 0 {
-        return Fraction::Refused(Refusal::FractionBits);
+    if text.is_empty() {
+        return Err(Refusal::FractionBits);
     }
     let mut f: u32 = 0;
-    let mut i: usize = 0;
-    while i < text.len() {
-        let b = text[i];
-        if b < b'0' {
-            return Fraction::Refused(Refusal::FractionBits);
+    for b in text {
+        f = 10 * f + digit(*b)?;
+        if f > MOST {
+            return Err(Refusal::FractionBits);
         }
-        if b > b'9' {
-            return Fraction::Refused(Refusal::FractionBits);
-        }
-        f = 10 * f + digit(b);
-        if f > 31 {
-            return Fraction::Refused(Refusal::FractionBits);
-        }
-        i += 1;
     }
-    Fraction::Bits(f)
+    Ok(f)
 }

@@ -47,13 +47,12 @@ module _ (rows : List Row) (values : List ℤ) where
       none_plus : (j : ℕ) → 0 + j ≡ j
       none_plus j = omega arith
 
-pub network_written : (rows : List ℕ) (n : ℕ) (taps : List ℕ) (values : List ℤ) (total : ℕ) → NetworkIn rows n taps values → total ≡ n - 1 + joining_adders_of values
-    → header ++ (lines_from node_line_of 0 (rows_of rows n) ++ (lines_from (tap_line_of values) 0 (tap_rows_of taps (length values)) ++ total_line_of total))
-    ≡ network_text (network_of rows n taps (length values))
+pub network_written : (rows : List ℕ) (n : ℕ) (taps : List ℕ) (m : ℕ) (values : List ℤ) (total : ℕ) → NetworkIn rows n taps m values → total ≡ n - 1 + joining_adders_of values
+    → network_text (network_of rows n taps m)
+    ≡ header ++ (lines_from node_line_of 0 (rows_of rows n) ++ (lines_from (tap_line_of values) 0 (tap_rows_of taps (length values)) ++ total_line_of total))
 unfolding network_text
-network_written rows n taps values total h e =
-    let m = length values in
-    let same : total ≡ adders (network_of rows n taps m) =
-    e ∙ ap₂ (λ (k : ℕ) (h : List ℤ). k - 1 + joining_adders_of h) (sym (length_up_to n (row_at rows))) h.products in
-    rw (tap_lines_same (rows_of rows n) values (tap_rows_of taps m) h.products)
+network_written rows n taps m values total h e =
+    let same : adders (network_of rows n taps m) ≡ total =
+    sym (e ∙ ap₂ (λ (k : ℕ) (h : List ℤ). k - 1 + joining_adders_of h) (sym (length_up_to n (row_at rows))) h.products) in
+    rw (h.each, tap_lines_same (rows_of rows n) values (tap_rows_of taps m) h.products)
     (ap (λ (k : ℕ). header ++ (lines_from node_line_of 0 (rows_of rows n) ++ (lines_from (tap_line_in (rows_of rows n)) 0 (tap_rows_of taps m) ++ total_line_of k))) same)

@@ -10,29 +10,30 @@ use Rattle.network.specs.declared.TapRow.{TapRow}
 use Rattle.network.specs.Rows.{none}
 use Rattle.text.specs.Ascii.{ascii}
 use Rattle.text.specs.Numbers.{decimal_by, decimal, integer}
-use Rattle.text.specs.Inner.{Put}
+use Rattle.text.specs.declared.Writer.{Writer}
+use Rattle.text.specs.Inner.{Wrote}
 use Rattle.text.proofs.Puts.{then}
 use Rattle.sheet_lines.specs.Lines.{line, columns, node_line_of, later_line_of, tap_line_text, empty_tap_line_of, product_line_of, total_line_of, refused_line_of}
 use Rattle.sheet_lines.specs.Inner.{to_sign, to_value, after_value}
 
 -- ---- parts of a line
 -- a field after what ends in a comma
-pub comma : (a : List ℕ) {l e f : List ℕ} {at r s m n : ℕ} {b : List ℕ} → Put l at (a ++ (44 ∷ [])) m e r → Put e r b n f s → Put l at (a ++ (44 ∷ b)) (m + n) f s
-comma a {l} {e} {f} {at} {r} {s} {m} {n} {b} p q = rw append_snoc at (then p q)
+pub comma : (a : List ℕ) {u v w : Writer} {m n : ℕ} {b : List ℕ} → Wrote u (a ++ (44 ∷ [])) m v → Wrote v b n w → Wrote u (a ++ (44 ∷ b)) (m + n) w
+comma a p q = rw append_snoc at (then p q)
 
 -- the fields up to the sign, and what comes after them
 to_sign_append : (i left shift sign : ℕ) (b : List ℕ) → to_sign i left shift sign [] ++ b ≡ to_sign i left shift sign b
 to_sign_append i left shift sign b = simp append_assoc
 
-pub after_sign : {l e f : List ℕ} {at r s m n : ℕ} {b : List ℕ} (i left shift sign : ℕ) → Put l at (to_sign i left shift sign []) m e r → Put e r b n f s
-    → Put l at (to_sign i left shift sign b) (m + n) f s
+pub after_sign : {u v w : Writer} {m n : ℕ} {b : List ℕ} (i left shift sign : ℕ) → Wrote u (to_sign i left shift sign []) m v → Wrote v b n w
+    → Wrote u (to_sign i left shift sign b) (m + n) w
 after_sign {b = b} i left shift sign p q = rw (to_sign_append i left shift sign b) at (then p q)
 
 -- the empty fields up to the value, and what comes after them
 to_value_append : (i : ℕ) (b : List ℕ) → to_value i [] ++ b ≡ to_value i b
 to_value_append i b = simp append_assoc
 
-pub value_after : {l e f : List ℕ} {at r s m n : ℕ} {b : List ℕ} (i : ℕ) → Put l at (to_value i []) m e r → Put e r b n f s → Put l at (to_value i b) (m + n) f s
+pub value_after : {u v w : Writer} {m n : ℕ} {b : List ℕ} (i : ℕ) → Wrote u (to_value i []) m v → Wrote v b n w → Wrote u (to_value i b) (m + n) w
 value_after {b = b} i p q = rw (to_value_append i b) at (then p q)
 
 -- ---- the kinds of line

@@ -92,7 +92,7 @@ module _ (cs : List ℤ) (h : Coefficients cs) where
 
     -- the tables hold the network, ready to be printed
     holds : (n : ℕ) (rows' taps' : List ℕ) → n ≡ length net.rows → network_of rows' n taps' (length cs) ≡ net → length rows' ≡ length rows → length taps' ≡ length taps
-        → NetworkIn rows' n taps' cs
+        → NetworkIn rows' n taps' (length cs) cs
     holds n rows' taps' e w l m =
         let p = built_passed cs choices can_build in
         let few = built_few cs choices can_build in
@@ -112,12 +112,13 @@ module _ (cs : List ℤ) (h : Coefficients cs) where
                 (tap_sign net.rows (tap_row_in net.taps j) (p.taps j (omega (arith, length_built_taps cs choices))));
             few = h.few;
           };
+          each = refl;
           products = p.result ∙ ap coefficients (sym w);
         }
 
     pub record Printable (n : ℕ) (rows' taps' : List ℕ) : Type 0 where
       pub network : network_of rows' n taps' (length cs) ≡ net
-      pub ready : NetworkIn rows' n taps' cs
+      pub ready : NetworkIn rows' n taps' (length cs) cs
 
     pub printable : (n : ℕ) (rows' taps' : List ℕ) → given n ≡ row_count_of (build_answer cs choices rows taps)
         → rows' ≡ filled (build_answer cs choices rows taps) (words_of_rows (built cs choices).rows) rows

@@ -9,7 +9,7 @@ use lib.ListN.{length, take, drop, length-append, length-drop}
 use lib.Ieee.{Float}
 use lib.IntN.{ℤ}
 use lib.Seq.{take_all, take_at, drop_at, length-take-le}
-use Rattle.refusal.specs.Answer.{Answer, given}
+use Rattle.refusal.specs.Answer.{Answer, given, refused}
 use Rattle.tap_set.specs.declared.Report.{Report}
 use Rattle.tap_set.specs.Set.{coefficients_of, TapsRounded}
 use Rattle.network.specs.Rows.{row_table, tap_table}
@@ -22,13 +22,13 @@ use Rattle.sheet_input.specs.Argument.{Argument, missing}
 use Rattle.sheet_input.proofs.Answers.{too_many}
 use Rattle.sheet_text.specs.Sheet.{choices, sheet_of, SheetWritten}
 use Rattle.sheet_text.specs.Claims.{example_input, example_text, SheetClaims}
-use Rattle.sheet_text.proofs.Sheets.{sheet_refused}
+use Rattle.sheet_text.proofs.Sheets.{answer_refused, sheet_of_answer}
 use Rattle.sheet_text.proofs.Example.{example_sheet}
 use Rattle.sheet_text.proofs.Bounds.{accepted_coefficients}
 use Rattle.sheet_text.proofs.Building.{build_given}
 
 from_257 : (input : List ℕ) (argument : Argument) → 2056 ≤ length input → sheet_of input argument ≡ refused_text 2 0
-from_257 input argument h = sheet_refused input argument 2 0 (too_many input argument (λ e. omega arith) (omega arith))
+from_257 input argument h = sheet_of_answer input argument (refused 2 0) (answer_refused input argument 2 0 (too_many input argument (λ e. omega arith) (omega arith)))
 
 -- the first 2,056 bytes settle it
 pub first_2056 : (input : List ℕ) (argument : Argument) → sheet_of (take 2056 input) argument ≡ sheet_of input argument

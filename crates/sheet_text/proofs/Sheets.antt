@@ -6,7 +6,7 @@ use Prim.Native.Nat.{ℕ, ◌+◌, ◌≤◌}
 use native.Mathlib.Omega.{arith}
 use lib.Ieee.{Float}
 use lib.ListN.{length, take, drop, length-map}
-use lib.Seq.{sets-eq, length-sets, length-take-le, take_at}
+use lib.Seq.{sets, sets-eq, length-take-le, take_at}
 use lib.IntN.{ℤ}
 use Rattle.refusal.specs.Answer.{Answer, given, refused, and_then, filled}
 use Rattle.sequence.specs.UpTo.{up_to}
@@ -17,8 +17,8 @@ use Rattle.network.specs.Rows.{Network}
 use Rattle.build_steps.specs.TapRows.{built}
 use Rattle.tap_set.specs.declared.Report.{Report}
 use Rattle.tap_set.specs.Set.{rounded_taps, coefficients_of}
-use Rattle.text.specs.Inner.{Put}
-use Rattle.sheet_kinds.specs.Text.{network_text, refused_text}
+use Rattle.text.specs.declared.Writer.{Writer}
+use Rattle.text.specs.Inner.{Wrote}
 use Rattle.sheet_input.specs.Argument.{Argument}
 use Rattle.sheet_input.specs.Taps.{taps_of}
 use Rattle.sheet_input.specs.Input.{input_answer}
@@ -28,34 +28,40 @@ module _ (F : ℕ) (taps : List Float) where
   abbrev after : Report → Answer Network
   after report = given (built (coefficients_of F taps) choices)
 
-  pub taps_given : (r : Report) → rounded_taps F false taps 256 ≡ given r → text_of (taps_answer F taps) ≡ network_text (built (coefficients_of F taps) choices)
+  pub taps_given : (r : Report) → rounded_taps F false taps 256 ≡ given r → taps_answer F taps ≡ given (built (coefficients_of F taps) choices)
   unfolding taps_answer
-  taps_given r e = ap (λ (a : Answer Report). text_of (and_then a after)) e
+  taps_given r e = ap (λ (a : Answer Report). and_then a after) e
 
-  pub taps_refused : (number place : ℕ) → rounded_taps F false taps 256 ≡ refused number place → text_of (taps_answer F taps) ≡ refused_text number place
+  pub taps_refused : (number place : ℕ) → rounded_taps F false taps 256 ≡ refused number place → taps_answer F taps ≡ refused number place
   unfolding taps_answer
-  taps_refused number place e = ap (λ (a : Answer Report). text_of (and_then a after)) e
+  taps_refused number place e = ap (λ (a : Answer Report). and_then a after) e
 
 module _ (input : List ℕ) (argument : Argument) where
-  pub sheet_given : (F : ℕ) → input_answer input argument ≡ given F → sheet_of input argument ≡ text_of (taps_answer F (taps_of input))
-  unfolding sheet_of sheet_answer
-  sheet_given F e = ap (λ (a : Answer ℕ). text_of (and_then a (λ (f : ℕ). taps_answer f (taps_of input)))) e
+  pub answer_given : (F : ℕ) → input_answer input argument ≡ given F → sheet_answer input argument ≡ taps_answer F (taps_of input)
+  unfolding sheet_answer
+  answer_given F e = ap (λ (a : Answer ℕ). and_then a (λ (f : ℕ). taps_answer f (taps_of input))) e
 
-  pub sheet_refused : (number place : ℕ) → input_answer input argument ≡ refused number place → sheet_of input argument ≡ refused_text number place
-  unfolding sheet_of sheet_answer
-  sheet_refused number place e = ap (λ (a : Answer ℕ). text_of (and_then a (λ (f : ℕ). taps_answer f (taps_of input)))) e
+  pub answer_refused : (number place : ℕ) → input_answer input argument ≡ refused number place → sheet_answer input argument ≡ refused number place
+  unfolding sheet_answer
+  answer_refused number place e = ap (λ (a : Answer ℕ). and_then a (λ (f : ℕ). taps_answer f (taps_of input))) e
+
+  pub sheet_of_answer : (a : Answer Network) → sheet_answer input argument ≡ a → sheet_of input argument ≡ text_of a
+  unfolding sheet_of
+  sheet_of_answer a e = ap text_of e
 
 -- a text at the start of an area
-pub put_sheet : {l b e : List ℕ} {m r : ℕ} (input : List ℕ) (argument : Argument) → sheet_of input argument ≡ b → Put l 0 b m e r → m ≤ length l → SheetWritten input argument l r e
-put_sheet {l} {b} {e} {m} {r} input argument q p h =
-    let z : 0 + length b ≡ r = omega (arith, p.next) in
-    let s : length e ≡ length l = ap length p.text ∙ length-sets l 0 b in
-    let k : r ≤ length e = omega (arith, p.within) in
+pub written_sheet : {u v : Writer} {b : List ℕ} {m : ℕ} (input : List ℕ) (argument : Argument) → sheet_of input argument ≡ b → u.at ≡ 0 → Wrote u b m v → m ≤ length u.area.now
+    → SheetWritten input argument u.area.now v.at v.area.now
+written_sheet {u} {v} {b} {m} input argument q z p h =
+    let l = u.area.now in
+    let all : 0 + length b ≡ v.at = omega (arith, p.next, z) in
+    let text : v.area.now ≡ sets l 0 b = p.text ∙ ap (λ i. sets l i b) z in
+    let k : v.at ≤ length v.area.now = omega (arith, p.within, p.same_length, z) in
     record {
-      size = omega (arith, p.next, ap length q);
-      text = p.text ∙ sets-eq b l 0 (omega (arith, p.within)) ∙ ap (λ j. b ++ drop j l) z ∙ ap (λ t. t ++ drop r l) (sym q);
-      room = s;
-      within = (k, sym (length-take-le r e k));
+      size = omega (arith, p.next, z, ap length q);
+      text = text ∙ sets-eq b l 0 (omega (arith, p.within, z)) ∙ ap (λ j. b ++ drop j l) all ∙ ap (λ t. t ++ drop v.at l) (sym q);
+      room = p.same_length;
+      within = (k, sym (length-take-le v.at v.area.now k));
     }
 
 -- ---- what the local tables hold

@@ -1,4 +1,4 @@
--- `sheet::read_input` meets its contract: no more is read than the area has room for. The measure is the room left.
+-- `sheet::read_input`: no more is read than the area has room for. The measure is the room left.
 use Rattle.std.proofs.Common.{◌≤◌, ◌-◌, length}
 use Rattle.sheet.proofs.read_input.Given as goal
 

@@ -4,4 +4,4 @@ use Rattle.sheet_lines.proofs.put_field.Goals as goal
 
 pub returns : goal.returns
 returns c =
-    then c.put_number-a.ensures c.put_byte.ensures
+    then c.put_number.ensures c.put_byte.ensures

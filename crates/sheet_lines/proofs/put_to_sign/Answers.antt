@@ -1,5 +1,4 @@
 -- `sheet_lines::put_to_sign` meets its contract. Assumes nothing.
-use Rattle.text.proofs.Puts.{then}
 use Rattle.text.specs.Numbers.{decimal}
 use Rattle.sheet_lines.proofs.Lines.{comma}
 use Rattle.sheet_lines.proofs.put_to_sign.Goals as goal
@@ -7,7 +6,6 @@ use Rattle.sheet_lines.proofs.put_to_sign.Goals as goal
 pub returns : goal.returns
 returns c =
     let args = c.args in
-    comma (decimal args.number) c.put_field-a.ensures
-    (comma (decimal args.left) c.put_field-b.ensures
-    (comma (decimal args.shift) c.put_field-c.ensures
-    (then c.put_byte-d.ensures c.put_byte.ensures)))
+    comma (decimal args.number) c.put_field.ensures
+    (comma (decimal args.left) c.put_field-2.ensures
+    (comma (decimal args.shift) c.put_field-3.ensures c.put.ensures))

@@ -4,4 +4,4 @@ use Rattle.sheet_lines.proofs.put_to_value.Goals as goal
 
 pub returns : goal.returns
 returns c =
-    then c.put_number-a.ensures c.put.ensures
+    then c.put_number.ensures c.put.ensures

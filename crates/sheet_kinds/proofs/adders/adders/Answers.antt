@@ -1,4 +1,4 @@
--- `sheet_kinds::adders` meets its contract: no more taps than coefficients are joined (`few`), so the sum fits 32 bits. Assumes nothing.
+-- `sheet_kinds::adders::adders` meets its contract: no more taps than coefficients are joined (`few`), so the sum fits 32 bits. Assumes nothing.
 use Prim.Native.Nat.{◌≤◌}
 use native.Mathlib.Omega.{arith}
 use lib.ListN.{length}
