@@ -1,14 +1,13 @@
--- The bytes of the assign of a tap by its sign, for the contracts of its writers. Definitions only.
-use Rattle.std.specs.Prelude.{ℕ, ◌+◌, length}
+-- The assign of a tap that is not empty as its writer makes it, for its contract. Definitions only.
+use Rattle.std.specs.Prelude.{List, ◌++◌, ℕ, ◌+◌, length}
 use Rattle.network.specs.declared.TapRow.{TapRow}
+use Rattle.text.specs.Ascii.{ascii}
 use Rattle.text.specs.Numbers.{decimal}
 
--- the bytes of a tap of sign `+`, of one of sign `-`, of an empty one
-abbrev pub product_bytes : ℕ → TapRow → ℕ
-product_bytes k t = 19 + (length (decimal k) + (length (decimal t.row) + length (decimal t.shift)))
+-- a tap's row and shift between two texts, after the name of its output
+abbrev pub product_of : ℕ → List ℕ → TapRow → List ℕ → List ℕ
+product_of k before t after = (ascii "assign t" ++ decimal k) ++ ((before ++ decimal t.row) ++ ((ascii " <<< " ++ decimal t.shift) ++ after))
 
-abbrev pub negative_bytes : ℕ → TapRow → ℕ
-negative_bytes k t = 22 + (length (decimal k) + (length (decimal t.row) + length (decimal t.shift)))
-
-abbrev pub empty_bytes : ℕ → ℕ
-empty_bytes k = 14 + length (decimal k)
+-- and its bytes
+abbrev pub product_bytes : ℕ → List ℕ → TapRow → List ℕ → ℕ
+product_bytes k before t after = 13 + (length before + (length after + (length (decimal k) + (length (decimal t.row) + length (decimal t.shift)))))

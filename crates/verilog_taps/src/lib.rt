@@ -1,86 +1,59 @@
-// The ports and the assigns of taps, written into an area that may have room for just these bytes: each
-// function puts them at index `at`, and answers the index past them.
+// The ports and the assigns of taps, written into an area that may have room for just these bytes.
 #![tactic(auto)]
 
-ghost use Rattle.std.specs.Prelude.{true, false, ◌+◌, ◌≤◌, length};
+ghost use Rattle.std.specs.Prelude.{◌+◌, ◌≤◌, length};
 ghost use Rattle.network.specs.Rows.{tap_rows_of, tap_table};
 ghost use Rattle.text.specs.Lines.{lines_from, numbered_from};
-ghost use Rattle.text.specs.Inner.{PutAll};
-ghost use Rattle.verilog_text.specs.Text.{port, tap_by, tap_assign};
-ghost use Rattle.verilog_taps.specs.Inner.{product_bytes, negative_bytes, empty_bytes};
+ghost use Rattle.text.specs.Inner.{WroteAll};
+ghost use Rattle.verilog_text.specs.Text.{port, tap_assign};
+ghost use Rattle.verilog_taps.specs.Inner.{product_of, product_bytes};
 
-use network::TapRow;
-use text::{put, put_with};
+use network::{NetworkTables, TapRow};
+use text::Writer;
 
-// A tap of sign `+`.
-fn put_product(out: &mut [u8], at: usize, k: u32, tap: TapRow) -> usize
-    requires { at + product_bytes k tap ≤ length out.old }
-    ensures { PutAll out.old at (tap_by true false k tap) out.new result }
+// The product of a tap, between the text before its row and that after its shift.
+fn put_product(to: &mut Writer, k: u32, before: &[u8], tap: TapRow, after: &[u8])
+    requires { to.old.at + product_bytes k before.now tap after.now ≤ length to.old.area.now }
+    ensures { WroteAll to.old (product_of k before.now tap after.now) to.new }
 {
-    let a = put_with(out, at, b"assign t", k);
-    let b = put_with(out, a, b" = n", tap.row);
-    let c = put_with(out, b, b" <<< ", tap.shift);
-    put(out, c, b";\n")
+    to.put_with(b"assign t", k);
+    to.put_with(before, tap.row);
+    to.put_with(b" <<< ", tap.shift);
+    to.put(after);
 }
 
-// A tap of sign `-`.
-fn put_negative(out: &mut [u8], at: usize, k: u32, tap: TapRow) -> usize
-    requires { at + negative_bytes k tap ≤ length out.old }
-    ensures { PutAll out.old at (tap_by false true k tap) out.new result }
+fn put_tap_line(to: &mut Writer, k: u32, tap: TapRow)
+    requires { to.old.at + length (tap_assign k tap) ≤ length to.old.area.now }
+    ensures { WroteAll to.old (tap_assign k tap) to.new }
 {
-    let a = put_with(out, at, b"assign t", k);
-    let b = put_with(out, a, b" = -(n", tap.row);
-    let c = put_with(out, b, b" <<< ", tap.shift);
-    put(out, c, b");\n")
-}
-
-// An empty tap.
-fn put_empty(out: &mut [u8], at: usize, k: u32, tap: TapRow) -> usize
-    requires { at + empty_bytes k ≤ length out.old }
-    ensures { PutAll out.old at (tap_by false false k tap) out.new result }
-{
-    let a = put_with(out, at, b"assign t", k);
-    put(out, a, b" = 0;\n")
-}
-
-fn put_tap_line(out: &mut [u8], at: usize, k: u32, tap: TapRow) -> usize
-    requires { at + length (tap_assign k tap) ≤ length out.old }
-    ensures { PutAll out.old at (tap_assign k tap) out.new result }
-{
-    if tap.sign == network::PLUS {
-        return put_product(out, at, k, tap);
+    match tap.sign {
+        network::PLUS => put_product(to, k, b" = n", tap, b";\n"),
+        network::MINUS => put_product(to, k, b" = -(n", tap, b");\n"),
+        _ => {
+            to.put_with(b"assign t", k);
+            to.put(b" = 0;\n");
+        }
     }
-    if tap.sign == network::MINUS {
-        return put_negative(out, at, k, tap);
-    }
-    put_empty(out, at, k, tap)
 }
 
 // The ports of m taps.
-pub fn put_ports(out: &mut [u8], at: usize, m: usize) -> usize
-    requires { (m ≤ 256) × (at + length (numbered_from port 0 m) ≤ length out.old) }
-    ensures { PutAll out.old at (numbered_from port 0 m) out.new result }
+// Stays: shared with `put_wires`, it would take two texts, and a line as a function in its contract.
+pub fn put_ports(to: &mut Writer, m: usize)
+    requires { (m ≤ 256) × (to.old.at + length (numbered_from port 0 m) ≤ length to.old.area.now) }
+    ensures { WroteAll to.old (numbered_from port 0 m) to.new }
 {
-    let mut to = at;
-    let mut k: usize = 0;
-    while k < m {
-        to = put_with(out, to, b", output signed [63:0] t", k as u32);
-        k += 1;
+    for k in 0..m {
+        to.put_with(b", output signed [63:0] t", k as u32);
     }
-    to
 }
 
-// The assigns of the first m taps, by number.
-pub fn put_tap_lines(out: &mut [u8], at: usize, taps: &[u32], m: usize) -> usize
-    requires tap_table_in_bounds { (tap_table ≤ length taps.now) × (m ≤ 256) }
-    requires m_in_bounds { at + length (lines_from tap_assign 0 (tap_rows_of taps.now m)) ≤ length out.old }
-    ensures { PutAll out.old at (lines_from tap_assign 0 (tap_rows_of taps.now m)) out.new result }
+// The assigns of the taps, by number.
+pub fn put_tap_lines(to: &mut Writer, network: NetworkTables)
+    requires within_bounds { (tap_table ≤ length network.taps.now) × (network.tap_count ≤ 256) }
+    requires room { to.old.at + length (lines_from tap_assign 0 (tap_rows_of network.taps.now network.tap_count)) ≤ length to.old.area.now }
+    ensures { WroteAll to.old (lines_from tap_assign 0 (tap_rows_of network.entry.taps.now network.entry.tap_count)) to.new }
 {
-    let mut to = at;
-    let mut k: usize = 0;
-    while k < m {
-        to = put_tap_line(out, to, k as u32, network::read_tap_row(taps, k));
-        k += 1;
+    for k in 0..network.tap_count {
+        put_tap_line(to, k as u32, network::read_tap_row(network.taps, k));
     }
-    to
 }

@@ -2,72 +2,62 @@
 #![tactic(auto)]
 
 ghost use Rattle.std.specs.Prelude.{◌≡◌, ◌+◌, ◌≤◌, length};
-ghost use Rattle.refusal.specs.Answer.{filled};
-ghost use Rattle.network.specs.Rows.{row_table, tap_table};
-ghost use Rattle.text.specs.Inner.{PutAll};
+ghost use Rattle.refusal.specs.Answer.{filled, answer_of};
+ghost use Rattle.network.specs.Inner.{WithinBounds};
+ghost use Rattle.text.specs.Inner.{WroteAll};
 ghost use Rattle.verilog_text.specs.Text.{module_line};
 ghost use Rattle.verilog_text.specs.Written.{text_in, length_answer, VerilogWritten};
-ghost use Rattle.verilog_writer.specs.Answer.{answer_of};
 
-use network_check::Checked;
+use network::NetworkTables;
 use refusal::Refusal;
-use text::put;
-
-#[derive(Clone, Copy)]
-pub enum Written {
-    Length(usize),
-    Refused(Refusal),
-}
+use text::Writer;
 
 // The module line of m taps.
-fn put_module_line(out: &mut [u8], at: usize, m: usize) -> usize
-    requires { (m ≤ 256) × (at + length (module_line m) ≤ length out.old) }
-    ensures { PutAll out.old at (module_line m) out.new result }
+fn put_module_line(to: &mut Writer, m: usize)
+    requires { (m ≤ 256) × (to.old.at + length (module_line m) ≤ length to.old.area.now) }
+    ensures { WroteAll to.old (module_line m) to.new }
 {
-    let a = put(out, at, b"module smoother(input signed [15:0] x");
-    let b = verilog_taps::put_ports(out, a, m);
-    put(out, b, b");\n")
+    to.put(b"module smoother(input signed [15:0] x");
+    verilog_taps::put_ports(to, m);
+    to.put(b");\n");
 }
 
-// The whole text, at the start of an area that has room for it.
-fn put_text(out: &mut [u8], rows: &[u32], n: usize, taps: &[u32], m: usize) -> usize
-    requires row_table_in_bounds { (row_table ≤ length rows.now) × (n ≤ 4096) × (tap_table ≤ length taps.now) × (m ≤ 256) }
-    requires m_in_bounds { length (text_in rows.now n taps.now m) ≤ length out.old }
-    ensures { PutAll out.old 0 (text_in rows.now n taps.now m) out.new result }
+// The whole text, where there is room for it.
+fn put_text(to: &mut Writer, network: NetworkTables)
+    requires within_bounds { WithinBounds network }
+    requires room { to.old.at + length (text_in network.rows.now network.row_count network.taps.now network.tap_count) ≤ length to.old.area.now }
+    ensures { let net = network.entry in
+        WroteAll to.old (text_in net.rows.now net.row_count net.taps.now net.tap_count) to.new }
 {
-    let a = put_module_line(out, 0, m);
-    let b = verilog_rows::put_wires(out, a, n);
-    let c = verilog_rows::put_row_lines(out, b, rows, n);
-    let d = verilog_taps::put_tap_lines(out, c, taps, m);
-    put(out, d, b"endmodule\n")
+    put_module_line(to, network.tap_count);
+    verilog_rows::put_wires(to, network.row_count);
+    verilog_rows::put_row_lines(to, network);
+    verilog_taps::put_tap_lines(to, network);
+    to.put(b"endmodule\n");
 }
 
 // The text of a network that passes the checks, if the area has room for it.
-fn write_checked(rows: &[u32], n: usize, taps: &[u32], m: usize, text: &mut [u8]) -> Written
-    requires { (row_table ≤ length rows.now) × (n ≤ 4096) × (tap_table ≤ length taps.now) × (m ≤ 256) }
-    ensures result_value { answer_of result ≡ length_answer (length text.old) (text_in rows.now n taps.now m) }
-    ensures text_after { text.new ≡ filled (answer_of result) (text_in rows.now n taps.now m) text.old }
+fn write_checked(network: NetworkTables, text: &mut [u8]) -> Result<usize, Refusal>
+    requires { WithinBounds network }
+    ensures result_value { let net = network.entry in
+        answer_of result ≡ length_answer (length text.old) (text_in net.rows.now net.row_count net.taps.now net.tap_count) }
+    ensures text_after { let net = network.entry in
+        text.new ≡ filled (answer_of result) (text_in net.rows.now net.row_count net.taps.now net.tap_count) text.old }
 {
-    if text.len() < verilog_length::text_bytes(rows, n, taps, m) {
-        return Written::Refused(Refusal::TextTooLong);
+    if text.len() < verilog_length::text_bytes(network) {
+        return Err(Refusal::TextTooLong);
     }
-    Written::Length(put_text(text, rows, n, taps, m))
+    let mut to = Writer { area: text, at: 0 };
+    put_text(&mut to, network);
+    Ok(to.at)
 }
 
 // The network that the two tables hold, as a Verilog module at the start of the area, and the length
 // of that text.
-pub fn write_verilog(
-    rows: &[u32],
-    row_count: usize,
-    taps: &[u32],
-    tap_count: usize,
-    text: &mut [u8],
-) -> Written
-    ensures { VerilogWritten rows.now row_count taps.now tap_count text.old (answer_of result) text.new }
+pub fn write_verilog(network: NetworkTables, text: &mut [u8]) -> Result<usize, Refusal>
+    ensures { VerilogWritten network.entry.rows.now network.entry.row_count network.entry.taps.now network.entry.tap_count
+        text.old (answer_of result) text.new }
 {
-    let answer = network_check::check(rows, row_count, taps, tap_count);
-    match answer {
-        Checked::Passed => write_checked(rows, row_count, taps, tap_count, text),
-        Checked::Refused(refusal) => Written::Refused(refusal),
-    }
+    network_check::check(network)?;
+    write_checked(network, text)
 }

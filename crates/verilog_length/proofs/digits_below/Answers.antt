@@ -9,6 +9,6 @@ pub returns : goal.returns
 unfolding digits_below_of
 returns c =
     let n = c.args.n in
-    let all : n + c.past.result + c.past-2.result + c.past-3.result ≡ digits_from 0 n
-    = omega (arith, c.past.ensures, c.past-2.ensures, c.past-3.ensures, digits_below_lem n (omega (arith, c.requires))) in
-    (all, omega (arith, c.past.ensures, c.past-2.ensures, c.past-3.ensures))
+    let all : n + c.saturating_sub.result + c.saturating_sub-2.result + c.saturating_sub-3.result ≡ digits_from 0 n
+    = omega (arith, c.saturating_sub.ensures, c.saturating_sub-2.ensures, c.saturating_sub-3.ensures, digits_below_lem n (omega (arith, c.requires))) in
+    (all, omega (arith, c.saturating_sub.ensures, c.saturating_sub-2.ensures, c.saturating_sub-3.ensures))

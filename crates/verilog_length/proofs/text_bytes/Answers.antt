@@ -8,12 +8,12 @@ use Rattle.verilog_length.proofs.text_bytes.Goals as goal
 
 pub returns : goal.returns
 returns c =
-    let args = c.args in
-    let n = length_up_to args.n (row_at args.rows.now) in
-    let m = length_up_to args.m (tap_row_at args.taps.now) in
+    let net = c.args.network in
+    let n = length_up_to net.row_count (row_at net.rows.now) in
+    let m = length_up_to net.tap_count (tap_row_at net.taps.now) in
     omega (
       arith,
-      text_length (network_of args.rows.now args.n args.taps.now args.m),
+      text_length (network_of net.rows.now net.row_count net.taps.now net.tap_count),
       n,
       m,
       ap (digits_from 0) n,

@@ -4,7 +4,7 @@ use Rattle.verilog_rows.proofs.put_shifted_first.Goals as goal
 
 pub returns : goal.returns
 returns c =
-    then_all c.put_with-a.ensures.put_all
-    (then_all c.put_with-b.ensures.put_all
-    (then_all c.put_with-c.ensures.put_all
-    (then_all c.put_operand-d.ensures.put_all c.put.ensures)))
+    then_all c.put_with.ensures.put_all
+    (then_all c.put_with-2.ensures.put_all
+    (then_all c.put_with-3.ensures.put_all
+    (then_all c.put_operand.ensures c.put.ensures)))

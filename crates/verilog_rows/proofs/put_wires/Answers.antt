@@ -1,6 +1,5 @@
--- `verilog_rows::put_wires` meets its contract. The invariant of its loop: the wires of the numbers below `row` stand from `at` to `to`. The measure is the count of numbers left. Assumes nothing.
-use borrow.Author.Rules.{rules}
-use mathlib.Core.Path.{◌≡◌, refl, sym, ◌∙◌}
+-- `verilog_rows::put_wires` meets its contract. Assumes nothing.
+use mathlib.Core.Path.{sym}
 use mathlib.Core.List.{append_assoc}
 use native.Mathlib.Omega.{arith}
 use Rattle.text.specs.Ascii.{ascii}
@@ -13,47 +12,20 @@ use Rattle.verilog_text.proofs.Lengths.{wire_length}
 use Rattle.verilog_rows.proofs.put_wires.Goals as goal
 
 pub loop-row-init : goal.loop-row-init
-loop-row-init c = (search rules, (none_put wire_line _ _, refl))
+loop-row-init c = none_put wire_line c.args.to.now
 
-pub put_with-to-requires : goal.put_with-to-requires
-put_with-to-requires c =
+pub put_with-requires : goal.put_with-requires
+put_with-requires c =
     let row = c.loop-row.row in
-    omega (
-      arith,
-      c.requires.1,
-      c.loop-row.invariant.1.0.next,
-      c.loop-row.invariant.1.1,
-      wire_length row,
-      room_next (numbered_from wire_line 0) wire_line (numbered_next wire_line) row c.args.n c.loop-row-test.true,
-    )
+    omega (arith, c.requires.1, c.loop-row.invariant.next, c.loop-row.invariant.same_length, wire_length row, room_next (numbered_from wire_line 0) wire_line (numbered_next wire_line) row c.args.n (omega arith))
 
-pub put-to-requires : goal.put-to-requires
-put-to-requires c =
+pub put-requires : goal.put-requires
+put-requires c =
     let row = c.loop-row.row in
-    omega (
-      arith,
-      c.put_with-to.ensures.value,
-      c.put_with-to.auto.out,
-      c.requires.1,
-      c.loop-row.invariant.1.0.next,
-      c.loop-row.invariant.1.1,
-      wire_length row,
-      room_next (numbered_from wire_line 0) wire_line (numbered_next wire_line) row c.args.n c.loop-row-test.true,
-    )
+    omega (arith, c.requires.1, c.put_with.ensures.value, c.put_with.ensures.put_all.same_length, c.loop-row.invariant.next, c.loop-row.invariant.same_length, wire_length row, room_next (numbered_from wire_line 0) wire_line (numbered_next wire_line) row c.args.n (omega arith))
 
 pub loop-row-preserved : goal.loop-row-preserved
 loop-row-preserved c =
     let row = c.loop-row.row in
-    let line = put_as (sym (append_assoc (ascii "wire signed [63:0] n") (decimal row) (ascii ";\n"))) (then_all c.put_with-to.ensures.put_all c.put-to.ensures) in (
-      search rules,
-      (
-        rw (numbered_next wire_line row) (then_all c.loop-row.invariant.1.0 line),
-        c.put-to.auto.out ∙ c.put_with-to.auto.out ∙ c.loop-row.invariant.1.1,
-      ),
-    )
-
-pub returns : goal.returns
-returns c =
-    let start = c.args in
-    let all : c.loop-row.row ≡ start.n = omega (arith, c.loop-row-test.false, c.loop-row.invariant.0) in
-    rw all at c.loop-row.invariant.1.0
+    let line = put_as (sym (append_assoc (ascii "wire signed [63:0] n") (decimal row) (ascii ";\n"))) (then_all c.put_with.ensures.put_all c.put.ensures) in
+    rw (numbered_next wire_line row) (then_all c.loop-row.invariant line)

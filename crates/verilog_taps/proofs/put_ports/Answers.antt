@@ -1,6 +1,4 @@
--- `verilog_taps::put_ports` meets its contract. The invariant of its loop: the ports of the numbers below k stand from `at` to `to`. The measure is the count of numbers left. Assumes nothing.
-use borrow.Author.Rules.{rules}
-use mathlib.Core.Path.{◌≡◌, refl, ◌∙◌}
+-- `verilog_taps::put_ports` meets its contract. Assumes nothing.
 use native.Mathlib.Omega.{arith}
 use Rattle.text.specs.Lines.{numbered_from}
 use Rattle.text.proofs.Puts.{then_all}
@@ -10,32 +8,19 @@ use Rattle.verilog_text.proofs.Lengths.{port_length}
 use Rattle.verilog_taps.proofs.put_ports.Goals as goal
 
 pub loop-k-init : goal.loop-k-init
-loop-k-init c = (search rules, (none_put port _ _, refl))
+loop-k-init c = none_put port c.args.to.now
 
-pub put_with-to-requires : goal.put_with-to-requires
-put_with-to-requires c =
+pub put_with-requires : goal.put_with-requires
+put_with-requires c =
     let k = c.loop-k.k in
     omega (
       arith,
       c.requires.1,
-      c.loop-k.invariant.1.0.next,
-      c.loop-k.invariant.1.1,
+      c.loop-k.invariant.next,
+      c.loop-k.invariant.same_length,
       port_length k,
-      room_next (numbered_from port 0) port (numbered_next port) k c.args.m c.loop-k-test.true,
+      room_next (numbered_from port 0) port (numbered_next port) k c.args.m (omega arith),
     )
 
 pub loop-k-preserved : goal.loop-k-preserved
-loop-k-preserved c =
-    let k = c.loop-k.k in (
-      search rules,
-      (
-        rw (numbered_next port k) (then_all c.loop-k.invariant.1.0 c.put_with-to.ensures.put_all),
-        c.put_with-to.auto.out ∙ c.loop-k.invariant.1.1,
-      ),
-    )
-
-pub returns : goal.returns
-returns c =
-    let start = c.args in
-    let all : c.loop-k.k ≡ start.m = omega (arith, c.loop-k-test.false, c.loop-k.invariant.0) in
-    rw all at c.loop-k.invariant.1.0
+loop-k-preserved c = rw (numbered_next port c.loop-k.k) (then_all c.loop-k.invariant c.put_with.ensures.put_all)

@@ -1,27 +1,19 @@
 -- `verilog_writer::write_checked` meets its contract. Assumes nothing.
-use borrow.Author.Tests.{lt-ltb, le-ltb}
-use mathlib.Core.Path.{◌≡◌, refl, ap, ◌∙◌}
-use mathlib.Core.List.{◌++◌}
-use Prim.Native.Nat.{ℕ, ◌+◌, ◌≤◌, ◌<◌}
+use borrow.Author.Rules.{rules}
+use mathlib.Core.Path.{◌≡◌, ap, ◌∙◌}
+use mathlib.Core.List.{List, ◌++◌}
+use Prim.Native.Nat.{ℕ, ◌+◌, ◌≤◌}
 use native.Mathlib.Omega.{arith}
 use lib.ListN.{length, drop}
-use lib.Seq.{sets-eq}
-use Rattle.refusal.specs.Answer.{given}
-use Rattle.verilog_text.specs.Written.{text_in}
+use lib.Seq.{sets, sets-eq}
 use Rattle.verilog_writer.proofs.write_checked.Goals as goal
 
-pub returns-then-text-text_bytes : goal.returns-then-text-text_bytes
-returns-then-text-text_bytes c =
-    let args = c.args in
-    let text = text_in args.rows.now args.n args.taps.now args.m in
-    let longer : length args.text.now < length text = omega (arith, c.if-text-text_bytes.true, c.text_bytes.ensures) in
-    record { result_value = rw (lt-ltb (length args.text.now) (length text) longer); text_after = refl }
+-- the area, once a text is written at its start
+from_start : (x y text old : List ℕ) → x ≡ y → y ≡ sets old 0 text → length text ≤ length old → x ≡ text ++ drop (length text) old
+from_start x y text old e w h =
+    let from_zero : 0 + length text ≡ length text = omega arith in
+    e ∙ w ∙ sets-eq text old 0 (omega arith) ∙ ap (λ (k : ℕ). text ++ drop k old) from_zero
 
-pub returns : goal.returns
-returns c =
-    let args = c.args in
-    let text = text_in args.rows.now args.n args.taps.now args.m in
-    let fits : length text ≤ length args.text.now = omega (arith, c.if-text-text_bytes.false, c.text_bytes.ensures) in
-    let put = c.put_text in
-    let long : put.result ≡ length text = omega (arith, put.ensures.next) in
-    let from_zero : 0 + length text ≡ length text = omega arith in record { result_value = rw (le-ltb (length args.text.now) (length text) fits) (ap given long); text_after = put.ensures.text ∙ sets-eq text args.text.now 0 (omega (arith, fits)) ∙ ap (λ (k : ℕ). text ++ drop k args.text.now) from_zero }
+pub returns-clause-text_after : goal.returns-clause-text_after
+returns-clause-text_after c =
+    from_start _ c.put_text.new.to.area.now _ c.args.text.now (search rules) c.put_text.ensures.text (omega (arith, c.if-text-text_bytes.false, c.text_bytes.ensures))
