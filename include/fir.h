@@ -22,11 +22,11 @@
  *   stack: fir_form_count         64
  *   stack: fir_write_planes      448
  *   stack: fir_read_planes       640
- *   stack: fir_build           65408
+ *   stack: fir_build           62912
  *   stack: fir_check            1216
  *   stack: fir_coefficients     1280
- *   stack: fir_run              7744
- *   stack: fir_verilog           320 */
+ *   stack: fir_run              7808
+ *   stack: fir_verilog           256 */
 #ifndef FIR_H
 #define FIR_H
 

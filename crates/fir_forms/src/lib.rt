@@ -6,9 +6,8 @@ ghost use Rattle.fir_forms.specs.Listing.{FormsListedWord, FormsCountedWord};
 
 mod reduction;
 
-use fir_words::refusal_word;
-use form_listing::Listing;
-use form_masks::{Form, FormValue, FormWeight};
+use fir_words::store;
+use form_masks::Form;
 pub use reduction::{fir_reduce, fir_trimmed};
 
 // The value of a form.
@@ -16,14 +15,7 @@ pub use reduction::{fir_reduce, fir_trimmed};
 pub extern "C" fn fir_form_value(plus: u32, minus: u32, value: &mut i64) -> u64
     ensures { FormValuedWord plus minus value.old result value.new }
 {
-    let answer = form_masks::value(Form { plus, minus });
-    match answer {
-        FormValue::Refused(refusal) => refusal_word(refusal),
-        FormValue::Value(v) => {
-            *value = v;
-            0
-        }
-    }
+    store(form_masks::value(Form { plus, minus }), value)
 }
 
 // The weight of a form.
@@ -31,14 +23,7 @@ pub extern "C" fn fir_form_value(plus: u32, minus: u32, value: &mut i64) -> u64
 pub extern "C" fn fir_form_weight(plus: u32, minus: u32, weight: &mut u32) -> u64
     ensures { FormWeighedWord plus minus weight.old result weight.new }
 {
-    let answer = form_masks::weight(Form { plus, minus });
-    match answer {
-        FormWeight::Refused(refusal) => refusal_word(refusal),
-        FormWeight::Weight(w) => {
-            *weight = w;
-            0
-        }
-    }
+    store(form_masks::weight(Form { plus, minus }), weight)
 }
 
 // The canonical form of a coefficient.
@@ -63,14 +48,7 @@ pub extern "C" fn fir_minimal_forms(
     ensures { FormsListedWord n plus.old minus.old count.old result
         plus.new minus.new count.new }
 {
-    let answer = form_listing::minimal_forms(n, plus, minus);
-    match answer {
-        Listing::Refused(refusal) => refusal_word(refusal),
-        Listing::Count(k) => {
-            *count = k;
-            0
-        }
-    }
+    store(form_listing::minimal_forms(n, plus, minus), count)
 }
 
 // The number of minimal forms of a coefficient.

@@ -1,27 +1,16 @@
 // Reduction and trimming: functions for C, declared in include/fir.h.
 ghost use Rattle.fir_forms.specs.Reduction.{ReducedToWord, TrimmedToWord};
 
-use coefficient::Reduced;
-
 // The sign, the odd part and the shift of a coefficient; 0 each for zero.
 #[unsafe(no_mangle)]
 pub extern "C" fn fir_reduce(n: i32, negative: &mut u32, odd_part: &mut u32, shift: &mut u32) -> u64
     ensures { ReducedToWord n result negative.new odd_part.new shift.new }
 {
-    match coefficient::reduce(n) {
-        Reduced::Zero => {
-            *negative = 0;
-            *odd_part = 0;
-            *shift = 0;
-            0
-        }
-        Reduced::Split(reduction) => {
-            *negative = reduction.negative as u32;
-            *odd_part = reduction.odd_part;
-            *shift = reduction.shift;
-            0
-        }
-    }
+    let reduction = coefficient::reduce(n).unwrap_or_default();
+    *negative = reduction.negative as u32;
+    *odd_part = reduction.odd_part;
+    *shift = reduction.shift;
+    0
 }
 
 // Where the stretch from the first nonzero coefficient to the last starts and ends.

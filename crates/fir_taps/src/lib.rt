@@ -8,14 +8,15 @@ ghost use Rattle.fir_taps.specs.Rounding.{tap_word_of, TapRoundedWord, TapsRound
 use fir_words::refusal_word;
 use tap::RoundedTap;
 use tap::pattern::of_bits;
-use tap_set::RoundedTaps;
 
+// N's 32 bits, or a refusal number in the upper half.
+// Stays: no `refusal_word`, which has the place too, and `tap_word_of` has none; an edit names the line.
 fn tap_word(tap: RoundedTap) -> u64
     ensures { result ≡ tap_word_of (Tap.answer_of tap) }
 {
     match tap {
-        RoundedTap::Exact(n) => word::pattern(n) as u64,
-        RoundedTap::Rounded(n, _) => word::pattern(n) as u64,
+        RoundedTap::Exact(n) => n.cast_unsigned() as u64,
+        RoundedTap::Rounded(n, _) => n.cast_unsigned() as u64,
         RoundedTap::Refused(refusal) => (refusal::number(refusal) as u64) * 0x1_0000_0000,
     }
 }
@@ -44,8 +45,8 @@ pub extern "C" fn fir_round_taps(
 {
     let answer = tap_set::round_taps(taps, fraction_bits, normalised != 0, coefficients);
     match answer {
-        RoundedTaps::Refused(refusal) => refusal_word(refusal),
-        RoundedTaps::Given(report) => {
+        Err(refusal) => refusal_word(refusal),
+        Ok(report) => {
             *divisor = f64::to_bits(report.divisor);
             *leftover = f64::to_bits(report.leftover);
             0

@@ -3,8 +3,8 @@
 
 ghost use Rattle.fir_verilog.specs.Written.{WrittenWord};
 
-use fir_words::refusal_word;
-use verilog_writer::Written;
+use fir_words::store;
+use network::NetworkTables;
 
 // The network that the tables hold, as a Verilog module at the start of the area, and the length of
 // that text.
@@ -20,12 +20,11 @@ pub extern "C" fn fir_verilog(
     ensures { WrittenWord rows.now row_count taps.now tap_count text.old length.old
         result text.new length.new }
 {
-    let answer = verilog_writer::write_verilog(rows, row_count, taps, tap_count, text);
-    match answer {
-        Written::Refused(refusal) => refusal_word(refusal),
-        Written::Length(n) => {
-            *length = n;
-            0
-        }
-    }
+    let network = NetworkTables {
+        rows,
+        row_count,
+        taps,
+        tap_count,
+    };
+    store(verilog_writer::write_verilog(network, text), length)
 }

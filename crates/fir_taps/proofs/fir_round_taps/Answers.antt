@@ -1,9 +1,8 @@
--- `fir_taps::fir_round_taps` meets its contract. By the case of the answer. A report's two numbers are no not-a-numbers, so they have bits (`numbers`). Assumes nothing.
-use mathlib.Core.Path.{◌≡◌, refl, sym, subst}
+-- `fir_taps::fir_round_taps` meets its contract. A report's two numbers are no not-a-numbers, so they have bits. Assumes nothing.
+use mathlib.Core.Path.{◌≡◌, sym, subst}
 use mathlib.Core.Bool.{Bool, false, not}
 use lib.Dec.{T}
 use lib.Ieee.{Float, is_nan}
-use Rattle.refusal.specs.Answer.{given, turned_down_of}
 use Rattle.tap_set.proofs.Claims.{set_claims}
 use Rattle.fir_taps.proofs.fir_round_taps.Goals as goal
 
@@ -13,24 +12,10 @@ number x e = subst (λ (b : Bool). T (not b)) (sym e) tt
 
 pub float_to_bits-divisor : goal.float_to_bits-divisor
 float_to_bits-divisor c =
-    let r = c.in-Given.report in
-    number r.divisor (set_claims.never_nan _ _ _ _ r _ (c.in-Given.ensures)).0
+    let r = c.in-Ok.report in
+    number r.divisor (set_claims.never_nan _ _ _ _ r _ (c.in-Ok.ensures)).0
 
 pub float_to_bits-leftover : goal.float_to_bits-leftover
 float_to_bits-leftover c =
-    let r = c.in-Given.report in
-    number r.leftover (set_claims.never_nan _ _ _ _ r _ (c.in-Given.ensures)).1
-
-pub returns-in-Refused : goal.returns-in-Refused
-returns-in-Refused c =
-    record {
-      answer = turned_down_of c.in-Refused.refusal;
-      word = c.refusal_word.ensures;
-      rounded = c.in-Refused.ensures;
-      divisor_bits = refl;
-      leftover_bits = refl;
-    }
-
-pub returns-in-Given : goal.returns-in-Given
-returns-in-Given c =
-    record { answer = given c.in-Given.report; word = refl; rounded = c.in-Given.ensures; divisor_bits = refl; leftover_bits = refl }
+    let r = c.in-Ok.report in
+    number r.leftover (set_claims.never_nan _ _ _ _ r _ (c.in-Ok.ensures)).1
