@@ -3,11 +3,18 @@
 #![tactic(auto)]
 
 mod forms;
+mod shown;
 mod taps;
-mod text;
 
-fn main() {
-    taps::one_by_one();
-    taps::sets();
-    forms::counts();
+use std::io;
+
+fn figures(rt: &impl Print) -> io::Result<()> {
+    taps::one_by_one(rt)?;
+    taps::sets(rt)?;
+    forms::counts(rt)
+}
+
+// A write that fails ends it without a word.
+fn main(rt: HostRuntime) {
+    let _ = figures(&rt);
 }

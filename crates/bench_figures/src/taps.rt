@@ -1,157 +1,199 @@
-// Figures on taps. A number is written as its 16 hexadecimal digits, low numbers in decimal.
-use crate::text::{coefficient, refused, text, whole};
-use refusal::Refusal;
+// Figures on taps.
+ghost use Rattle.std.specs.Prelude.{◌≤◌, ◌^◌, length};
+
+use crate::shown::{Digits, Shown, TurnedDown};
+use bench_second::tap::{SetRefusal, TapRefusal};
+use std::{fmt, io};
 use tap::RoundedTap;
-use tap_set::RoundedTaps;
 
-fn float(x: f64) {
-    if x != x {
-        text(b"nan");
-        return;
-    }
-    io::print_hex(1, f64::to_bits(x), 16);
+// A coefficient, with the leftover of one that is not exact.
+#[derive(Clone, Copy)]
+struct Coefficient {
+    n: i64,
+    leftover: Option<f64>,
 }
 
-fn refusal(r: Refusal) {
-    refused(refusal::number(r), refusal::place(r));
-}
-
-fn rounded(t: RoundedTap) {
-    match t {
-        RoundedTap::Exact(n) => {
-            coefficient(n);
-            text(b" exact");
+impl fmt::Display for Coefficient {
+    fn fmt<W: fmt::Write>(&self, f: &mut fmt::Formatter<W>) -> fmt::Result {
+        match self.leftover {
+            None => write!(f, "{} exact", self.n),
+            Some(leftover) => write!(f, "{} leftover {}", self.n, Digits(leftover)),
         }
-        RoundedTap::Rounded(n, l) => {
-            coefficient(n);
-            text(b" leftover ");
-            float(l);
+    }
+}
+
+fn core_tap(tap: f64, f: u32) -> Result<Coefficient, TurnedDown> {
+    match tap::round_tap(tap, f) {
+        RoundedTap::Exact(n) => Ok(Coefficient {
+            n: i64::from(n),
+            leftover: None,
+        }),
+        RoundedTap::Rounded(n, leftover) => Ok(Coefficient {
+            n: i64::from(n),
+            leftover: Some(leftover),
+        }),
+        RoundedTap::Refused(r) => Err(r.into()),
+    }
+}
+
+impl From<TapRefusal> for TurnedDown {
+    fn from(refusal: TapRefusal) -> TurnedDown {
+        TurnedDown {
+            number: refusal.number(),
+            place: 0,
         }
-        RoundedTap::Refused(r) => refusal(r),
     }
 }
 
-fn second_rounded(tap: f64, f: u32) {
-    let r = bench_second::tap::round(tap, f);
-    if r.refusal != 0 {
-        refused(r.refusal, 0);
-        return;
-    }
-    whole(r.negative, r.size);
-    if r.leftover == 0.0 {
-        text(b" exact");
+// N of the second implementation, which holds it as its sign and its magnitude.
+fn signed(tap: bench_second::tap::Rounded) -> i64
+    requires { tap.size ≤ 2 ^ 31 }
+{
+    if tap.negative {
+        -(tap.size as i64)
     } else {
-        text(b" leftover ");
-        float(r.leftover);
+        tap.size as i64
     }
 }
 
-fn figure(tap: f64, f: u32) {
-    text(b"tap ");
-    float(tap);
-    text(b" at ");
-    io::print_decimal(1, f as u64);
-    text(b": ");
-    rounded(tap::round_tap(tap, f));
-    text(b" | ");
-    second_rounded(tap, f);
-    text(b"\n");
-}
-
-pub(crate) fn one_by_one() {
-    figure(0.625, 2);
-    figure(-0.625, 2);
-    figure(0.5, 2);
-    figure(0.5, 0);
-    figure(-0.5, 0);
-    figure(1.5, 0);
-    figure(-1.5, 0);
-    figure(-1.0, 31);
-    figure(1.0, 31);
-    figure(0.99999999999999988897769753748, 31);
-    figure(-0.0, 31);
-    figure(0.49999999999999994448884876874, 0);
-    figure(-2147483648.25, 0);
-    figure(-2147483648.5, 0);
-    figure(2147483647.5, 0);
-    figure(0.0 / 0.0, 3);
-    figure(-1.0 / 0.0, 3);
-    figure(0.625, 32);
-}
-
-fn report(divisor: f64, leftover: f64) {
-    text(b"divisor ");
-    float(divisor);
-    text(b" leftover ");
-    float(leftover);
-    text(b" coefficients");
-}
-
-fn second_set(taps: &[f64], f: u32, normalised: bool) {
-    let r = bench_second::tap::refusal_of_set(taps, f, normalised);
-    if r.refusal != 0 {
-        refused(r.refusal, (r.place % 4294967296) as u32);
-        return;
-    }
-    let divisor = if normalised {
-        bench_second::tap::sum(taps)
+fn second_tap(tap: f64, f: u32) -> Result<Coefficient, TurnedDown> {
+    let rounded = bench_second::tap::round(tap, f)?;
+    let leftover = if rounded.leftover == 0.0 {
+        None
     } else {
-        1.0
+        Some(rounded.leftover)
     };
-    report(
-        divisor,
-        bench_second::tap::largest_leftover(taps, divisor, f),
-    );
-    for i in 0..taps.len() {
-        let t = bench_second::tap::round(taps[i] / divisor, f);
-        text(b" ");
-        whole(t.negative, t.size);
+    Ok(Coefficient {
+        n: signed(rounded),
+        leftover,
+    })
+}
+
+fn figure(rt: &impl Print, tap: f64, f: u32) -> io::Result<()> {
+    println!(rt;
+        "tap {} at {f}: {} | {}",
+        Digits(tap),
+        Shown(core_tap(tap, f)),
+        Shown(second_tap(tap, f))
+    )
+}
+
+pub(crate) fn one_by_one(rt: &impl Print) -> io::Result<()> {
+    let figures = [
+        (0.625, 2),
+        (-0.625, 2),
+        (0.5, 2),
+        (0.5, 0),
+        (-0.5, 0),
+        (1.5, 0),
+        (-1.5, 0),
+        (-1.0, 31),
+        (1.0, 31),
+        (0.99999999999999988897769753748, 31),
+        (-0.0, 31),
+        (0.49999999999999994448884876874, 0),
+        (-2147483648.25, 0),
+        (-2147483648.5, 0),
+        (2147483647.5, 0),
+        (f64::NAN, 3),
+        (f64::NEG_INFINITY, 3),
+        (0.625, 32),
+    ];
+    for (tap, f) in figures {
+        figure(rt, tap, f)?;
+    }
+    Ok(())
+}
+
+// The coefficients of a set, each a T.
+#[derive(Clone, Copy)]
+struct Set<'a, T> {
+    divisor: f64,
+    leftover: f64,
+    coefficients: &'a [T],
+}
+
+impl<'a, T: fmt::Display> fmt::Display for Set<'a, T> {
+    fn fmt<W: fmt::Write>(&self, f: &mut fmt::Formatter<W>) -> fmt::Result {
+        write!(
+            f,
+            "divisor {} leftover {} coefficients",
+            Digits(self.divisor),
+            Digits(self.leftover)
+        )?;
+        for n in self.coefficients {
+            write!(f, " {n}")?;
+        }
+        Ok(())
     }
 }
 
-// The table has room for 4 coefficients.
-fn core_set(taps: &[f64], f: u32, normalised: bool) {
-    let mut table = [0i32; 4];
-    match tap_set::round_taps(taps, f, normalised, &mut table) {
-        RoundedTaps::Refused(r) => refusal(r),
-        RoundedTaps::Given(q) => {
-            report(q.divisor, q.leftover);
-            for i in 0..4 {
-                if i < taps.len() {
-                    text(b" ");
-                    coefficient(table[i]);
-                }
-            }
+fn core_set<'a>(
+    taps: &[f64],
+    f: u32,
+    normalised: bool,
+    table: &'a mut [i32],
+) -> Result<Set<'a, i32>, TurnedDown> {
+    let report = tap_set::round_taps(taps, f, normalised, table)?;
+    Ok(Set {
+        divisor: report.divisor,
+        leftover: report.leftover,
+        coefficients: table,
+    })
+}
+
+impl From<SetRefusal> for TurnedDown {
+    fn from(refusal: SetRefusal) -> TurnedDown {
+        TurnedDown {
+            number: refusal.number(),
+            place: refusal.place(),
         }
     }
 }
 
-fn set(taps: &[f64], f: u32, normalised: bool) {
-    text(b"set ");
-    if normalised {
-        text(b"normalised ");
+fn second_set<'a>(
+    taps: &[f64],
+    f: u32,
+    normalised: bool,
+    table: &'a mut [i64],
+) -> Result<Set<'a, i64>, TurnedDown> {
+    let set = bench_second::tap::judge(taps, f, normalised)?;
+    for (n, tap) in table.iter_mut().zip(taps) {
+        *n = signed(set.round(*tap)?);
     }
-    for i in 0..taps.len() {
-        float(taps[i]);
-        text(b" ");
-    }
-    text(b"at ");
-    io::print_decimal(1, f as u64);
-    text(b": ");
-    core_set(taps, f, normalised);
-    text(b" | ");
-    second_set(taps, f, normalised);
-    text(b"\n");
+    Ok(Set {
+        divisor: set.divisor,
+        leftover: set.largest_leftover(),
+        coefficients: table,
+    })
 }
 
-pub(crate) fn sets() {
-    set(&[1.0, 1.0, 1.0, 1.0], 2, true);
-    set(&[1.0, -1.0], 2, true);
-    set(&[1.0; 0], 2, true);
-    set(&[0.0625, -0.625, 0.625], 2, false);
-    set(&[0.0625, -0.375, 0.625], 2, false);
-    set(&[1.0, 2.0, 4.0], 5, true);
-    set(&[3.0, 0.0 / 0.0, 1.0 / 0.0], 2, false);
-    set(&[1.0, -1.0, 4.9e-324], 2, true);
-    set(&[1.0, 3.0, 4.0], 31, false);
+// Of up to 4 taps.
+fn figure_of_set(rt: &impl Print, taps: &[f64], f: u32, normalised: bool) -> io::Result<()>
+    requires { length taps.now ≤ 4 }
+{
+    let n = taps.len();
+    let mut table = [0i32; 4];
+    let mut second = [0i64; 4];
+    print!(rt; "set {}", if normalised { "normalised " } else { "" })?;
+    for tap in taps {
+        print!(rt; "{} ", Digits(*tap))?;
+    }
+    println!(rt;
+        "at {f}: {} | {}",
+        Shown(core_set(taps, f, normalised, &mut table[..n])),
+        Shown(second_set(taps, f, normalised, &mut second[..n]))
+    )
+}
+
+pub(crate) fn sets(rt: &impl Print) -> io::Result<()> {
+    figure_of_set(rt, &[1.0, 1.0, 1.0, 1.0], 2, true)?;
+    figure_of_set(rt, &[1.0, -1.0], 2, true)?;
+    figure_of_set(rt, &[], 2, true)?;
+    figure_of_set(rt, &[0.0625, -0.625, 0.625], 2, false)?;
+    figure_of_set(rt, &[0.0625, -0.375, 0.625], 2, false)?;
+    figure_of_set(rt, &[1.0, 2.0, 4.0], 5, true)?;
+    figure_of_set(rt, &[3.0, f64::NAN, f64::INFINITY], 2, false)?;
+    figure_of_set(rt, &[1.0, -1.0, 4.9e-324], 2, true)?;
+    figure_of_set(rt, &[1.0, 3.0, 4.0], 31, false)
 }

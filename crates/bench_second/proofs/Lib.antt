@@ -1,4 +1,1 @@
-pub mod Finite
 pub mod Least
-pub mod Nought
-pub mod Rounded

@@ -1,9 +1,15 @@
 -- What the second implementation promises. The crates that it is compared with are not named here. Definitions only.
-use Rattle.std.specs.Prelude.{◌≡◌, ℕ, zero, suc, ◌+◌, ◌-◌, ◌/◌, ◌%◌, ◌^◌, ◌<◌, ◌≤◌, Bool, true, false, cond, List, [], pos, nat_lt, Float}
+use Rattle.std.specs.Prelude.{◌≡◌, ℕ, zero, suc, ◌+◌, ◌-◌, ◌/◌, ◌%◌, ◌^◌, ◌<◌, ◌≤◌, false, cond, List, [], pos, nat_lt, Float, Result, Err, IfOk, IfErr}
 use mathlib.Core.List.{foldl}
-use Rattle.std.specs.Float.{nan, inf, fin, binary64}
+use Rattle.std.specs.Float.{fin, binary64, float_is_finite}
 use Rattle.std.specs.Float.Ieee.{add}
 use Rattle.bench_second.specs.declared.form.LeastWeight.{LeastWeight}
+use Rattle.bench_second.specs.declared.tap.Rounded.{Rounded}
+use Rattle.bench_second.specs.declared.tap.TapRefusal.{TapRefusal}
+use Rattle.bench_second.specs.declared.tap.TapRefusal.TheVariants.{FractionBits, NotFinite, OutOfBounds}
+use Rattle.bench_second.specs.declared.tap.SetRefusal.{SetRefusal}
+use Rattle.bench_second.specs.declared.tap.SetRefusal.TheVariants as S
+use Rattle.bench_second.specs.declared.tap.SetRefusal.TheVariants.{NoTaps, TooManyTaps, NotNormalisable}
 
 -- +0
 abbrev pub nought : Float
@@ -36,45 +42,62 @@ least_both (suc n) m = with_bit (m % 2) (least_both n (m / 2))
 pub record LeastFound (magnitude : ℕ) (found : LeastWeight) : Type 0 where
   pub least : found ≡ (least_both 32 magnitude).this
 
--- neither infinite nor not-a-number
-abbrev pub is_finite : Float → Bool
-is_finite nan = false
-is_finite (inf s) = false
-is_finite (fin s m e) = true
+-- the number of what a tap is turned down for
+abbrev pub tap_number_of : TapRefusal → ℕ
+tap_number_of FractionBits = 4
+tap_number_of NotFinite = 5
+tap_number_of OutOfBounds = 6
 
--- the contract of `tap::round`, over the refusal number (0 for none), the sign and the magnitude of N:
--- refusal 4 exactly where F is above 31, else 5 exactly where the tap is not finite, else none or 6; N within the bounds, and 0 where it is refused
-pub record RoundedByDigits (tap : Float) (f refusal : ℕ) (negative : Bool) (size : ℕ) : Type 0 where
-  pub four_above : 31 < f → refusal ≡ 4
-  pub four_only : refusal ≡ 4 → 31 < f
-  pub five_there : f ≤ 31 → is_finite tap ≡ false → refusal ≡ 5
-  pub five_only : refusal ≡ 5 → is_finite tap ≡ false
-  pub lowest_number : 0 < refusal → 4 ≤ refusal
-  pub highest_number : refusal ≤ 6
-  pub least_bound : size ≤ 2 ^ 31
-  pub greatest_bound : negative ≡ false → size ≤ 2 ^ 31 - 1
-  pub refused_size : 0 < refusal → size ≡ 0
+-- the contract of `tap::round`: turned down for F exactly where F is above 31, else as not finite exactly where the tap is not; else N is within the bounds, or turned down as out of them
+pub record RoundedByDigits (tap : Float) (f : ℕ) (outcome : Result Rounded TapRefusal) : Type 0 where
+  pub four_above : 31 < f → outcome ≡ Err FractionBits
+  pub four_only : outcome ≡ Err FractionBits → 31 < f
+  pub five_there : f ≤ 31 → float_is_finite tap ≡ false → outcome ≡ Err NotFinite
+  pub five_only : outcome ≡ Err NotFinite → float_is_finite tap ≡ false
+  pub least_bound : IfOk outcome (λ n. n.size ≤ 2 ^ 31)
+  pub greatest_bound : IfOk outcome (λ n. n.negative ≡ false → n.size ≤ 2 ^ 31 - 1)
 
 -- the contract of `tap::sum`: from +0 in order, each addition rounded once
 pub record Summed (taps : List Float) (s : Float) : Type 0 where
   pub sum : s ≡ foldl (add binary64) nought taps
 
--- the contract of `tap::largest_leftover`
+-- the contract of `tap::TapSet::largest_leftover`
 pub record LargestFound (taps : List Float) (leftover : Float) : Type 0 where
   pub no_taps : taps ≡ [] → leftover ≡ nought
 
--- the contract of `tap::refusal_of_set`, over the number of taps:
--- 1, 2 and 4 in this order, each exactly where it applies, else none, 5, 6 or 7; the place of a tap
-pub record SetJudged (count f refusal place : ℕ) : Type 0 where
-  pub no_taps : count ≡ 0 → refusal ≡ 1
-  pub too_many : 256 < count → refusal ≡ 2
-  pub fraction : 0 < count → count ≤ 256 → 31 < f → refusal ≡ 4
-  pub lowest_number : 0 < count → count ≤ 256 → f ≤ 31 → 0 < refusal → 5 ≤ refusal
-  pub highest_number : refusal ≤ 7
-  pub tap_place : 0 < place → place < count
+-- the number of what a set is turned down for, and its place
+abbrev pub number_of : SetRefusal → ℕ
+number_of NoTaps = 1
+number_of TooManyTaps = 2
+number_of S.FractionBits = 4
+number_of (S.NotFinite k) = 5
+number_of (S.OutOfBounds k) = 6
+number_of (NotNormalisable k) = 7
 
--- the refusal of a set whose taps are finite, over the number of taps: none, 5, 6 or 7
-pub record Judged (count refusal place : ℕ) : Type 0 where
-  pub lowest_number : 0 < refusal → 5 ≤ refusal
-  pub highest_number : refusal ≤ 7
-  pub tap_place : 0 < place → place < count
+abbrev pub place_of : SetRefusal → ℕ
+place_of NoTaps = 0
+place_of TooManyTaps = 0
+place_of S.FractionBits = 0
+place_of (S.NotFinite k) = k
+place_of (S.OutOfBounds k) = k
+place_of (NotNormalisable k) = k
+
+-- turned down for one of the taps: not finite, out of bounds or not to be normalised, and which
+abbrev pub OfTap : ℕ → SetRefusal → Type 0
+OfTap count NoTaps = ⊥
+OfTap count TooManyTaps = ⊥
+OfTap count S.FractionBits = ⊥
+OfTap count (S.NotFinite k) = k < count
+OfTap count (S.OutOfBounds k) = k < count
+OfTap count (NotNormalisable k) = k < count
+
+-- the contract of `tap::judge`, over the number of taps: no taps, too many and F in this order, each exactly where it applies, else accepted or turned down for a tap
+pub record SetJudged {A : Type 0} (count f : ℕ) (outcome : Result A SetRefusal) : Type 0 where
+  pub no_taps : count ≡ 0 → outcome ≡ Err NoTaps
+  pub too_many : 256 < count → outcome ≡ Err TooManyTaps
+  pub fraction : 0 < count → count ≤ 256 → 31 < f → outcome ≡ Err S.FractionBits
+  pub of_tap : 0 < count → count ≤ 256 → f ≤ 31 → IfErr outcome (OfTap count)
+
+-- a set whose taps are finite, over the number of taps: accepted, or turned down for a tap
+pub record Judged (count : ℕ) (outcome : Result (Unit {0}) SetRefusal) : Type 0 where
+  pub of_tap : IfErr outcome (OfTap count)

@@ -3,6 +3,8 @@
 ghost use Rattle.std.specs.Prelude.{◌≡◌, ◌+◌, ◌^◌, ◌<◌, ◌≤◌};
 ghost use Rattle.bench_second.specs.Inner.{of_odd_of, LeastFound};
 
+use std::cmp::Ordering;
+
 #[derive(Clone, Copy)]
 pub struct LeastWeight {
     pub weight: u32,
@@ -10,25 +12,24 @@ pub struct LeastWeight {
 }
 
 // Of an odd number, by the halves of its two neighbours.
+#[tactic(auto, unfolding(crate::specs::Inner::of_odd_of))]
 fn of_odd(below: LeastWeight, above: LeastWeight) -> LeastWeight
     requires { ((below.weight ≤ 33) × (above.weight ≤ 33)) × (below.count + above.count < 2 ^ 32) }
     ensures { result ≡ of_odd_of below above }
 {
-    if below.weight < above.weight {
-        return LeastWeight {
+    match below.weight.cmp(&above.weight) {
+        Ordering::Less => LeastWeight {
             weight: below.weight + 1,
             count: below.count,
-        };
-    }
-    if above.weight < below.weight {
-        return LeastWeight {
+        },
+        Ordering::Greater => LeastWeight {
             weight: above.weight + 1,
             count: above.count,
-        };
-    }
-    LeastWeight {
-        weight: below.weight + 1,
-        count: below.count + above.count,
+        },
+        Ordering::Equal => LeastWeight {
+            weight: below.weight + 1,
+            count: below.count + above.count,
+        },
     }
 }
 
@@ -36,7 +37,6 @@ fn of_odd(below: LeastWeight, above: LeastWeight) -> LeastWeight
 pub fn least(magnitude: u32) -> LeastWeight
     ensures { LeastFound magnitude result }
 {
-    let mut bit: u32 = 0x8000_0000;
     let mut here = LeastWeight {
         weight: 0,
         count: 1,
@@ -45,14 +45,13 @@ pub fn least(magnitude: u32) -> LeastWeight
         weight: 1,
         count: 1,
     };
-    while bit > 0 {
+    for place in (0..32u32).rev() {
         let odd = of_odd(here, next);
-        if magnitude / bit % 2 == 0 {
+        if (magnitude >> place) % 2 == 0 {
             next = odd;
         } else {
             here = odd;
         }
-        bit = bit / 2;
     }
     here
 }

@@ -1,34 +1,41 @@
 // Rounding a tap digit by digit, by exact sums and differences of floats.
-ghost use Rattle.std.specs.Prelude.{◌≡◌, ◌-◌, ◌^◌, ◌≤◌, false, length};
-ghost use Rattle.bench_second.specs.Inner.{RoundedByDigits, Summed, LargestFound, SetJudged, Judged};
+ghost use Rattle.std.specs.Prelude.{◌≡◌, ◌-◌, ◌^◌, ◌≤◌, ◌<◌, false, length, IfSome, IfOk};
+ghost use Rattle.bench_second.specs.Inner.{RoundedByDigits, Summed, LargestFound, SetJudged, Judged, tap_number_of, number_of, place_of};
 
+// Why a tap is turned down.
+#[derive(Clone, Copy, PartialEq, Eq)]
+pub enum TapRefusal {
+    FractionBits,
+    NotFinite,
+    OutOfBounds,
+}
+
+impl TapRefusal {
+    // The number in the table.
+    pub fn number(self) -> u32
+        ensures { result ≡ tap_number_of self }
+    {
+        match self {
+            TapRefusal::FractionBits => 4,
+            TapRefusal::NotFinite => 5,
+            TapRefusal::OutOfBounds => 6,
+        }
+    }
+}
+
+// The sign and the magnitude of N, and the leftover.
 #[derive(Clone, Copy)]
 pub struct Rounded {
-    // The refusal number, 0 for none.
-    pub refusal: u32,
     pub negative: bool,
     pub size: u64,
     pub leftover: f64,
 }
 
-fn refused(refusal: u32) -> Rounded
-    ensures { (result.refusal ≡ refusal) × (result.size ≡ 0) }
-{
-    Rounded {
-        refusal,
-        negative: false,
-        size: 0,
-        leftover: 0.0,
-    }
-}
-
 // x doubled f times.
 fn doubled(x: f64, f: u32) -> f64 {
     let mut y = x;
-    let mut i = 0;
-    while i < f {
-        y = y + y;
-        i += 1;
+    for _ in 0..f {
+        y += y;
     }
     y
 }
@@ -36,7 +43,7 @@ fn doubled(x: f64, f: u32) -> f64 {
 // A whole number and the rest of what it was taken from.
 #[derive(Clone, Copy)]
 pub struct Parts {
-    pub whole: u64,
+    pub whole: u32,
     pub rest: f64,
 }
 
@@ -44,25 +51,22 @@ pub struct Parts {
 fn whole_part(x: f64) -> Parts {
     let mut whole = 0;
     let mut rest = x;
-    let mut power = 2147483648.0;
-    let mut weight: u64 = 2147483648;
-    while weight > 0 {
-        if rest >= power {
-            rest = rest - power;
-            whole = std::num::wrapping_add_u64(whole, weight);
+    for place in (0..32u32).rev() {
+        let power = 1u32 << place;
+        if rest >= f64::from(power) {
+            rest -= f64::from(power);
+            whole |= power;
         }
-        power = power / 2.0;
-        weight = weight / 2;
     }
     Parts { whole, rest }
 }
 
 // Whether a whole number and the rest go up: past a half, and at a half from an odd number.
-fn goes_up(whole: u64, rest: f64) -> bool {
-    if rest == 0.5 {
-        whole % 2 == 1
+fn goes_up(parts: Parts) -> bool {
+    if parts.rest == 0.5 {
+        parts.whole % 2 == 1
     } else {
-        rest > 0.5
+        parts.rest > 0.5
     }
 }
 
@@ -72,128 +76,162 @@ fn most(negative: bool) -> u64
     if negative { 2147483648 } else { 2147483647 }
 }
 
-fn signed(negative: bool, x: f64) -> f64 {
-    if negative { -x } else { x }
-}
-
-// The refusal number, and the sign and the magnitude of N with the leftover.
-pub fn round(tap: f64, f: u32) -> Rounded
-    ensures { RoundedByDigits tap f result.refusal result.negative result.size }
+// N and the leftover of a tap.
+pub fn round(tap: f64, f: u32) -> Result<Rounded, TapRefusal>
+    ensures { RoundedByDigits tap f result }
 {
     if f > 31 {
-        return refused(4);
+        return Err(TapRefusal::FractionBits);
     }
-    if tap - tap != 0.0 {
-        return refused(5);
+    if !tap.is_finite() {
+        return Err(TapRefusal::NotFinite);
     }
     let negative = tap < 0.0;
-    let size = doubled(signed(negative, tap), f);
-    if size >= 4294967296.0 {
-        return refused(6);
+    let scaled = doubled(tap.abs(), f);
+    if scaled >= 4294967296.0 {
+        return Err(TapRefusal::OutOfBounds);
     }
-    let parts = whole_part(size);
-    let up = goes_up(parts.whole, parts.rest);
-    let whole = if up {
-        std::num::wrapping_add_u64(parts.whole, 1)
-    } else {
-        parts.whole
-    };
-    if whole > most(negative) {
-        return refused(6);
+    let parts = whole_part(scaled);
+    let up = goes_up(parts);
+    let size = u64::from(parts.whole) + u64::from(up);
+    if size > most(negative) {
+        return Err(TapRefusal::OutOfBounds);
     }
     let rest = if up { parts.rest - 1.0 } else { parts.rest };
-    Rounded {
-        refusal: 0,
+    let leftover = if negative { -rest } else { rest };
+    Ok(Rounded {
         negative,
-        size: whole,
-        leftover: signed(negative, rest),
-    }
+        size,
+        leftover,
+    })
 }
 
 // The taps added in order.
 pub fn sum(taps: &[f64]) -> f64
     ensures { Summed taps.now result }
 {
-    let mut s = 0.0;
-    for i in 0..taps.len() {
-        s = s + taps[i];
-    }
-    s
+    taps.iter().fold(0.0, |s, t| s + *t)
 }
 
-// The first number of a set that is refused so, or the length.
-fn first_refused(taps: &[f64], divisor: f64, f: u32, refusal: u32) -> usize
-    ensures { result ≤ length taps.now }
-{
-    for i in 0..taps.len() {
-        if round(taps[i] / divisor, f).refusal == refusal {
-            return i;
-        }
-    }
-    taps.len()
-}
-
-// The leftover of a set that is largest in size, and the earliest of equals.
-pub fn largest_leftover(taps: &[f64], divisor: f64, f: u32) -> f64
-    ensures { LargestFound taps.now result }
-{
-    let mut largest = 0.0;
-    for i in 0..taps.len() {
-        let l = round(taps[i] / divisor, f).leftover;
-        if signed(l < 0.0, l) > signed(largest < 0.0, largest) {
-            largest = l;
-        }
-    }
-    largest
-}
-
+// Why a set is turned down, with the place of the tap where there is one.
 #[derive(Clone, Copy)]
-pub struct SetRefusal {
-    pub refusal: u32,
-    pub place: usize,
+pub enum SetRefusal {
+    NoTaps,
+    TooManyTaps,
+    FractionBits,
+    NotFinite(usize),
+    OutOfBounds(usize),
+    NotNormalisable(usize),
 }
 
-fn turned_down(refusal: u32, place: usize) -> SetRefusal
-    ensures { (result.refusal ≡ refusal) × (result.place ≡ place) }
-{
-    SetRefusal { refusal, place }
-}
-
-// Why a set of finite taps is refused: 0 for none.
-fn refusal_of_numbers(taps: &[f64], divisor: f64, f: u32) -> SetRefusal
-    ensures { Judged (length taps.now) result.refusal result.place }
-{
-    let infinite = first_refused(taps, divisor, f, 5);
-    if infinite < taps.len() {
-        return turned_down(7, infinite);
+impl SetRefusal {
+    // The number in the table.
+    pub fn number(self) -> u32
+        ensures { result ≡ number_of self }
+    {
+        match self {
+            SetRefusal::NoTaps => 1,
+            SetRefusal::TooManyTaps => 2,
+            SetRefusal::FractionBits => 4,
+            SetRefusal::NotFinite(_) => 5,
+            SetRefusal::OutOfBounds(_) => 6,
+            SetRefusal::NotNormalisable(_) => 7,
+        }
     }
-    let outside = first_refused(taps, divisor, f, 6);
-    if outside < taps.len() {
-        return turned_down(6, outside);
+
+    // The place, counted from 0.
+    pub fn place(self) -> usize
+        ensures { result ≡ place_of self }
+    {
+        match self {
+            SetRefusal::NotFinite(tap)
+            | SetRefusal::OutOfBounds(tap)
+            | SetRefusal::NotNormalisable(tap) => tap,
+            SetRefusal::NoTaps | SetRefusal::TooManyTaps | SetRefusal::FractionBits => 0,
+        }
     }
-    turned_down(0, 0)
 }
 
-// Why a set with room for its coefficients is refused: 0 for none.
-pub fn refusal_of_set(taps: &[f64], f: u32, normalised: bool) -> SetRefusal
-    ensures { SetJudged (length taps.now) f result.refusal result.place }
+// A set of taps, and what each is divided by before it is rounded.
+#[derive(Clone, Copy)]
+pub struct TapSet<'a> {
+    pub taps: &'a [f64],
+    pub divisor: f64,
+    pub f: u32,
+}
+
+impl<'a> TapSet<'a> {
+    // N and the leftover of one of the taps.
+    pub fn round(self, tap: f64) -> Result<Rounded, TapRefusal>
+        ensures { IfOk result (λ n. n.size ≤ 2 ^ 31) }
+    {
+        round(tap / self.divisor, self.f)
+    }
+
+    // The first tap that is turned down so.
+    fn first_refused(self, refusal: TapRefusal) -> Option<usize>
+        ensures { IfSome result (λ k. k < length self.entry.taps.now) }
+    {
+        self.taps
+            .iter()
+            .position(|tap| self.round(*tap).err() == Some(refusal))
+    }
+
+    // The leftover that is largest in size, and the earliest of equals.
+    pub fn largest_leftover(self) -> f64
+        ensures { LargestFound self.entry.taps.now result }
+    {
+        let mut largest: f64 = 0.0;
+        for tap in self.taps {
+            if let Ok(n) = self.round(*tap)
+                && n.leftover.abs() > largest.abs()
+            {
+                largest = n.leftover;
+            }
+        }
+        largest
+    }
+
+    // Whether each of the taps, which are finite, is a coefficient.
+    fn check(self) -> Result<(), SetRefusal>
+        ensures { Judged (length self.entry.taps.now) result }
+    {
+        if let Some(tap) = self.first_refused(TapRefusal::NotFinite) {
+            return Err(SetRefusal::NotNormalisable(tap));
+        }
+        if let Some(tap) = self.first_refused(TapRefusal::OutOfBounds) {
+            return Err(SetRefusal::OutOfBounds(tap));
+        }
+        Ok(())
+    }
+}
+
+// What each tap of a set is divided by, whose coefficients have room.
+pub fn judge(taps: &[f64], f: u32, normalised: bool) -> Result<TapSet<'_>, SetRefusal>
+    ensures { SetJudged (length taps.now) f result }
 {
-    if taps.len() == 0 {
-        return turned_down(1, 0);
+    if taps.is_empty() {
+        return Err(SetRefusal::NoTaps);
     }
     if taps.len() > 256 {
-        return turned_down(2, 0);
+        return Err(SetRefusal::TooManyTaps);
     }
     if f > 31 {
-        return turned_down(4, 0);
+        return Err(SetRefusal::FractionBits);
     }
-    let given = first_refused(taps, 1.0, f, 5);
-    if given < taps.len() {
-        return turned_down(5, given);
+    let given = TapSet {
+        taps,
+        divisor: 1.0,
+        f,
+    };
+    if let Some(tap) = given.first_refused(TapRefusal::NotFinite) {
+        return Err(SetRefusal::NotFinite(tap));
     }
     let divisor = if normalised { sum(taps) } else { 1.0 };
-    if divisor - divisor != 0.0 || divisor == 0.0 {
-        return turned_down(7, 0);
+    if !divisor.is_finite() || divisor == 0.0 {
+        return Err(SetRefusal::NotNormalisable(0));
     }
-    refusal_of_numbers(taps, divisor, f)
+    let set = TapSet { taps, divisor, f };
+    set.check()?;
+    Ok(set)
 }
