@@ -261,7 +261,7 @@ function unlisted(f, i, s, text) {
         if (!(exported[i] in listed)) wrong(exported[i] " is not among the entries of docs/STATEMENTS.md")
 }
 
-# One name for one thing. Only `answer_of` stands once for each enum: what its cases say.
+# One name for one thing. Only `answer_of` stands twice: for one rounded tap's cases, and for every `Result`.
 function twice(i, k, n) {
     for (i = 1; i <= readings; i++)
         for (k = 1; k <= tops[reading[i]]; k++) {

@@ -47,10 +47,10 @@ fn has_function(name: &str) -> bool {
     let Ok(files) = read_dir(source) else {
         return ["crate", "f64"].contains(&first.unwrap());
     };
-    let wanted = format!("fn {}(", last.unwrap());
+    let wanted = ["(", "<"].map(|after| format!("fn {}{after}", last.unwrap()));
     files
         .map(|file| read_to_string(file.unwrap().path()).unwrap())
-        .any(|text| text.contains(&wanted))
+        .any(|text| wanted.iter().any(|start| text.contains(start)))
 }
 
 #[test]
