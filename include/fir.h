@@ -38,9 +38,9 @@ extern "C" {
 #endif
 
 /* The first number changes where a program has to be compiled again. */
-#define FIR_VERSION "1.3"
+#define FIR_VERSION "1.4"
 #define FIR_VERSION_MAJOR 1
-#define FIR_VERSION_MINOR 3
+#define FIR_VERSION_MINOR 4
 
 /* A call answers one 64-bit number. Its upper half is the refusal number, 0 for none. Where nothing
  * else is said, the lower half is the place of the refusal, counted from 0, and 0 where the call is
