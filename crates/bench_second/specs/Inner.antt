@@ -1,5 +1,5 @@
 -- What the second implementation promises. The crates that it is compared with are not named here. Definitions only.
-use Rattle.std.specs.Prelude.{◌≡◌, ℕ, zero, suc, ◌+◌, ◌-◌, ◌/◌, ◌%◌, ◌^◌, ◌<◌, ◌≤◌, false, cond, List, [], pos, nat_lt, Float, Result, Err, IfOk, IfErr}
+use Rattle.std.specs.Prelude.{◌≡◌, ℕ, zero, suc, ◌+◌, ◌-◌, ◌/◌, ◌%◌, ◌^◌, ◌<◌, ◌≤◌, false, cond, List, [], pos, nat_lt, Bool, Float, Result, Err, IfOk, IfErr}
 use mathlib.Core.List.{foldl}
 use Rattle.std.specs.Float.{fin, binary64, float_is_finite}
 use Rattle.std.specs.Float.Ieee.{add}
@@ -60,6 +60,10 @@ pub record RoundedByDigits (tap : Float) (f : ℕ) (outcome : Result Rounded Tap
 -- the contract of `tap::sum`: from +0 in order, each addition rounded once
 pub record Summed (taps : List Float) (s : Float) : Type 0 where
   pub sum : s ≡ foldl (add binary64) nought taps
+
+-- what each tap of a set is divided by: their sum where they are normalised, else 1
+abbrev pub set_divisor : Bool → List Float → Float
+set_divisor normalised taps = cond normalised (foldl (add binary64) nought taps) (fin false 1 (pos 0))
 
 -- the contract of `tap::TapSet::largest_leftover`
 pub record LargestFound (taps : List Float) (leftover : Float) : Type 0 where

@@ -1,6 +1,8 @@
 // Rounding a tap digit by digit, by exact sums and differences of floats.
 ghost use Rattle.std.specs.Prelude.{◌≡◌, ◌-◌, ◌^◌, ◌≤◌, ◌<◌, false, length, IfSome, IfOk};
-ghost use Rattle.bench_second.specs.Inner.{RoundedByDigits, Summed, LargestFound, SetJudged, Judged, tap_number_of, number_of, place_of};
+ghost use Rattle.std.specs.Float.{binary64};
+ghost use Rattle.std.specs.Float.Ieee.{div};
+ghost use Rattle.bench_second.specs.Inner.{RoundedByDigits, Summed, set_divisor, LargestFound, SetJudged, Judged, tap_number_of, number_of, place_of};
 
 // Why a tap is turned down.
 #[derive(Clone, Copy, PartialEq, Eq)]
@@ -163,7 +165,7 @@ pub struct TapSet<'a> {
 impl<'a> TapSet<'a> {
     // N and the leftover of one of the taps.
     pub fn round(self, tap: f64) -> Result<Rounded, TapRefusal>
-        ensures { IfOk result (λ n. n.size ≤ 2 ^ 31) }
+        ensures { RoundedByDigits (div binary64 tap self.entry.divisor) self.entry.f result }
     {
         round(tap / self.divisor, self.f)
     }
@@ -208,7 +210,8 @@ impl<'a> TapSet<'a> {
 
 // What each tap of a set is divided by, whose coefficients have room.
 pub fn judge(taps: &[f64], f: u32, normalised: bool) -> Result<TapSet<'_>, SetRefusal>
-    ensures { SetJudged (length taps.now) f result }
+    ensures judged { SetJudged (length taps.now) f result }
+    ensures given { IfOk result (λ s. (s.taps.now ≡ taps.now) × (s.f ≡ f) × (s.divisor ≡ set_divisor normalised taps.now)) }
 {
     if taps.is_empty() {
         return Err(SetRefusal::NoTaps);

@@ -100,6 +100,6 @@ pub fn coefficients(network: NetworkTables, table: &mut [i32]) -> Result<(), Ref
     }
     let mut buffer = [0; 256];
     keeps_rules(network, &mut buffer)?;
-    table[..network.tap_count].copy_from_slice(&buffer[..network.tap_count]);
+    sequence::copy(&buffer, network.tap_count, table);
     Ok(())
 }

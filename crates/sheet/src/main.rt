@@ -1,13 +1,17 @@
 // Prints the sheet of the taps on standard input. Reading and writing are all that is not proved.
 #![tactic(auto)]
 
+ghost use Rattle.std.specs.Prelude.{IfSome, ◌≤◌, length};
+
 use std::env::{Env, FillError};
 use std::io::Read;
 use std::process::ExitCode;
 
 // The first argument, which stands at the start of the area, or none. One that is longer than the
 // area is empty here.
-fn first_argument<'a, R: Env>(rt: &R, area: &'a mut [u8]) -> Option<&'a [u8]> {
+fn first_argument<'a, R: Env>(rt: &R, area: &'a mut [u8]) -> Option<&'a [u8]>
+    ensures { IfSome result (λ bytes. length bytes.now ≤ length area.old) }
+{
     match rt.arg(1, area) {
         Ok(n) => Some(&area[..n]),
         Err(FillError::TooLong) => Some(&[]),
@@ -17,7 +21,9 @@ fn first_argument<'a, R: Env>(rt: &R, area: &'a mut [u8]) -> Option<&'a [u8]> {
 
 // The input, which stands at the start of the area: until the area is full, the input ends or a read
 // fails.
-fn read_input<'a, R: Read>(input: &mut R, area: &'a mut [u8]) -> &'a [u8] {
+fn read_input<'a, R: Read>(input: &mut R, area: &'a mut [u8]) -> &'a [u8]
+    ensures { length result.now ≤ length area.old }
+{
     let mut done = 0;
     while done < area.len() {
         match input.read(&mut area[done..]) {

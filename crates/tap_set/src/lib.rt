@@ -101,7 +101,7 @@ fn settle<R: Fn(u32) -> Refusal>(
     let mut buffer = [0i32; 256];
     match round_all(xs, f, divisor, &mut buffer) {
         Ok(report) => {
-            coefficients[..n].copy_from_slice(&buffer[..n]);
+            sequence::copy(&buffer, n, coefficients);
             Ok(report)
         }
         Err(refusal) => Err(first_refusal(xs, not_finite, refusal)),

@@ -47,7 +47,8 @@ returns c =
     record {
       answer = e;
       written =
-          ap (λ (b : List ℤ). b ++ drop m table) (c.copy_from_slice.ensures.after ∙ ap (take m) c.in_ok-keeps_rules.ensures.filled ∙ take_padded cs m long)
+          c.copy.ensures
+          ∙ ap (λ (b : List ℤ). b ++ drop m table) (ap (take m) c.in_ok-keeps_rules.ensures.filled ∙ take_padded cs m long)
           ∙ ap (λ (k : ℕ). cs ++ drop k table) (sym long)
           ∙ sym (ap (λ (r : Answer (List ℤ)). filled r cs table) given_cs);
     }

@@ -1,5 +1,5 @@
 -- `tap_set::settle` meets its contract: what is copied are the coefficients of all numbers. Assumes nothing.
-use mathlib.Core.Path.{◌≡◌, sym, ap, ◌∙◌}
+use mathlib.Core.Path.{◌≡◌, refl, sym, ap, ◌∙◌}
 use mathlib.Core.List.{List, ◌++◌}
 use Prim.Native.Nat.{ℕ}
 use lib.IntN.{ℤ}
@@ -24,7 +24,8 @@ pub returns-in-Ok-clause-coefficients_after : goal.returns-in-Ok-clause-coeffici
 returns-in-Ok-clause-coefficients_after g c rule m =
     let a = c.args in
     let xs = a.xs.now in
-    fronts (coefficients_of a.f xs) _ _ _ a.coefficients.now (length xs) (length-map xs (whole a.f)) c.in-Ok.ensures.front c.copy_from_slice.ensures.after
+    c.copy.ensures
+    ∙ fronts (coefficients_of a.f xs) _ _ _ a.coefficients.now (length xs) (length-map xs (whole a.f)) c.in-Ok.ensures.front refl
     ∙ ap (λ (b : Answer Report). filled b (coefficients_of a.f xs) a.coefficients.now) (checked_all rule a.f a.divisor xs _ c.in-Ok.ensures.result_value)
 
 pub returns-in-Err-clause-result_value : goal.returns-in-Err-clause-result_value
