@@ -41,6 +41,9 @@ module _ (P : ℕ → Type 0) (mask : ℕ) where
     pub left : rest ≡ mask / 2 ^ k
     pub below : (i : ℕ) → i < k → mask / 2 ^ i % 2 ≡ 1 → P i
 
+  pub read_none : Read mask 0
+  read_none = record { left = omega arith; below = λ i l e. absurd (omega arith) }
+
   module _ (rest k : ℕ) (r : Read rest k) (small : mask < 2 ^ 8) (some : 1 ≤ rest) where
     abbrev zeros : ℕ
     zeros = count_trailing_zeros 32 rest
@@ -85,6 +88,9 @@ module _ (P : ℕ → Type 0) (mask : ℕ) where
       let d : rest / 2 ^ (i - k) ≡ mask / 2 ^ i = ap (λ (x : ℕ). x / 2 ^ (i - k)) r.left ∙ shr-shr mask k (i - k) ∙ ap (λ (x : ℕ). mask / 2 ^ x) q in
       absurd (omega (arith, d, e, shr_le rest (i - k), z)))
       (cases_lt i k)
+
+pub read_map : (P Q : ℕ → Type 0) (mask rest k : ℕ) → ((i : ℕ) → P i → Q i) → Read P mask rest k → Read Q mask rest k
+read_map P Q mask rest k f r = record { left = r.left; below = λ i l e. f i (r.below i l e) }
 
 -- fewer turns
 pub fewer_named : (number : ℕ → ℕ → Type 0) (table values : List ℕ) (at low low' mask rest k : ℕ) → low' ≤ low

@@ -34,6 +34,15 @@ module _ (r : Rows) (w : Sieve) (v : ℕ) (s : Sifting r w v) where
   abbrev marks : List ℕ
   marks = w.marks.now
 
+  -- ---- the values, and the zeros after them
+  pub values_small : (i : ℕ) → get_or w.values.now i 0 < 2 ^ 31
+  values_small i =
+      ⊎_elim (λ (l : i < r.count). omega (arith, s.sieve.values_are i l, s.bounded i l)) (λ (l : r.count ≤ i). omega (arith, s.sieve.rest i l)) (cases_lt i r.count)
+
+  pub values_new : (i : ℕ) → get_or w.values.now i 0 ≡ v → ⊥
+  values_new i e =
+      ⊎_elim (λ (l : i < r.count). s.new i l (sym (s.sieve.values_are i l) ∙ e)) (λ (l : r.count ≤ i). omega (arith, s.sieve.rest i l, s.new_odd, e)) (cases_lt i r.count)
+
   -- ---- a number whose cell has no mark of a row below m is no such row, lifted
   abbrev None : ℕ → ℕ → Type 0
   None m x = get_or marks (cell_within (length marks) x) 0 * m < 128
@@ -86,3 +95,12 @@ module _ (table marks cells : List ℕ) (at count n : ℕ) (number : ℕ → ℕ
       ⊎_elim (λ (none : mask / 2 ^ i % 2 < 1). fewer_turns table m low (number (value_at table (at + j))) less (no_turn_told j l b (zero_is (omega arith))))
       (λ (some : 1 ≤ mask / 2 ^ i % 2). one_is (omega arith))
       (cases_lt (mask / 2 ^ i % 2) 1)
+
+-- fewer cells
+pub first_cells : (s : Sieve) (at count v : ℕ) (p : Pairs) (k : ℕ) → k ≤ count → InBlock s at count v p → InBlock s at k v p
+first_cells s at count v p k h b = record {
+  within = omega (arith, b.within);
+  from = b.from;
+  few = omega (arith, b.few);
+  cells = record { sums_are = λ j l. b.cells.sums_are j (omega arith); differences_are = λ j l. b.cells.differences_are j (omega arith) };
+}

@@ -4,7 +4,7 @@ use mathlib.Core.Bool.{Bool, true, false, cond}
 use mathlib.Core.List.{List, [], ◌∷◌, ◌++◌, map, append_assoc}
 use Prim.Native.Nat.{ℕ, zero, suc, ◌+◌, ◌-◌, ◌≤◌, ◌<◌}
 use native.Mathlib.Omega.{arith}
-use lib.ListN.{length, take, drop, set, get_or, length-append, length-take, length-drop, length-map}
+use lib.ListN.{length, take-append-drop, take, drop, set, get_or, length-append, length-take, length-drop, length-map}
 use lib.Seq.{length-take-le, take_at, drop_at, drop-drop}
 use Rattle.form_links.specs.Inner.{shifted, grown}
 
@@ -29,9 +29,17 @@ write_end p v [] r h = absurd (omega arith)
 write_end zero v (x ∷ l) r h = refl
 write_end (suc p) v (x ∷ l) r h = ap (λ (z : List ℕ). x ∷ z) (write_end p v l r (omega arith))
 
+no_copy : (n : ℕ) (l : List ℕ) → drop n (take n l) ≡ []
+no_copy zero l = refl
+no_copy (suc n) [] = refl
+no_copy (suc n) (x ∷ l) = no_copy n l
+
 module _ (old : List ℕ) (at n offset : ℕ) where
   abbrev rest : ℕ → List ℕ
   rest i = map (shifted offset) (drop i (take n old)) ++ drop (at + n) old
+
+  pub part_start : Part old at n offset n old
+  part_start = sym (ap (λ (z : List ℕ). take (at + n) old ++ (map (shifted offset) z ++ drop (at + n) old)) (no_copy n old) ∙ take-append-drop (at + n) old)
 
   module _ (room : at + n ≤ length old) (new : List ℕ) where
     part_step : (i v : ℕ) → i < n → v ≡ shifted offset (get_or new i 0) → Part old at n offset (suc i) new → Part old at n offset i (set new (at + i) v)
@@ -51,6 +59,12 @@ module _ (old : List ℕ) (at n offset : ℕ) where
     pub part_next : (i v : ℕ) → 0 < i → i ≤ n → v ≡ shifted offset (get_or new (i - 1) 0) → Part old at n offset i new
         → Part old at n offset (i - 1) (set new (at + (i - 1)) v)
     part_next i v z l e w = let q : i ≡ suc (i - 1) = omega arith in part_step (i - 1) v (omega arith) e (subst (λ (j : ℕ). Part old at n offset j new) q w)
+
+    pub part_end : (i : ℕ) → i ≤ 0 → Part old at n offset i new → new ≡ grown old at n offset
+    part_end i l w =
+        let q : i ≡ 0 = omega arith in
+        let flat : at + 0 ≡ at = omega arith in
+        subst (λ (j : ℕ). Part old at n offset j new) q w ∙ ap (λ (j : ℕ). take j old ++ (map (shifted offset) (take n old) ++ drop (at + n) old)) flat
 
   -- ---- a table that has grown
   copies : List ℕ

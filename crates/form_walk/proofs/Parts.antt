@@ -2,7 +2,7 @@
 use mathlib.Core.Path.{◌≡◌, refl, ap, ap₂, sym, ◌∙◌}
 use Prim.Native.Nat.{ℕ, ◌*◌, ◌<◌, ◌/◌, ◌^◌}
 use native.Mathlib.Omega.{arith}
-use lib.Bits.{bit_and, bit_or}
+use lib.Bits.{bit_and, bit_or, and_le_l, or_lt}
 use lib.IntN.{ℤ, pos, negsuc, nat_abs}
 use Rattle.signed_digit.specs.CanonicalForm.{canonical_nat, canonical}
 use Rattle.form_masks.specs.declared.Form.{Form}
@@ -35,6 +35,9 @@ opposite_in form = bit_or (bit_and form.plus (form.minus / 4)) (bit_and form.min
 
 abbrev equal_in : Form → ℕ
 equal_in form = bit_or (bit_and form.plus (form.plus / 4)) (bit_and form.minus (form.minus / 4))
+
+pub either_small : (a b c d : ℕ) → a < 2 ^ 32 → c < 2 ^ 32 → bit_or (bit_and a b) (bit_and c d) < 2 ^ 32
+either_small a b c d h k = or_lt 32 (bit_and a b) (bit_and c d) (omega (arith, and_le_l a b)) (omega (arith, and_le_l c d))
 
 pub start_is : (form : Form) (t : ℕ) → IsTaken (opposite_in form) (equal_in form) t
     → IsStart form (record { links = t * 4; opposite = opposite_in form * 4; bit = 1; forms = 1; moved = 0 })

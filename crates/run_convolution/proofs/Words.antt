@@ -1,5 +1,5 @@
 -- Laws of `wrapped`: it is the word congruent to z modulo 2^64, it goes on as whole sums do, and small numbers are read back. Assumes nothing.
-use mathlib.Core.Path.{◌≡◌, refl, sym, ap, ◌∙◌}
+use mathlib.Core.Path.{◌≡◌, refl, sym, ap, ap₂, ◌∙◌}
 use mathlib.Core.Bool.{Bool, true, false}
 use Prim.Native.Nat.{ℕ, suc, ◌+◌, ◌-◌, ◌*◌, ◌%◌, ◌/◌, ◌<◌, ◌≤◌, ◌^◌}
 use native.Mathlib.Omega.{arith}
@@ -68,3 +68,7 @@ wrapped_fits (negsuc n) h = omega (arith, h.sfits)
 
 pub wrapped_exact : (z : ℤ) → SFits w64 z → to_z w64 (wrapped z) ≡ z
 wrapped_exact z h = ap (to_z w64) (wrapped_fits z h) ∙ to_z-of_z w64 z h
+
+-- the sum of a word and the pattern of a number
+pub wrapped_sum : (r : ℕ) (z : ℤ) → r < 2 ^ 64 → SFits w64 z → (r + of_z w64 z) % 2 ^ 64 ≡ wrapped (pos r +ℤ z)
+wrapped_sum r z l h = ap₂ (λ a b. (a + b) % 2 ^ 64) (sym (wrapped_word r l)) (sym (wrapped_fits z h)) ∙ wrapped_add (pos r) z
