@@ -17,6 +17,7 @@ pub struct Reduction {
 
 // The sign, the odd part and the shift of n. Nothing is negated, so that -2^31 needs no case of its
 // own.
+#[tactic(auto, using(crate::proofs::Words::places_32, crate::proofs::Words::parts_32))]
 pub fn reduce(n: i32) -> Option<Reduction>
     ensures { ReducedTo n (parts_in result) }
 {

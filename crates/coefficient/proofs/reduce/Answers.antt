@@ -1,17 +1,8 @@
 -- `coefficient::reduce` meets its contract. Assumes nothing.
 use Rattle.word.proofs.Zero.{zero_word}
 use Rattle.coefficient.specs.Parts.{parts_of}
-use Rattle.coefficient.proofs.Words.{places_32, parts_32}
 use Rattle.coefficient.proofs.reduce.Goals as goal
 
 pub returns-then-n-eq0 : goal.returns-then-n-eq0
 unfolding parts_of
 returns-then-n-eq0 c = record { split = rw (zero_word c.args.n c.ranges.n c.if-n-eq0.true) }
-
-pub overflow_shr-odd_part : goal.overflow_shr-odd_part
-overflow_shr-odd_part c =
-    places_32 c.args.n c.ranges.n c.if-n-eq0.false c.unsigned_abs-size.result c.unsigned_abs-size.ensures.value
-
-pub returns : goal.returns
-returns c =
-    record { split = parts_32 c.args.n c.ranges.n c.if-n-eq0.false c.unsigned_abs-size.result c.unsigned_abs-size.ensures.value }
