@@ -6,8 +6,6 @@ ghost use Rattle.sequence.specs.UpTo.{up_to};
 ghost use Rattle.plane_masks.specs.Planes.{cell_mask};
 ghost use Rattle.plane_blocks.specs.Inner.{mixed, transposed, half_word};
 
-use plane_masks::MaskTable;
-
 type Rows = [u32; 32];
 
 // One of the stages that transpose rows: each row is put together from two that are 16 apart.
@@ -37,8 +35,8 @@ fn transpose(rows: &Rows, to: &mut Rows)
 }
 
 // The rows of a block: in each plane its 32 cells.
-fn gather(table: &MaskTable, block: usize, rows: &mut Rows)
-    requires { block < 8 }
+fn gather(table: &[u64], block: usize, rows: &mut Rows)
+    requires { (128 ≤ length table.now) × (block < 8) }
     ensures { rows.new ≡ up_to 32 (half_word table.now block) }
 {
     let j = block / 2;
@@ -49,8 +47,8 @@ fn gather(table: &MaskTable, block: usize, rows: &mut Rows)
 }
 
 // The masks that a table holds for the 32 cells of a block.
-fn block_masks(table: &MaskTable, block: usize, masks: &mut Rows)
-    requires { block < 8 }
+fn block_masks(table: &[u64], block: usize, masks: &mut Rows)
+    requires { (128 ≤ length table.now) × (block < 8) }
     ensures { masks.new ≡ up_to 32 (λ b. cell_mask table.now (32 * block + b)) }
 {
     let mut rows = [0u32; 32];
@@ -59,8 +57,8 @@ fn block_masks(table: &MaskTable, block: usize, masks: &mut Rows)
 }
 
 // The masks of the first cells of a block, as many as there is room for.
-pub fn read_block(table: &MaskTable, block: usize, masks: &mut [u32])
-    requires { (block < 8) × (length masks.old ≤ 32) }
+pub fn read_block(table: &[u64], block: usize, masks: &mut [u32])
+    requires { (128 ≤ length table.now) × (block < 8) × (length masks.old ≤ 32) }
     ensures { masks.new ≡ up_to (length masks.old) (λ b. cell_mask table.now (32 * block + b)) }
 {
     let mut all = [0u32; 32];

@@ -17,8 +17,8 @@ fn singly(table: &MaskTable, masks: &mut [u32])
 }
 
 // 32 cells at a time.
-fn by_blocks(table: &MaskTable, masks: &mut [u32])
-    requires { length masks.old ≤ 256 }
+fn by_blocks(table: &[u64], masks: &mut [u32])
+    requires { (128 ≤ length table.now) × (length masks.old ≤ 256) }
     ensures { masks.new ≡ cell_masks (length masks.old) table.now }
 {
     let cells = masks.len();
@@ -30,13 +30,16 @@ fn by_blocks(table: &MaskTable, masks: &mut [u32])
 }
 
 // The masks of as many cells as there is room for. Up to three cells take less time one by one.
-pub fn read_masks(table: &MaskTable, masks: &mut [u32])
-    requires { length masks.old ≤ 256 }
+pub fn read_masks(table: &[u64], masks: &mut [u32])
+    requires { (128 ≤ length table.now) × (length masks.old ≤ 256) }
     ensures { masks.new ≡ cell_masks (length masks.old) table.now }
 {
     if masks.len() < 4 {
-        singly(table, masks);
-    } else {
-        by_blocks(table, masks);
+        let Some(words) = table.first_chunk() else {
+            unreachable!()
+        };
+        singly(words, masks);
+        return;
     }
+    by_blocks(table, masks);
 }

@@ -1,6 +1,5 @@
 -- What both entries answer and leave, by what their checks said. Assumes nothing.
 use Rattle.std.proofs.Common.{length-take}
-use Rattle.std.specs.Array.{IsFirstChunk}
 use mathlib.Core.Path.{◌≡◌, refl, sym, ap, ap₂, ◌∙◌}
 use mathlib.Core.List.{List, ◌++◌, map}
 use Prim.Native.Nat.{ℕ, ◌*◌, ◌≤◌, ◌<◌}
@@ -18,7 +17,7 @@ use Rattle.plane_masks.specs.Written.{grid_words, PlanesWritten, PlanesRead}
 use Rattle.plane_masks.proofs.Lists.{cell_of_lem, none_of}
 use Rattle.plane_masks.proofs.Planes.{words_length}
 use Rattle.plane_masks.proofs.Answers.{few_cells, fits_given, has_form, pass, stopped, place_in}
-use Rattle.plane_grid.proofs.Cells.{formless_taken, chosen_taken, overlap_taken, masks_taken}
+use Rattle.plane_grid.proofs.Cells.{formless_taken, chosen_taken}
 
 -- ---- writing
 module _ (height width : ℕ) (coefficients : List ℤ) (choices plus minus : List ℕ) where
@@ -83,20 +82,23 @@ module _ (height width : ℕ) (coefficients : List ℤ) (choices plus minus : Li
     pub forms_there : nowhere ≡ searched → (c : ℕ) → c < length firsts → HasForm firsts chosens c
     forms_there e c h = has_form height width firsts chosens c (none_of (no_form firsts chosens) (length firsts) (sym e) c h)
 
-    words_left : (mask : DigitString → ℕ) (table old : List ℕ) → table ≡ plane_words_of (map mask (chosen_forms (length firsts) firsts chosens))
-        → table ++ drop 128 old ≡ grid_words mask height width coefficients choices ++ drop (length (grid_words mask height width coefficients choices)) old
+    pub room : (128 ≤ length plus) × (128 ≤ length minus)
+    room = (fits.plus_long, fits.minus_long)
+
+    words_left : (mask : DigitString → ℕ) (table old : List ℕ) → table ≡ plane_words_of (map mask (chosen_forms (length firsts) firsts chosens)) ++ drop 128 old
+        → table ≡ grid_words mask height width coefficients choices ++ drop (length (grid_words mask height width coefficients choices)) old
     words_left mask table old e =
         let forms : chosen_forms (length firsts) firsts chosens ≡ chosen_forms (height * width) coefficients choices =
         chosen_taken cells coefficients choices long ∙ ap (λ (n : ℕ). chosen_forms n coefficients choices) is in
-        ap₂ (λ (words : List ℕ) (n : ℕ). words ++ drop n old) (e ∙ ap (λ (l : List DigitString). plane_words_of (map mask l)) forms)
+        e ∙ ap₂ (λ (words : List ℕ) (n : ℕ). words ++ drop n old) (ap (λ (l : List DigitString). plane_words_of (map mask l)) forms)
         (sym (words_length (map mask (chosen_forms (height * width) coefficients choices))))
 
-    pub all_written : (plus' minus' : List ℕ) → nowhere ≡ searched → plus' ≡ plane_words_of (map plus_mask (chosen_forms (length firsts) firsts chosens))
-        → minus' ≡ plane_words_of (map minus_mask (chosen_forms (length firsts) firsts chosens))
-        → PlanesWritten height width coefficients choices plus minus (given tt) (plus' ++ drop 128 plus) (minus' ++ drop 128 minus)
+    pub all_written : (plus' minus' : List ℕ) → nowhere ≡ searched → plus' ≡ plane_words_of (map plus_mask (chosen_forms (length firsts) firsts chosens)) ++ drop 128 plus
+        → minus' ≡ plane_words_of (map minus_mask (chosen_forms (length firsts) firsts chosens)) ++ drop 128 minus
+        → PlanesWritten height width coefficients choices plus minus (given tt) plus' minus'
     unfolding planes_answer
     all_written plus' minus' e p m =
-        by_answer (given tt) (plus' ++ drop 128 plus) (minus' ++ drop 128 minus) (pass sizes missing 9 given_sizes (of_missing ∙ sym e))
+        by_answer (given tt) plus' minus' (pass sizes missing 9 given_sizes (of_missing ∙ sym e))
         (words_left plus_mask plus' plus p) (words_left minus_mask minus' minus m)
 
 -- ---- reading
@@ -124,24 +126,25 @@ module _ (height width : ℕ) (plus minus first second : List ℕ) where
   unfolding cells_answer
   not_read number place e = by_reading (refused number place) first second (stopped sizes_read overlapping 8 number place e) refl refl
 
-  -- past the checks of the sizes, with the words of the mask tables
-  module _ (cells : ℕ) (is : cells ≡ height * width) (fits : Fits height width (length plus) (length minus) (length first) (length second)) (p m : List ℕ)
-      (front_plus : IsFirstChunk plus p 128) (front_minus : IsFirstChunk minus m 128) where
+  -- past the checks of the sizes
+  module _ (cells : ℕ) (is : cells ≡ height * width) (fits : Fits height width (length plus) (length minus) (length first) (length second)) where
     abbrev searched_read : Place
-    searched_read = overlap_cell cells p m
+    searched_read = overlap_cell cells plus minus
 
     given_read : sizes_read ≡ given tt
     given_read = fits_given height width (length plus) (length minus) (length first) (length second) fits
 
-    pub few_read : cells ≤ 256
+    few_read : cells ≤ 256
     few_read = omega (arith, few_cells height width fits.height_to fits.width_to)
 
+    pub tables_read : (128 ≤ length plus) × (128 ≤ length minus) × (cells ≤ 256)
+    tables_read = (fits.plus_long, fits.minus_long, few_read)
+
     of_overlapping : overlapping ≡ searched_read
-    of_overlapping =
-        sym (ap₂ (overlap_cell cells) front_plus.same front_minus.same ∙ overlap_taken cells plus minus few_read ∙ ap (λ (n : ℕ). overlap_cell n plus minus) is)
+    of_overlapping = sym (ap (λ (n : ℕ). overlap_cell n plus minus) is)
 
     pub overlap_below : (c : ℕ) → at_place c ≡ searched_read → c < 256
-    overlap_below c e = omega (arith, (cell_of_lem (overlaps p m) cells c (sym e)).0, few_read)
+    overlap_below c e = omega (arith, (cell_of_lem (overlaps plus minus) cells c (sym e)).0, few_read)
 
     pub overlap_there : (c : ℕ) → at_place c ≡ searched_read → PlanesRead height width plus minus first second (refused 8 c) first second
     unfolding cells_answer
@@ -150,17 +153,15 @@ module _ (height width : ℕ) (plus minus first second : List ℕ) where
     pub few_taken : (lent : List ℕ) → length (take cells lent) ≤ 256
     few_taken lent = simp length-take (omega (arith, few_read))
 
-    masks_left : (table t old masks : List ℕ) → cells ≤ length old → t ≡ take 128 table → masks ≡ cell_masks (length (take cells old)) t
+    masks_left : (table old masks : List ℕ) → cells ≤ length old → masks ≡ cell_masks (length (take cells old)) table
         → masks ++ drop cells old ≡ cell_masks (height * width) table ++ drop (length (cell_masks (height * width) table)) old
-    masks_left table t old masks long front e =
+    masks_left table old masks long e =
         let all : length (take cells old) ≡ cells = simp length-take (omega arith) in
-        ap₂ (λ (masks : List ℕ) (n : ℕ). masks ++ drop n old)
-        (e ∙ ap₂ cell_masks all front ∙ masks_taken cells table few_read ∙ ap (λ (n : ℕ). cell_masks n table) is)
-        (is ∙ masks_length table)
+        ap₂ (λ (masks : List ℕ) (n : ℕ). masks ++ drop n old) (e ∙ ap (λ (n : ℕ). cell_masks n table) (all ∙ is)) (is ∙ masks_length table)
 
-    pub all_read : (first' second' : List ℕ) → nowhere ≡ searched_read → first' ≡ cell_masks (length (take cells first)) p → second' ≡ cell_masks (length (take cells second)) m
+    pub all_read : (first' second' : List ℕ) → nowhere ≡ searched_read → first' ≡ cell_masks (length (take cells first)) plus → second' ≡ cell_masks (length (take cells second)) minus
         → PlanesRead height width plus minus first second (given tt) (first' ++ drop cells first) (second' ++ drop cells second)
     unfolding cells_answer
     all_read first' second' e x y =
         by_reading (given tt) (first' ++ drop cells first) (second' ++ drop cells second) (pass sizes_read overlapping 8 given_read (of_overlapping ∙ sym e))
-        (masks_left plus p first first' (omega (arith, fits.first_long)) front_plus.same x) (masks_left minus m second second' (omega (arith, fits.second_long)) front_minus.same y)
+        (masks_left plus first first' (omega (arith, fits.first_long)) x) (masks_left minus second second' (omega (arith, fits.second_long)) y)

@@ -39,12 +39,6 @@ pub fn write_planes(
     if let Some(cell) = choices::first_without_form(coefficients, choices) {
         return Err(Refusal::NoSuchForm(cell as u32));
     }
-    let Some(plus) = plus.first_chunk_mut() else {
-        unreachable!()
-    };
-    let Some(minus) = minus.first_chunk_mut() else {
-        unreachable!()
-    };
     write_cells(coefficients, choices, plus, minus);
     Ok(())
 }
@@ -69,12 +63,6 @@ pub fn read_planes(
         second: second.len(),
     };
     let cells = sizes::check(height, width, lengths)?;
-    let Some(plus) = plus.first_chunk() else {
-        unreachable!()
-    };
-    let Some(minus) = minus.first_chunk() else {
-        unreachable!()
-    };
     if let Some(cell) = first_overlap(plus, minus, cells) {
         return Err(Refusal::MasksOverlap(cell as u32));
     }

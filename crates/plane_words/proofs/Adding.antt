@@ -2,14 +2,16 @@
 use mathlib.Core.Path.{◌≡◌, refl, sym, ap, ap₂, ◌∙◌, subst}
 use mathlib.Core.Bool.{Bool, true, false, cond}
 use mathlib.Core.Logic.{◌≢◌}
-use mathlib.Core.List.{List}
+use mathlib.Core.List.{List, ◌++◌}
 use Prim.Native.Nat.{ℕ, zero, suc, ◌+◌, ◌-◌, ◌*◌, ◌≤◌, ◌<◌, ◌/◌, ◌%◌, ◌^◌}
 use native.Mathlib.Nat.{pow-suc, one-le-pow, mod-eq_of_lt, pow-le-pow_right}
 use native.Mathlib.Omega.{arith}
 use borrow.Author.Tests.{eq-eqb, eqb-true, eqb-false}
 use lib.Dec.{eqb}
-use lib.ListN.{length, get_or, set, length-set}
-use lib.Seq.{get_or-set_same, get_or-set_other}
+use lib.ListN.{length, get_or, set, drop, take-append-drop, length-set}
+use lib.Seq.{get_or-set_same, get_or-set_other, drop-set-lt}
+use Rattle.sequence.specs.UpTo.{up_to}
+use Rattle.sequence.proofs.UpTo.{length_up_to, get_d_up_to, up_to_take}
 use Rattle.plane_masks.specs.Binary.{bit_at}
 use Rattle.plane_words.specs.Inner.{share, with_cell}
 use Rattle.plane_masks.proofs.Binary.{bit_small, no_bit}
@@ -28,9 +30,10 @@ shifted k w h =
 pub record Adding (t₀ : List ℕ) (c mask rest : ℕ) (t : List ℕ) : Type 0 where
   pub size : length t ≡ length t₀
   pub same : (k : ℕ) → k < 128 → get_or t k 0 + 2 ^ (c % 64) * share rest c k ≡ get_or t₀ k 0 + 2 ^ (c % 64) * share mask c k
+  pub past : drop 128 t ≡ drop 128 t₀
 
 pub adding_start : (t : List ℕ) (c mask : ℕ) → Adding t c mask mask t
-adding_start t c mask = record { size = refl; same = λ (k : ℕ) h. refl }
+adding_start t c mask = record { size = refl; same = λ (k : ℕ) h. refl; past = refl }
 
 -- the share of a word in this plane, and of others
 module _ (c p : ℕ) (few : c < 256) where
@@ -55,7 +58,7 @@ module _ (c p : ℕ) (few : c < 256) where
 -- the place p is taken next
 pub record Step (t₀ : List ℕ) (c mask rest : ℕ) (t : List ℕ) (p : ℕ) : Type 0 where
   pub few : c < 256
-  pub long : length t₀ ≡ 128
+  pub long : 128 ≤ length t₀
   pub so_far : Adding t₀ c mask rest t
   pub low : p < 32
   pub one : bit_at rest p ≡ 1
@@ -84,6 +87,7 @@ module _ {t₀ : List ℕ} {c mask rest : ℕ} {t : List ℕ} {p : ℕ} (s : Ste
   adding_next = record {
     size = length-set t here (get_or t here 0 + 2 ^ (c % 64)) ∙ s.so_far.size;
     same = λ (k : ℕ) h. go k h (eqb k here) refl ∙ s.so_far.same k h;
+    past = drop-set-lt 128 t here (get_or t here 0 + 2 ^ (c % 64)) (omega arith) ∙ s.so_far.past;
   }
     where
       go : (k : ℕ) → k < 128 → (b : Bool) → eqb k here ≡ b
@@ -119,15 +123,16 @@ no_share c k = go (eqb (k % 4) (c / 64))
     go true = no_bit (k / 4)
     go false = refl
 
-pub adding_end : (t₀ : List ℕ) (c mask rest : ℕ) (t : List ℕ) → length t₀ ≡ 128 → Adding t₀ c mask rest t → rest ≡ 0 → t ≡ with_cell mask c t₀
+pub adding_end : (t₀ : List ℕ) (c mask rest : ℕ) (t : List ℕ) → 128 ≤ length t₀ → Adding t₀ c mask rest t → rest ≡ 0 → t ≡ with_cell mask c t₀
 unfolding with_cell
 adding_end t₀ c mask rest t long a z =
-    sym (listed 0 target t (a.size ∙ long) same)
+    sym (take-append-drop 128 t)
+    ∙ ap₂ (λ (x y : List ℕ). x ++ y) (sym (up_to_take t 0 128 (omega (arith, a.size))) ∙ listed 0 (λ (k : ℕ). get_or t k 0) (up_to 128 target) (length_up_to 128 target) same) a.past
   where
     target : ℕ → ℕ
     target k = get_or t₀ k 0 + 2 ^ (c % 64) * share mask c k
 
-    same : (k : ℕ) → k < 128 → target k ≡ get_or t k 0
+    same : (k : ℕ) → k < 128 → get_or t k 0 ≡ get_or (up_to 128 target) k 0
     same k h =
         let u = ap (λ (s : ℕ). 2 ^ (c % 64) * s) (ap (λ (r : ℕ). share r c k) z ∙ no_share c k) in
-        omega (arith, u, a.same k h)
+        omega (arith, u, a.same k h, get_d_up_to 128 target 0 k h)

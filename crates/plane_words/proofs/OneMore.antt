@@ -1,5 +1,5 @@
 -- The words of one mask more. Assumes nothing.
-use mathlib.Core.Path.{◌≡◌, refl, sym, ap, ◌∙◌}
+use mathlib.Core.Path.{◌≡◌, refl, sym, ap, ap₂, ◌∙◌}
 use mathlib.Core.Bool.{Bool, true, false, cond}
 use mathlib.Core.Logic.{◌≢◌}
 use mathlib.Core.List.{List, [], ◌∷◌, ◌++◌}
@@ -8,7 +8,7 @@ use native.Mathlib.Omega.{arith}
 use borrow.Author.Tests.{eqb-true, eqb-false, ltb-true, ltb-false}
 use lib.Dec.{eqb, ltb}
 use lib.ListN.{length, get_or, length-append, get_or-append, get_or-eq_default}
-use lib.Seq.{get_or_at}
+use lib.Seq.{get_or_at, drop_at}
 use Rattle.plane_masks.specs.Binary.{bit_at, binary}
 use Rattle.plane_masks.specs.Planes.{plane_word, plane_words_of}
 use Rattle.plane_words.specs.Inner.{share, with_cell}
@@ -100,12 +100,18 @@ module _ (masks : List ℕ) (c : ℕ) (is : length masks ≡ c) where
       past b h =
           ap (λ (x : ℕ). bit_at x ((4 * p + c / 64) / 4)) (get_or-eq_default masks 0 (omega (arith, is))) ∙ no_bit ((4 * p + c / 64) / 4)
 
-  -- there is room for cell c
-  pub room : c < 256 → (p : ℕ) → p < 32 → get_or (plane_words_of masks) (4 * p + c / 64) 0 < 2 ^ (c % 64)
-  room few p h = omega (arith, word_at masks (4 * p + c / 64) (omega arith), word_room p few)
+  module _ (rest : List ℕ) where
+    front_at : (k : ℕ) → k < 128 → get_or (plane_words_of masks ++ rest) k 0 ≡ plane_word masks k
+    front_at k h = get_or-append (plane_words_of masks) rest 0 k (omega (arith, words_length masks)) ∙ word_at masks k h
 
-  pub one_more : (m : ℕ) → with_cell m c (plane_words_of masks) ≡ plane_words_of (masks ++ (m ∷ []))
-  unfolding with_cell
-  one_more m =
-      listed 0 (λ (k : ℕ). get_or (plane_words_of masks) k 0 + 2 ^ (c % 64) * share m c k) (plane_words_of (masks ++ (m ∷ []))) (words_length (masks ++ (m ∷ [])))
-      (λ (k : ℕ) (h : k < 128). ap (λ (x : ℕ). x + 2 ^ (c % 64) * share m c k) (word_at masks k h) ∙ word_added m k ∙ sym (word_at (masks ++ (m ∷ [])) k h))
+    -- there is room for cell c
+    pub room : c < 256 → (p : ℕ) → p < 32 → get_or (plane_words_of masks ++ rest) (4 * p + c / 64) 0 < 2 ^ (c % 64)
+    room few p h = omega (arith, front_at (4 * p + c / 64) (omega arith), word_room p few)
+
+    pub one_more : (m : ℕ) → with_cell m c (plane_words_of masks ++ rest) ≡ plane_words_of (masks ++ (m ∷ [])) ++ rest
+    unfolding with_cell
+    one_more m =
+        ap₂ (λ (x y : List ℕ). x ++ y)
+        (listed 0 (λ (k : ℕ). get_or (plane_words_of masks ++ rest) k 0 + 2 ^ (c % 64) * share m c k) (plane_words_of (masks ++ (m ∷ []))) (words_length (masks ++ (m ∷ [])))
+        (λ (k : ℕ) (h : k < 128). ap (λ (x : ℕ). x + 2 ^ (c % 64) * share m c k) (front_at k h) ∙ word_added m k ∙ sym (word_at (masks ++ (m ∷ [])) k h)))
+        (drop_at (plane_words_of masks) rest 128 (words_length masks))

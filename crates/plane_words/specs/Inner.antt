@@ -1,5 +1,5 @@
 -- One cell more in a table of planes, and the cells of a word that overlap. Definitions of the algorithm's own.
-use Rattle.std.specs.Prelude.{ℕ, zero, suc, ◌+◌, ◌*◌, ◌/◌, ◌%◌, ◌^◌, cond, List, eqb, get_or}
+use Rattle.std.specs.Prelude.{ℕ, zero, suc, ◌+◌, ◌*◌, ◌/◌, ◌%◌, ◌^◌, cond, List, ◌++◌, eqb, get_or, drop}
 use Rattle.std.specs.Int.Bits.{bit_and, bit_or}
 use Rattle.sequence.specs.UpTo.{up_to}
 use Rattle.plane_masks.specs.Binary.{bit_at}
@@ -10,7 +10,7 @@ share mask c k = cond (eqb (k % 4) (c / 64)) (bit_at mask (k / 4)) 0
 
 -- a table with the mask of cell c added
 unfoldable pub with_cell : ℕ → ℕ → List ℕ → List ℕ
-with_cell mask c table = up_to 128 (λ (k : ℕ). get_or table k 0 + 2 ^ (c % 64) * share mask c k)
+with_cell mask c table = up_to 128 (λ (k : ℕ). get_or table k 0 + 2 ^ (c % 64) * share mask c k) ++ drop 128 table
 
 -- the bits of word j that both tables have in one of the first n planes
 unfoldable pub both_word : ℕ → List ℕ → List ℕ → ℕ → ℕ

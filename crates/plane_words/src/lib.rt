@@ -2,7 +2,7 @@
 // two tables that overlap.
 #![tactic(auto)]
 
-ghost use Rattle.std.specs.Prelude.{◌≡◌, [], ◌≢◌, ℕ, ◌+◌, ◌*◌, ◌/◌, ◌%◌, ◌^◌, ◌≤◌, ◌<◌, get_or};
+ghost use Rattle.std.specs.Prelude.{◌≡◌, [], ◌≢◌, ℕ, ◌+◌, ◌*◌, ◌/◌, ◌%◌, ◌^◌, ◌≤◌, ◌<◌, length, get_or};
 ghost use Rattle.refusal.specs.Answer.{found_at};
 ghost use Rattle.plane_masks.specs.Planes.{cell_mask, plane_words_of};
 ghost use Rattle.plane_masks.specs.Grid.{overlap_cell};
@@ -43,8 +43,8 @@ pub fn clear(table: &mut MaskTable)
 
 // Writes the mask of cell c into a table that has nothing from cell c on. Only words with a one of it
 // are touched.
-pub fn write_cell(table: &mut MaskTable, c: usize, mask: u32)
-    requires in_bounds { c < 256 }
+pub fn write_cell(table: &mut [u64], c: usize, mask: u32)
+    requires in_bounds { (128 ≤ length table.old) × (c < 256) }
     requires by_index { (p : ℕ) → p < 32 → get_or table.old (4 * p + c / 64) 0 < 2 ^ (c % 64) }
     ensures { table.new ≡ with_cell mask c table.old }
 {
@@ -59,8 +59,8 @@ pub fn write_cell(table: &mut MaskTable, c: usize, mask: u32)
 }
 
 // The cells of word j that overlap in any plane.
-fn overlap_word(plus: &MaskTable, minus: &MaskTable, j: usize) -> u64
-    requires { j < 4 }
+fn overlap_word(plus: &[u64], minus: &[u64], j: usize) -> u64
+    requires { (128 ≤ length plus.now) × (128 ≤ length minus.now) × (j < 4) }
     ensures { result ≡ both_word 32 plus.now minus.now j }
 {
     let mut both: u64 = 0;
@@ -72,8 +72,8 @@ fn overlap_word(plus: &MaskTable, minus: &MaskTable, j: usize) -> u64
 
 // The lowest of the cells that overlaps in any plane.
 // Stays: two tables are no plainer as a struct, since each is also read and written by itself.
-pub fn first_overlap(plus: &MaskTable, minus: &MaskTable, cells: usize) -> Option<usize>
-    requires { cells ≤ 256 }
+pub fn first_overlap(plus: &[u64], minus: &[u64], cells: usize) -> Option<usize>
+    requires { (128 ≤ length plus.now) × (128 ≤ length minus.now) × (cells ≤ 256) }
     ensures { found_at result ≡ overlap_cell cells plus.now minus.now }
 {
     for j in 0..cells.div_ceil(64) {

@@ -67,9 +67,9 @@ fn by_fours(
     lower(&tables, &line, registers);
 }
 
-// The outputs for the samples, and the registers after them. Tables are not made for fewer than
-// four samples.
-pub fn feed(h: &[i32; 256], samples: &[i16], registers: &mut [u64; 256], outputs: &mut [i64])
+// The same as `feed`, with nothing past the registers. Tables are not made for fewer than four
+// samples.
+fn feed_registers(h: &[i32; 256], samples: &[i16], registers: &mut [u64; 256], outputs: &mut [i64])
     requires { length samples.now ≤ length outputs.old }
     ensures registers_after { registers.new ≡ registers_of h.now registers.old samples.now }
     ensures outputs_after { outputs.new ≡ outputs_of h.now registers.old samples.now
@@ -83,4 +83,18 @@ pub fn feed(h: &[i32; 256], samples: &[i16], registers: &mut [u64; 256], outputs
     by_fours(h, w, samples, registers, outputs);
     let passed = samples.len() - samples.len() % 4;
     singly(h, w, &samples[passed..], registers, &mut outputs[passed..]);
+}
+
+// The outputs for the samples, and the registers after them; what lies past the registers stays.
+pub fn feed(h: &[i32; 256], samples: &[i16], registers: &mut [u64], outputs: &mut [i64])
+    requires registers { 256 ≤ length registers.old }
+    requires outputs { length samples.now ≤ length outputs.old }
+    ensures registers_after { registers.new ≡ registers_of h.now registers.old samples.now }
+    ensures outputs_after { outputs.new ≡ outputs_of h.now registers.old samples.now
+        ++ drop (length samples.now) outputs.old }
+{
+    let Some(first) = registers.first_chunk_mut() else {
+        unreachable!()
+    };
+    feed_registers(h, samples, first, outputs);
 }

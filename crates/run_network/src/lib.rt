@@ -20,15 +20,12 @@ pub fn run(
         (answer_of result) registers.new outputs.new }
 {
     network_check::tables_fit(network)?;
-    let short = outputs.len() < samples.len();
+    let short = (registers.len() < 256) | (outputs.len() < samples.len());
     if short {
         return Err(Refusal::ShortTable);
     }
-    let Some(first) = registers.first_chunk_mut::<256>() else {
-        return Err(Refusal::ShortTable);
-    };
     let mut h = [0; 256];
     network_check::keeps_rules(network, &mut h)?;
-    run_kernel::feed(&h, samples, first, outputs);
+    run_kernel::feed(&h, samples, registers, outputs);
     Ok(())
 }

@@ -8,8 +8,9 @@ ghost use Rattle.run_tables.specs.Inner.{ZeroFrom};
 use run_products::sum;
 
 // The registers after one sample; those from w on are 0 and stay so.
-fn move_one(h: &[i32; 256], x: i16, w: usize, registers: &mut [u64; 256])
-    requires { ZeroFrom w h.now registers.old }
+fn move_one(h: &[i32; 256], x: i16, w: usize, registers: &mut [u64])
+    requires registers { 256 ≤ length registers.old }
+    requires zero_from { ZeroFrom w h.now registers.old }
     ensures { registers.new ≡ next h.now x registers.old }
 {
     for k in 0..w.min(255) {
@@ -19,13 +20,8 @@ fn move_one(h: &[i32; 256], x: i16, w: usize, registers: &mut [u64; 256])
 }
 
 // The samples, one by one; registers and coefficients from w on are 0.
-pub fn singly(
-    h: &[i32; 256],
-    w: usize,
-    samples: &[i16],
-    registers: &mut [u64; 256],
-    outputs: &mut [i64],
-)
+pub fn singly(h: &[i32; 256], w: usize, samples: &[i16], registers: &mut [u64], outputs: &mut [i64])
+    requires registers { 256 ≤ length registers.old }
     requires outputs { length samples.now ≤ length outputs.old }
     requires zero_from { ZeroFrom w h.now registers.old }
     ensures registers_after { registers.new ≡ registers_of h.now registers.old samples.now }

@@ -1,11 +1,11 @@
 // How many registers are in use.
-ghost use Rattle.std.specs.Prelude.{◌≡◌, true, ◌+◌, ◌≤◌};
+ghost use Rattle.std.specs.Prelude.{◌≡◌, true, ◌+◌, ◌≤◌, length};
 ghost use Rattle.run_tables.specs.Inner.{ZeroFrom};
 
 // Eight registers and eight coefficients from k on are 0; without a jump for each.
 // Stays: `all`, and arrays of eight compared, were slower on calls of few samples.
-fn eight_idle(h: &[i32; 256], registers: &[u64; 256], k: usize) -> bool
-    requires { k + 8 ≤ 256 }
+fn eight_idle(h: &[i32; 256], registers: &[u64], k: usize) -> bool
+    requires { (k + 8 ≤ 256) × (256 ≤ length registers.now) }
     ensures { result ≡ true → ZeroFrom (k + 8) h.now registers.now → ZeroFrom k h.now registers.now }
 {
     let mut idle = true;
@@ -16,7 +16,8 @@ fn eight_idle(h: &[i32; 256], registers: &[u64; 256], k: usize) -> bool
 }
 
 // The same as `used`, as far as it goes by eights.
-fn used_eights(h: &[i32; 256], registers: &[u64; 256]) -> usize
+fn used_eights(h: &[i32; 256], registers: &[u64]) -> usize
+    requires { 256 ≤ length registers.now }
     ensures width_to { result ≤ 256 }
     ensures zero_from { ZeroFrom result h.now registers.now }
 {
@@ -29,7 +30,8 @@ fn used_eights(h: &[i32; 256], registers: &[u64; 256]) -> usize
 }
 
 // From the number returned on, registers and coefficients are 0.
-pub fn used(h: &[i32; 256], registers: &[u64; 256]) -> usize
+pub fn used(h: &[i32; 256], registers: &[u64]) -> usize
+    requires { 256 ≤ length registers.now }
     ensures width_to { result ≤ 256 }
     ensures zero_from { ZeroFrom result h.now registers.now }
 {

@@ -1,7 +1,7 @@
 -- `plane_grid::read_planes` meets its contract. The sizes are checked first, then whether a cell overlaps; past both, `read_masks` reads all masks of each table. A refusal leaves both tables as they were. Assumes nothing.
 use Rattle.std.proofs.Common.{arith}
 use Rattle.std.proofs.lemmas.Result.{err_from_is_err_and}
-use Rattle.plane_grid.proofs.Entries.{not_read, few_read, overlap_below, overlap_there, few_taken, all_read}
+use Rattle.plane_grid.proofs.Entries.{not_read, tables_read, overlap_below, overlap_there, few_taken, all_read}
 use Rattle.plane_grid.proofs.read_planes.Goals as goal
 
 pub returns-in_err-cells : goal.returns-in_err-cells
@@ -14,35 +14,35 @@ pub first_overlap-requires : goal.first_overlap-requires
 first_overlap-requires c =
     let a = c.args in
     let ok = c.in_ok-cells.ensures in
-    few_read a.height a.width a.plus.now a.minus.now a.first.now a.second.now _ ok.0 ok.1 c.in-Some.plus.now c.in-Some-first_chunk.minus.now c.in-Some.ensures.cases c.in-Some-first_chunk.ensures.cases
+    tables_read a.height a.width a.plus.now a.minus.now a.first.now a.second.now _ ok.0 ok.1
 
 pub overflow_cast-result : goal.overflow_cast-result
 overflow_cast-result c =
     let a = c.args in
     let ok = c.in_ok-cells.ensures in
-    record { fits = omega (arith, overlap_below a.height a.width a.plus.now a.minus.now a.first.now a.second.now _ ok.0 ok.1 c.in-Some.plus.now c.in-Some-first_chunk.minus.now c.in-Some.ensures.cases c.in-Some-first_chunk.ensures.cases _ c.in-Some-first_overlap.ensures) }
+    record { fits = omega (arith, overlap_below a.height a.width a.plus.now a.minus.now a.first.now a.second.now _ ok.0 ok.1 _ c.in-Some.ensures) }
 
-pub returns-in-Some-first_overlap : goal.returns-in-Some-first_overlap
-returns-in-Some-first_overlap c =
+pub returns-in-Some : goal.returns-in-Some
+returns-in-Some c =
     let a = c.args in
     let ok = c.in_ok-cells.ensures in
-    overlap_there a.height a.width a.plus.now a.minus.now a.first.now a.second.now _ ok.0 ok.1 c.in-Some.plus.now c.in-Some-first_chunk.minus.now c.in-Some.ensures.cases c.in-Some-first_chunk.ensures.cases _ c.in-Some-first_overlap.ensures
+    overlap_there a.height a.width a.plus.now a.minus.now a.first.now a.second.now _ ok.0 ok.1 _ c.in-Some.ensures
 
 pub read_masks-requires : goal.read_masks-requires
 read_masks-requires c =
     let a = c.args in
     let ok = c.in_ok-cells.ensures in
-    few_taken a.height a.width a.plus.now a.minus.now a.first.now a.second.now _ ok.0 ok.1 c.in-Some.plus.now c.in-Some-first_chunk.minus.now c.in-Some.ensures.cases c.in-Some-first_chunk.ensures.cases a.first.now
+    (ok.1.plus_long, few_taken a.height a.width a.plus.now a.minus.now a.first.now a.second.now _ ok.0 ok.1 a.first.now)
 
 pub read_masks-requires-2 : goal.read_masks-requires-2
 read_masks-requires-2 c =
     let a = c.args in
     let ok = c.in_ok-cells.ensures in
-    few_taken a.height a.width a.plus.now a.minus.now a.first.now a.second.now _ ok.0 ok.1 c.in-Some.plus.now c.in-Some-first_chunk.minus.now c.in-Some.ensures.cases c.in-Some-first_chunk.ensures.cases a.second.now
+    (ok.1.minus_long, few_taken a.height a.width a.plus.now a.minus.now a.first.now a.second.now _ ok.0 ok.1 a.second.now)
 
 pub returns : goal.returns
 returns c =
     let a = c.args in
     let ok = c.in_ok-cells.ensures in
-    all_read a.height a.width a.plus.now a.minus.now a.first.now a.second.now _ ok.0 ok.1 c.in-Some.plus.now c.in-Some-first_chunk.minus.now c.in-Some.ensures.cases c.in-Some-first_chunk.ensures.cases
-    c.read_masks.new.masks c.read_masks-2.new.masks c.in_default-first_overlap.ensures c.read_masks.ensures c.read_masks-2.ensures
+    all_read a.height a.width a.plus.now a.minus.now a.first.now a.second.now _ ok.0 ok.1 c.read_masks.new.masks c.read_masks-2.new.masks
+    c.in_default.ensures c.read_masks.ensures c.read_masks-2.ensures

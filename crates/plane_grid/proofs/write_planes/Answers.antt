@@ -1,7 +1,7 @@
 -- `plane_grid::write_planes` meets its contract. The sizes are checked first, then the choices; past both, `write_cells` writes all planes. A refusal leaves both tables as they were. Assumes nothing.
 use Rattle.std.proofs.Common.{arith}
 use Rattle.std.proofs.lemmas.Result.{err_from_is_err_and}
-use Rattle.plane_grid.proofs.Entries.{not_written, same_lengths, cell_below, no_form_there, forms_there, all_written}
+use Rattle.plane_grid.proofs.Entries.{not_written, same_lengths, cell_below, no_form_there, forms_there, room, all_written}
 use Rattle.plane_grid.proofs.write_planes.Goals as goal
 
 pub returns-in_err-cells : goal.returns-in_err-cells
@@ -33,6 +33,12 @@ write_cells-requires-clause-have_forms c =
     let a = c.args in
     let ok = c.in_ok-cells.ensures in
     forms_there a.height a.width a.coefficients.now a.choices.now a.plus.now a.minus.now _ ok.0 ok.1 c.in_default.ensures
+
+pub write_cells-requires-clause-room : goal.write_cells-requires-clause-room
+write_cells-requires-clause-room c =
+    let a = c.args in
+    let ok = c.in_ok-cells.ensures in
+    room a.height a.width a.coefficients.now a.choices.now a.plus.now a.minus.now _ ok.0 ok.1
 
 pub returns : goal.returns
 returns c =

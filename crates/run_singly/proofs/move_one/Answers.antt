@@ -22,7 +22,7 @@ loop-k-preserved c =
     let f = held (next h x r) in
     let n = c.sum.result in
     let m : k < 255 = omega (arith, c.min-k-end.ensures) in
-    let l : k < length r = omega (arith, m) in
+    let l : k < length r = omega (arith, m, c.requires.registers) in
     let e : get_or c.loop-k.registers (k + 1) 0 ≡ held r (k + 1) =
     ap (λ q. get_or q (k + 1) 0) c.loop-k.invariant ∙ front_read f r k 1 0 ∙ sym (held_low r (k + 1) (omega (arith, m))) in
     let s : n ≡ wrapped (pos (get_or c.loop-k.registers (k + 1) 0) +ℤ get_or h (k + 1) (pos 0) *ℤ x) = search rules in
@@ -37,5 +37,5 @@ returns c =
     let h = c.args.h.now in
     let x = to_z w16 (of_z w16 c.args.x) in
     let e : c.loop-k.k ≡ min c.args.w 255 = omega (arith, c.min-k-end.ensures) in
-    moved_one h (omega arith) c.args.w x r (omega arith) c.requires c.loop-k.registers (c.loop-k.invariant ∙ ap (front (held (next h x r)) r) e)
+    moved_one h (omega arith) c.args.w x r c.requires.registers c.requires.zero_from c.loop-k.registers (c.loop-k.invariant ∙ ap (front (held (next h x r)) r) e)
     ∙ ap (λ y. next h y r) (to_z-of_z w16 c.args.x c.ranges.x)
