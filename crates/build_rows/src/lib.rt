@@ -42,7 +42,8 @@ fn first_row(rows: &mut Rows, sieve: &mut Sieve)
 // Row 0 and the rows of the odd parts, in order. The largest value is kept on the way.
 pub fn add_rows(parts: &[OddPart], choices: &[u32], rows: &mut Rows, sieve: &mut Sieve)
     requires { CanStart parts.now choices.now rows.old sieve.old }
-    ensures { Grown rows.old rows.new (steps (first_row_of ∷ []) (map (part_in choices.now) parts.now)) }
+    ensures grown { Grown rows.old rows.new (steps (first_row_of ∷ []) (map (part_in choices.now) parts.now)) }
+    ensures lent { SameSieve sieve.old sieve.new }
 {
     first_row(rows, sieve);
     let mut most: u32 = 1;
