@@ -5,6 +5,7 @@ use Rattle.std.specs.Int.Bits.{bit_and, bit_xor}
 use Rattle.network.specs.declared.Row.{Row}
 use Rattle.network.specs.Rows.{row_words, row_at, rows_of}
 use Rattle.build_index.specs.declared.Rows.{Rows}
+use Rattle.build_index.specs.declared.IndexedRows.{IndexedRows}
 
 -- the value of row i
 abbrev pub value_at : List ℕ → ℕ → ℕ
@@ -39,6 +40,17 @@ pub record Room (table links : List ℕ) (k : ℕ) : Type 0 where
 -- rows with their index
 abbrev pub IsIndexed : Rows → Type 0
 IsIndexed r = Indexed r.table.now r.heads.now r.links.now r.count
+
+-- the same, as they are read
+abbrev pub HasIndex : IndexedRows → Type 0
+HasIndex r = Indexed r.table.now r.heads.now r.links.now r.count
+
+-- what is read are the rows and their index
+pub record RowsRead (r : Rows) (read : IndexedRows) : Type 0 where
+  pub table : read.table.now ≡ r.table.now
+  pub heads : read.heads.now ≡ r.heads.now
+  pub links : read.links.now ≡ r.links.now
+  pub count : read.count ≡ r.count
 
 -- table and index have room for k rows
 abbrev pub HasRoom : Rows → ℕ → Type 0

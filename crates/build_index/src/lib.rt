@@ -6,7 +6,7 @@ ghost use Rattle.std.specs.Prelude.{◌≡◌, [], ◌∷◌, ◌++◌, ◌+◌,
 ghost use Rattle.refusal.specs.Answer.{nowhere, found_at};
 ghost use Rattle.network.specs.Rows.{row_words, rows_of};
 ghost use Rattle.build_steps.specs.Search.{row_with};
-ghost use Rattle.build_index.specs.Inner.{value_at, bucket_of, IsIndexed, Grown};
+ghost use Rattle.build_index.specs.Inner.{value_at, bucket_of, IsIndexed, HasIndex, RowsRead, Grown};
 
 use network::Row;
 
@@ -17,6 +17,15 @@ pub struct Rows<'a> {
     // Stays: row k as k + 1 in 16 bits, and 0 for none: Option<NonZeroU16> takes 32, and memory is fixed.
     pub heads: &'a mut [u16],
     pub links: &'a mut [u16],
+    pub count: usize,
+}
+
+// The same, as they are read.
+#[derive(Clone, Copy)]
+pub struct IndexedRows<'a> {
+    pub table: &'a [u32],
+    pub heads: &'a [u16],
+    pub links: &'a [u16],
     pub count: usize,
 }
 
@@ -31,7 +40,7 @@ fn bucket(x: u32, m: usize) -> usize
     ((product ^ (product / 0x1_0000_0000)) as usize) & (m - 1)
 }
 
-impl<'a> Rows<'a> {
+impl<'a> IndexedRows<'a> {
     // The value of row i.
     pub fn value(&self, i: usize) -> u32
         requires { row_words * i + row_words ≤ length self.now.table.now }
@@ -42,7 +51,7 @@ impl<'a> Rows<'a> {
 
     // The row that has the value x.
     pub fn find(&self, x: u32) -> Option<usize>
-        requires { IsIndexed self.now }
+        requires { HasIndex self.now }
         ensures { found_at result ≡ row_with (rows_of self.now.table.now self.now.count) x }
     {
         let h = bucket(x, self.heads.len());
@@ -55,6 +64,36 @@ impl<'a> Rows<'a> {
             p = self.links[k] as usize;
         }
         None
+    }
+}
+
+impl<'a> Rows<'a> {
+    // These rows, as they are read.
+    pub fn read(&self) -> IndexedRows<'_>
+        ensures { RowsRead self.now result }
+    {
+        IndexedRows {
+            table: self.table,
+            heads: self.heads,
+            links: self.links,
+            count: self.count,
+        }
+    }
+
+    // The value of row i.
+    pub fn value(&self, i: usize) -> u32
+        requires { row_words * i + row_words ≤ length self.now.table.now }
+        ensures { result ≡ value_at self.now.table.now i }
+    {
+        self.read().value(i)
+    }
+
+    // The row that has the value x.
+    pub fn find(&self, x: u32) -> Option<usize>
+        requires { IsIndexed self.now }
+        ensures { found_at result ≡ row_with (rows_of self.now.table.now self.now.count) x }
+    {
+        self.read().find(x)
     }
 
     // One row more, which joins the index. No row has its value yet.

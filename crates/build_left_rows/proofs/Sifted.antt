@@ -8,9 +8,9 @@ use native.Mathlib.Omega.{arith}
 use lib.ListN.{length, get_or}
 use Rattle.std.proofs.lemmas.Bool.{cases_lt}
 use Rattle.network.specs.RowRule.{lifted}
-use Rattle.build_index.specs.declared.Rows.{Rows}
+use Rattle.build_index.specs.declared.IndexedRows.{IndexedRows}
 use Rattle.build_index.specs.Inner.{value_at}
-use Rattle.build_sieve.specs.declared.Sieve.{Sieve}
+use Rattle.build_sieve.specs.declared.SieveTables.{SieveTables}
 use Rattle.build_sieve.specs.declared.Pairs.{Pairs}
 use Rattle.build_sieve.specs.Inner.{cell_of, shift_for_of, cell_within, mark_at, InMarks}
 use Rattle.build_sieve.proofs.Cells.{cell_lifted}
@@ -24,7 +24,7 @@ pub record Telling (table marks cells : List ℕ) (at count n : ℕ) (number : �
   pub tells : (j m : ℕ) → j < count → at + j < n → m ≤ n → mark_at marks cells j * m < 128
       → (s i : ℕ) → s < 32 → i < m → lifted s (value_at table i) ≡ number (value_at table (at + j)) → ⊥
 
-module _ (r : Rows) (w : Sieve) (v : ℕ) (s : Sifting r w v) where
+module _ (r : IndexedRows) (w : SieveTables) (v : ℕ) (s : Sifting r w v) where
   abbrev t : List ℕ
   t = r.table.now
 

@@ -2,11 +2,11 @@
 -- functions. Definitions only.
 use Rattle.std.specs.Prelude.{◌≡◌, List, ℕ, ◌+◌, ◌*◌, ◌-◌, ◌%◌, ◌^◌, ◌≤◌, ◌<◌, length}
 use Rattle.network.specs.RowRule.{lifted}
-use Rattle.build_index.specs.declared.Rows.{Rows}
-use Rattle.build_index.specs.Inner.{value_at, IsIndexed}
-use Rattle.build_sieve.specs.declared.Sieve.{Sieve}
+use Rattle.build_index.specs.declared.IndexedRows.{IndexedRows}
+use Rattle.build_index.specs.Inner.{value_at, HasIndex}
+use Rattle.build_sieve.specs.declared.SieveTables.{SieveTables}
 use Rattle.build_sieve.specs.declared.Pairs.{Pairs}
-use Rattle.build_sieve.specs.Inner.{shift_for_of, HasSieve, Cells}
+use Rattle.build_sieve.specs.Inner.{shift_for_of, AreSieved, Cells}
 use Rattle.build_left_rows.specs.declared.Pass.{Pass}
 
 -- ---- one right row
@@ -23,9 +23,9 @@ pub record NoLeft (table : List ℕ) (m v r : ℕ) : Type 0 where
 -- ---- a pass over the right rows
 
 -- rows of odd values with their index and their sieve, for a new row of value v
-pub record Sifting (r : Rows) (s : Sieve) (v : ℕ) : Type 0 where
-  pub index : IsIndexed r
-  pub sieve : HasSieve r s
+pub record Sifting (r : IndexedRows) (s : SieveTables) (v : ℕ) : Type 0 where
+  pub index : HasIndex r
+  pub sieve : AreSieved r s
   pub odd : (i : ℕ) → i < r.count → value_at r.table.now i % 2 ≡ 1
   pub bounded : (i : ℕ) → i < r.count → value_at r.table.now i < 2 ^ 31
   pub new_odd : v % 2 ≡ 1
@@ -36,7 +36,7 @@ abbrev pub Passing : Pass → Type 0
 Passing p = Sifting p.rows.now p.sieve.now p.v
 
 -- the cells of so many values
-pub record InBlock (s : Sieve) (at count v : ℕ) (pairs : Pairs) : Type 0 where
+pub record InBlock (s : SieveTables) (at count v : ℕ) (pairs : Pairs) : Type 0 where
   pub within : at + count ≤ length s.values.now
   pub from : at ≤ 4096
   pub few : count ≤ 32

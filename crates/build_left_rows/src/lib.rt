@@ -3,24 +3,24 @@
 #![tactic(auto)]
 
 ghost use Rattle.std.specs.Prelude.{◌≡◌, ◌⊎◌, ℕ, ◌+◌, ◌*◌, ◌/◌, ◌%◌, ◌^◌, ◌≤◌, ◌<◌, length, get_or};
-ghost use Rattle.build_index.specs.Inner.{value_at, IsIndexed};
+ghost use Rattle.build_index.specs.Inner.{value_at, HasIndex};
 ghost use Rattle.build_sieve.specs.Inner.{mark_at, InMarks};
 ghost use Rattle.build_left_rows.specs.Inner.{NoTurn, NoLeft, Sifting, Passing, InBlock};
 
-use build_index::Rows;
-use build_sieve::{Pairs, Sieve};
+use build_index::IndexedRows;
+use build_sieve::{Pairs, SieveTables};
 
 // A pass over the right rows for a new row of value v.
 #[derive(Drop)]
 struct Pass<'a> {
-    rows: &'a Rows<'a>,
-    sieve: &'a Sieve<'a>,
+    rows: &'a IndexedRows<'a>,
+    sieve: &'a SieveTables<'a>,
     v: u32,
 }
 
 // The turn in which x is 2^s·left, and m where there is none below m.
-fn lower(rows: &Rows, m: usize, x: u32) -> usize
-    requires { IsIndexed rows.now × (m ≤ 32 * rows.now.count) × ((i : ℕ) → i < rows.now.count → value_at rows.now.table.now i % 2 ≡ 1) × (0 < x) }
+fn lower(rows: &IndexedRows, m: usize, x: u32) -> usize
+    requires { HasIndex rows.now × (m ≤ 32 * rows.now.count) × ((i : ℕ) → i < rows.now.count → value_at rows.now.table.now i % 2 ≡ 1) × (0 < x) }
     ensures { (result ≤ m) × NoTurn rows.now.table.now result x }
 {
     let shift = x.trailing_zeros();
@@ -111,7 +111,7 @@ impl<'a> Pass<'a> {
 
 // No turn below the result makes v with any right row. The pass is cut short, with 0, where an early
 // turn may: then the search itself comes there sooner.
-pub fn first_turn<'a>(rows: &'a Rows<'a>, sieve: &'a Sieve<'a>, v: u32) -> usize
+pub fn first_turn<'a>(rows: &'a IndexedRows<'a>, sieve: &'a SieveTables<'a>, v: u32) -> usize
     requires { Sifting rows.now sieve.now v }
     ensures { (result ≤ 32 * rows.now.count) × ((k : ℕ) → k < rows.now.count → NoLeft rows.now.table.now result v (value_at rows.now.table.now k)) }
 {

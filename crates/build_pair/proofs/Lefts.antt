@@ -11,14 +11,14 @@ use Rattle.build_pair.proofs.FirstOver.{over_none}
 use Rattle.build_pair.proofs.Tries.{plus_none, minus_none, reversed_none}
 use Rattle.build_pair.proofs.Signs.{three_signs}
 use Rattle.build_index.proofs.Values.{row_missing}
-use Rattle.build_index.specs.declared.Rows.{Rows}
-use Rattle.build_sieve.specs.declared.Sieve.{Sieve}
-use Rattle.build_sieve.specs.Inner.{HasSieve}
+use Rattle.build_index.specs.declared.IndexedRows.{IndexedRows}
+use Rattle.build_sieve.specs.declared.SieveTables.{SieveTables}
+use Rattle.build_sieve.specs.Inner.{AreSieved}
 use Rattle.build_left_rows.specs.Inner.{NoLeft, Sifting}
 use Rattle.build_pair.specs.Inner.{Searchable}
 
 -- what is known of a search is enough for the pass over the right rows
-pub sifting : (r : Rows) (w : Sieve) (most v : ℕ) → Searchable r most v → HasSieve r w → Sifting r w v
+pub sifting : (r : IndexedRows) (w : SieveTables) (most v : ℕ) → Searchable r most v → AreSieved r w → Sifting r w v
 sifting r w most v s h = record {
   index = s.index;
   sieve = h;

@@ -12,7 +12,7 @@ use Rattle.network.specs.declared.Row.{Row}
 use Rattle.network.specs.Rows.{rows_of}
 use Rattle.network.specs.RowRule.{lifted}
 use Rattle.build_steps.specs.Search.{fit, none_fits, or_else, first_fit_of, fit_at_shift, fit_at_left}
-use Rattle.build_index.specs.declared.Rows.{Rows}
+use Rattle.build_index.specs.declared.IndexedRows.{IndexedRows}
 use Rattle.build_index.specs.Inner.{value_at}
 use Rattle.std.proofs.lemmas.Bool.{cases_lt}
 use Rattle.build_index.proofs.Values.{length_rows}
@@ -44,7 +44,7 @@ pub record Trying (t : List ℕ) (n v left z a : ℕ) : Type 0 where
   pub is_lifted : a ≡ lifted z (value_at t left)
   pub tried_below : (k : ℕ) → suc k < z → fit_at_shift (rows_of t n) v left (suc k) ≡ none_fits
 
-module _ (r : Rows) (most v : ℕ) (s : Searchable r most v) where
+module _ (r : IndexedRows) (most v : ℕ) (s : Searchable r most v) where
   abbrev t : List ℕ
   t = r.table.now
 

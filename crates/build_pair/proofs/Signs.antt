@@ -9,7 +9,7 @@ use Rattle.network.specs.declared.Row.{Row}
 use Rattle.network.specs.Rows.{plus, minus, reversed, rows_of}
 use Rattle.network.specs.RowRule.{is_row_sign}
 use Rattle.build_steps.specs.Search.{Fit, fit, none_fits, or_else, first_over, row_with, row_over, tried, fit_at_shift}
-use Rattle.build_index.specs.declared.Rows.{Rows}
+use Rattle.build_index.specs.declared.IndexedRows.{IndexedRows}
 use Rattle.build_index.specs.Inner.{value_at}
 use Rattle.build_pair.specs.declared.row_signs.Left.{Left}
 use Rattle.build_pair.specs.Inner.{right_value_of, Searchable, AtShift}
@@ -23,7 +23,7 @@ pub three_signs : (rows : List Row) (v left shift : ℕ) (f g h : Fit) → tried
 unfolding fit_at_shift first_over
 three_signs rows v left shift f g h e p q = rw (e, p, q) (ap (λ (x : Fit). or_else f (or_else g x)) (else_none h))
 
-module _ (r : Rows) (most v : ℕ) (s : Searchable r most v) where
+module _ (r : IndexedRows) (most v : ℕ) (s : Searchable r most v) where
   abbrev t : List ℕ
   t = r.table.now
 

@@ -6,18 +6,23 @@ mod row_signs;
 ghost use Rattle.std.specs.Prelude.{◌≡◌};
 ghost use Rattle.network.specs.Rows.{rows_of};
 ghost use Rattle.build_steps.specs.Search.{first_fit_of};
-ghost use Rattle.build_sieve.specs.Inner.{HasSieve};
+ghost use Rattle.build_sieve.specs.Inner.{AreSieved};
 ghost use Rattle.build_pair.specs.Inner.{Searchable, fit_of};
 
-use build_index::Rows;
-use build_sieve::Sieve;
+use build_index::IndexedRows;
+use build_sieve::SieveTables;
 use network::Row;
 use row_signs::{Left, Search};
 
 // The first fit for v: lowest left, then lowest shift, then sign, from the first turn that can have
 // one. No row's value is above most, so that no shift fits past v + most.
-pub fn first_fit<'a>(rows: &'a Rows<'a>, sieve: &'a Sieve<'a>, most: u32, v: u32) -> Option<Row>
-    requires { Searchable rows.now most v × HasSieve rows.now sieve.now }
+pub fn first_fit<'a>(
+    rows: &'a IndexedRows<'a>,
+    sieve: &'a SieveTables<'a>,
+    most: u32,
+    v: u32,
+) -> Option<Row>
+    requires { Searchable rows.now most v × AreSieved rows.now sieve.now }
     ensures { fit_of result ≡ first_fit_of (rows_of rows.now.table.now rows.now.count) v }
 {
     let limit = v as u64 + most as u64;

@@ -5,13 +5,13 @@ ghost use Rattle.network.specs.RowRule.{is_row_sign};
 ghost use Rattle.build_steps.specs.Search.{tried, fit_at_shift};
 ghost use Rattle.build_pair.specs.Inner.{right_value_of, Searchable, AtShift, fit_of};
 
-use build_index::Rows;
+use build_index::IndexedRows;
 use network::{MINUS, PLUS, REVERSED, Row};
 
 // A search for a new row of value v, over rows of values up to most.
 #[derive(Drop)]
 pub struct Search<'a> {
-    pub rows: &'a Rows<'a>,
+    pub rows: &'a IndexedRows<'a>,
     pub most: u32,
     pub v: u32,
     pub ghost searchable: { Searchable rows.now most v },

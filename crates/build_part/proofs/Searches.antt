@@ -19,14 +19,15 @@ use Rattle.build_steps.proofs.Chain.{one_has_row}
 use Rattle.build_steps.proofs.FirstFit.{fit_is_first}
 use Rattle.build_steps.proofs.Lawful.{lawful_value}
 use Rattle.build_index.specs.declared.Rows.{Rows}
-use Rattle.build_index.specs.Inner.{value_at}
+use Rattle.build_index.specs.declared.IndexedRows.{IndexedRows}
+use Rattle.build_index.specs.Inner.{value_at, RowsRead}
+use Rattle.build_index.proofs.Reading.{rows_read, index_read}
 use Rattle.build_index.proofs.Values.{length_rows, value_in}
-use Rattle.build_sieve.specs.declared.Sieve.{Sieve}
 use Rattle.build_pair.specs.Inner.{Searchable}
 use Rattle.build_chain.specs.Inner.{rows_in, Readable}
 use Rattle.build_part.specs.Inner.{Ready}
 
-module _ (own : Rows) (sieve : Sieve) (most : ℕ) (p : Part) (r : Ready own sieve most p) where
+module _ {own : Rows} {values marks : List ℕ} {most : ℕ} {p : Part} (r : Ready own values marks most p) where
   abbrev rows : List Row
   rows = rows_in own
 
@@ -55,15 +56,15 @@ module _ (own : Rows) (sieve : Sieve) (most : ℕ) (p : Part) (r : Ready own sie
       record { one = one_has_row r.lawful; above = omega (arith, e, r.part.odd); below = omega (arith, e, r.part.below) }
 
   module _ (e : row_with rows p.value ≡ nowhere) where
-    pub searchable : Searchable own most p.value
-    searchable = record {
-      index = r.index;
-      odd = odd;
-      bounded = r.bounded;
+    pub searchable : (read : IndexedRows) → RowsRead own read → Searchable read most p.value
+    searchable read is = record {
+      index = index_read is r.index;
+      odd = rw (is.table, is.count) odd;
+      bounded = rw (is.table, is.count) r.bounded;
       small = r.small;
       new_odd = r.part.odd;
       new_small = r.part.below;
-      new = e;
+      new = ap (λ (xs : List Row). row_with xs p.value) (rows_read is) ∙ e;
     }
 
     step_is : (f : Fit) → first_fit_of rows p.value ≡ f → searched f rows p ≡ step rows p

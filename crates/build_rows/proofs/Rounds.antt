@@ -87,7 +87,7 @@ module _ (taken : List OddPart) (choices : List ℕ) where
     step_room : length (step rows p) ≤ length all_rows
     step_room = subst (λ (x : List Row). length (step rows p) ≤ length x) rest_is (steps_longer (step rows p) (parts (drop (i + 1) taken)))
 
-    pub ready : (s : Sieve) → HasRoom r (length all_rows) → HasSieve r s → length all_rows + 7 ≤ length s.values.now → Ready r s most p
+    pub ready : (s : Sieve) → HasRoom r (length all_rows) → HasSieve r s → length all_rows + 7 ≤ length s.values.now → Ready r s.values.now s.marks.now most p
     ready s m v w = record {
       index = o.grown.index;
       lawful = o.lawful;

@@ -17,14 +17,14 @@ use build_sieve::Sieve;
 
 // The three steps for one odd part, after which its rows join the sieve.
 fn take_part(rows: &mut Rows, sieve: &mut Sieve, most: u32, v: u32, choice: u32)
-    requires { Ready rows.old sieve.old most (part_of v choice) }
+    requires { Ready rows.old sieve.old.values.now sieve.old.marks.now most (part_of v choice) }
     ensures grown { Grown rows.old rows.new (step (rows_in rows.old) (part_of v choice)) }
     ensures sieved { HasSieve rows.new sieve.new }
     ensures lent { SameSieve sieve.old sieve.new }
 {
     let from = rows.count;
-    build_part::add_part(rows, sieve, most, v, choice);
-    sieve.extend(rows, from);
+    build_part::add_part(rows, &sieve.read(), most, v, choice);
+    sieve.extend(&rows.read(), from);
 }
 
 // Row 0, with its index and its sieve.
@@ -36,13 +36,14 @@ fn first_row(rows: &mut Rows, sieve: &mut Sieve)
     ensures lent { SameSieve sieve.old sieve.new }
 {
     rows.put(network::FIRST);
-    sieve.extend(rows, 0);
+    sieve.extend(&rows.read(), 0);
 }
 
 // Row 0 and the rows of the odd parts, in order. The largest value is kept on the way.
 pub fn add_rows(parts: &[OddPart], choices: &[u32], rows: &mut Rows, sieve: &mut Sieve)
     requires { CanStart parts.now choices.now rows.old sieve.old }
-    ensures { Grown rows.old rows.new (steps (first_row_of ∷ []) (map (part_in choices.now) parts.now)) }
+    ensures grown { Grown rows.old rows.new (steps (first_row_of ∷ []) (map (part_in choices.now) parts.now)) }
+    ensures lent { SameSieve sieve.old sieve.new }
 {
     first_row(rows, sieve);
     let mut most: u32 = 1;

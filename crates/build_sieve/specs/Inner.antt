@@ -4,8 +4,10 @@ use Rattle.std.specs.Prelude.{◌≡◌, cond, List, ℕ, ◌+◌, ◌*◌, ◌-
 use Rattle.std.specs.Float.Ieee as Ieee
 use Rattle.std.specs.Float.{binary64}
 use Rattle.build_index.specs.declared.Rows.{Rows}
+use Rattle.build_index.specs.declared.IndexedRows.{IndexedRows}
 use Rattle.build_index.specs.Inner.{value_at}
 use Rattle.build_sieve.specs.declared.Sieve.{Sieve}
+use Rattle.build_sieve.specs.declared.SieveTables.{SieveTables}
 use Rattle.build_sieve.specs.declared.Pairs.{Pairs}
 
 -- the leading binary digits of x below the first: of x as a binary64 number the 20 digits that head its fraction, at the high end of 32 places,
@@ -32,6 +34,15 @@ pub record SieveOf (table values marks : List ℕ) (n : ℕ) : Type 0 where
 -- the rows have this sieve
 abbrev pub HasSieve : Rows → Sieve → Type 0
 HasSieve r s = SieveOf r.table.now s.values.now s.marks.now r.count
+
+-- the same, as both are read
+abbrev pub AreSieved : IndexedRows → SieveTables → Type 0
+AreSieved r s = SieveOf r.table.now s.values.now s.marks.now r.count
+
+-- what is read is the sieve
+pub record SieveRead (s : Sieve) (read : SieveTables) : Type 0 where
+  pub values : read.values.now ≡ s.values.now
+  pub marks : read.marks.now ≡ s.marks.now
 
 -- what is lent stays lent: the same slices, as long as they were
 pub record SameSieve (s s' : Sieve) : Type 0 where

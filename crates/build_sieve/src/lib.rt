@@ -6,9 +6,9 @@ mod leading;
 ghost use Rattle.std.specs.Prelude.{◌≡◌, ℕ, ◌+◌, ◌*◌, ◌/◌, ◌%◌, ◌^◌, ◌≤◌, ◌<◌, leb, length, get_or};
 ghost use Rattle.network.specs.Rows.{row_words};
 ghost use Rattle.build_index.specs.Inner.{value_at};
-ghost use Rattle.build_sieve.specs.Inner.{shift_for_of, SieveOf, SameSieve, mark_at, InMarks, Cells};
+ghost use Rattle.build_sieve.specs.Inner.{shift_for_of, SieveOf, SieveRead, SameSieve, mark_at, InMarks, Cells};
 
-use build_index::Rows;
+use build_index::IndexedRows;
 use leading::{cell_between, cell_of};
 
 // The values of the rows, and a mark for the cell of each.
@@ -16,6 +16,13 @@ use leading::{cell_between, cell_of};
 pub struct Sieve<'a> {
     pub values: &'a mut [u32],
     pub marks: &'a mut [u8],
+}
+
+// The same, as they are read.
+#[derive(Clone, Copy)]
+pub struct SieveTables<'a> {
+    pub values: &'a [u32],
+    pub marks: &'a [u8],
 }
 
 // The cells of the sums and of the differences of a number and some values.
@@ -56,8 +63,18 @@ pub fn may_be_below(m: usize, mark: u8) -> bool
 }
 
 impl<'a> Sieve<'a> {
+    // This sieve, as it is read.
+    pub fn read(&self) -> SieveTables<'_>
+        ensures { SieveRead self.now result }
+    {
+        SieveTables {
+            values: self.values,
+            marks: self.marks,
+        }
+    }
+
     // The rows from one number on join the sieve.
-    pub fn extend(&mut self, rows: &Rows, from: usize)
+    pub fn extend(&mut self, rows: &IndexedRows, from: usize)
         requires sieve { SieveOf rows.now.table.now self.old.values.now self.old.marks.now from }
         requires room { (from ≤ rows.now.count) × (rows.now.count + 7 ≤ length self.old.values.now) × (row_words * rows.now.count ≤ length rows.now.table.now) × (rows.now.count ≤ 4096) }
         requires by_index { (i : ℕ) → i < rows.now.count → value_at rows.now.table.now i < 2 ^ 31 }
@@ -72,7 +89,9 @@ impl<'a> Sieve<'a> {
             self.marks[cell] = self.marks[cell].max(mark_of(i));
         }
     }
+}
 
+impl<'a> SieveTables<'a> {
     // The cells of the sums and of the differences of v and so many values, from one on.
     pub fn fill(&self, at: usize, count: usize, v: u32, shift: u32, pairs: &mut Pairs)
         requires sizes { (shift < 32) × (v < 2 ^ 31) × (count ≤ 32) × (at + count ≤ length self.now.values.now) }

@@ -45,7 +45,7 @@ fn within<const HEADS: usize, const LINKS: usize, const VALUES: usize, const MAR
         marks: &mut marks,
     };
     build_rows::add_rows(parts, choices, &mut built, &mut sieve);
-    build_tap_rows::write_tap_rows(coefficients, &built, taps);
+    build_tap_rows::write_tap_rows(coefficients, &built.read(), taps);
     built.count
 }
 

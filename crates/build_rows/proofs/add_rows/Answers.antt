@@ -46,4 +46,7 @@ pub returns : goal.returns
 returns c =
     let loop = c.loop-part in
     let a = c.args in
-    round_end a.parts.now a.choices.now a.rows.now loop.rows loop.most loop.part-index c.loop-part-test.false loop.invariant.round
+    record {
+      grown = round_end a.parts.now a.choices.now a.rows.now loop.rows loop.most loop.part-index c.loop-part-test.false loop.invariant.round;
+      lent = loop.invariant.lent;
+    }

@@ -29,7 +29,11 @@ put-requires-clause-new_value c = ap (λ (l : List Row). row_with l 1) (empty (g
 
 pub extend-requires-clause-by_index : goal.extend-requires-clause-by_index
 extend-requires-clause-by_index c =
-    first_bounded c.args.rows.now c.put.new.self (row_0_put (goal.at-extend-requires-clause-by_index c).After-put)
+    let read = c.read.ensures in
+    rw (read.table, read.count) (first_bounded c.args.rows.now c.put.new.self (row_0_put (goal.at-extend-requires-clause-by_index c).After-put))
+
+pub returns-clause-sieved : goal.returns-clause-sieved
+returns-clause-sieved c = let read = c.read.ensures in rw (read.table, read.count) at c.extend.ensures.sieve
 
 pub returns-clause-grown : goal.returns-clause-grown
 returns-clause-grown c = row_0_put (goal.at-returns-clause-grown c).After-put

@@ -1,7 +1,7 @@
--- `build_sieve::Sieve::fill` meets its contract. Assumes nothing.
+-- `build_sieve::SieveTables::fill` meets its contract. Assumes nothing.
 use Prim.Native.Nat.{◌+◌}
 use native.Mathlib.Omega.{arith}
-use Rattle.build_sieve.proofs.Sieve.fill.Goals as goal
+use Rattle.build_sieve.proofs.SieveTables.fill.Goals as goal
 
 pub cell_of-requires : goal.cell_of-requires
 cell_of-requires c =

@@ -1,11 +1,11 @@
--- `build_sieve::Sieve::joined` meets its contract: two marks in one are no less than either. Assumes nothing.
+-- `build_sieve::SieveTables::joined` meets its contract: two marks in one are no less than either. Assumes nothing.
 use Prim.Native.Nat.{◌+◌, ◌≤◌}
 use native.Mathlib.Nat.{le_trans}
 use borrow.Author.Count.{below_more}
 use lib.Bits.{bit_or}
 use Rattle.std.proofs.lemmas.Nat.{le_or_l, le_or_r}
 use Rattle.build_sieve.specs.Inner.{mark_at}
-use Rattle.build_sieve.proofs.Sieve.joined.Goals as goal
+use Rattle.build_sieve.proofs.SieveTables.joined.Goals as goal
 
 pub loop-i-preserved : goal.loop-i-preserved
 loop-i-preserved c =

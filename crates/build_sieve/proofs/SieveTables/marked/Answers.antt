@@ -1,11 +1,11 @@
--- `build_sieve::Sieve::marked` meets its contract. Assumes nothing.
+-- `build_sieve::SieveTables::marked` meets its contract. Assumes nothing.
 use Prim.Native.Nat.{ℕ, ◌+◌, ◌*◌, ◌≤◌, ◌<◌}
 use mathlib.Core.Path.{sym, ◌∙◌}
 use native.Mathlib.Omega.{arith}
 use borrow.Author.Tests.{leb-false}
 use Rattle.build_sieve.specs.Inner.{mark_at}
 use Rattle.build_sieve.proofs.MaskDigits.{mask_more, zeros_more}
-use Rattle.build_sieve.proofs.Sieve.marked.Goals as goal
+use Rattle.build_sieve.proofs.SieveTables.marked.Goals as goal
 
 pub loop-i-preserved : goal.loop-i-preserved
 loop-i-preserved c =
