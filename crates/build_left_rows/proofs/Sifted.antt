@@ -97,7 +97,7 @@ module _ (table marks cells : List ℕ) (at count n : ℕ) (number : ℕ → ℕ
       (cases_lt (mask / 2 ^ i % 2) 1)
 
 -- fewer cells
-pub first_cells : (s : Sieve) (at count v : ℕ) (p : Pairs) (k : ℕ) → k ≤ count → InBlock s at count v p → InBlock s at k v p
+pub first_cells : (s : SieveTables) (at count v : ℕ) (p : Pairs) (k : ℕ) → k ≤ count → InBlock s at count v p → InBlock s at k v p
 first_cells s at count v p k h b = record {
   within = omega (arith, b.within);
   from = b.from;
