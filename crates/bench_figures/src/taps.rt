@@ -3,7 +3,7 @@ ghost use Rattle.std.specs.Prelude.{◌≤◌, ◌^◌, length};
 
 use crate::shown::{Digits, Shown, TurnedDown};
 use bench_second::tap::{SetRefusal, TapRefusal};
-use std::{fmt, io};
+use std::fmt;
 use tap::RoundedTap;
 
 // A coefficient, with the leftover of one that is not exact.
@@ -69,16 +69,16 @@ fn second_tap(tap: f64, f: u32) -> Result<Coefficient, TurnedDown> {
     })
 }
 
-fn figure(rt: &impl Print, tap: f64, f: u32) -> io::Result<()> {
-    println!(rt;
+fn figure(rt: &impl Print, tap: f64, f: u32) {
+    let _ = println!(rt;
         "tap {} at {f}: {} | {}",
         Digits(tap),
         Shown(core_tap(tap, f)),
         Shown(second_tap(tap, f))
-    )
+    );
 }
 
-pub(crate) fn one_by_one(rt: &impl Print) -> io::Result<()> {
+pub(crate) fn one_by_one(rt: &impl Print) {
     let figures = [
         (0.625, 2),
         (-0.625, 2),
@@ -100,9 +100,8 @@ pub(crate) fn one_by_one(rt: &impl Print) -> io::Result<()> {
         (0.625, 32),
     ];
     for (tap, f) in figures {
-        figure(rt, tap, f)?;
+        figure(rt, tap, f);
     }
-    Ok(())
 }
 
 // The coefficients of a set, each a T.
@@ -168,32 +167,43 @@ fn second_set<'a>(
     })
 }
 
+// The taps of a set, each with a blank after it.
+#[derive(Clone, Copy)]
+struct Taps<'a>(&'a [f64]);
+
+impl<'a> fmt::Display for Taps<'a> {
+    fn fmt<W: fmt::Write>(&self, f: &mut fmt::Formatter<W>) -> fmt::Result {
+        for tap in self.0 {
+            write!(f, "{} ", Digits(*tap))?;
+        }
+        Ok(())
+    }
+}
+
 // Of up to 4 taps.
-fn figure_of_set(rt: &impl Print, taps: &[f64], f: u32, normalised: bool) -> io::Result<()>
+fn figure_of_set(rt: &impl Print, taps: &[f64], f: u32, normalised: bool)
     requires { length taps.now ≤ 4 }
 {
     let n = taps.len();
     let mut table = [0i32; 4];
     let mut second = [0i64; 4];
-    print!(rt; "set {}", if normalised { "normalised " } else { "" })?;
-    for tap in taps {
-        print!(rt; "{} ", Digits(*tap))?;
-    }
-    println!(rt;
-        "at {f}: {} | {}",
+    let _ = println!(rt;
+        "set {}{}at {f}: {} | {}",
+        if normalised { "normalised " } else { "" },
+        Taps(taps),
         Shown(core_set(taps, f, normalised, &mut table[..n])),
         Shown(second_set(taps, f, normalised, &mut second[..n]))
-    )
+    );
 }
 
-pub(crate) fn sets(rt: &impl Print) -> io::Result<()> {
-    figure_of_set(rt, &[1.0, 1.0, 1.0, 1.0], 2, true)?;
-    figure_of_set(rt, &[1.0, -1.0], 2, true)?;
-    figure_of_set(rt, &[], 2, true)?;
-    figure_of_set(rt, &[0.0625, -0.625, 0.625], 2, false)?;
-    figure_of_set(rt, &[0.0625, -0.375, 0.625], 2, false)?;
-    figure_of_set(rt, &[1.0, 2.0, 4.0], 5, true)?;
-    figure_of_set(rt, &[3.0, f64::NAN, f64::INFINITY], 2, false)?;
-    figure_of_set(rt, &[1.0, -1.0, 4.9e-324], 2, true)?;
-    figure_of_set(rt, &[1.0, 3.0, 4.0], 31, false)
+pub(crate) fn sets(rt: &impl Print) {
+    figure_of_set(rt, &[1.0, 1.0, 1.0, 1.0], 2, true);
+    figure_of_set(rt, &[1.0, -1.0], 2, true);
+    figure_of_set(rt, &[], 2, true);
+    figure_of_set(rt, &[0.0625, -0.625, 0.625], 2, false);
+    figure_of_set(rt, &[0.0625, -0.375, 0.625], 2, false);
+    figure_of_set(rt, &[1.0, 2.0, 4.0], 5, true);
+    figure_of_set(rt, &[3.0, f64::NAN, f64::INFINITY], 2, false);
+    figure_of_set(rt, &[1.0, -1.0, 4.9e-324], 2, true);
+    figure_of_set(rt, &[1.0, 3.0, 4.0], 31, false);
 }
