@@ -25,7 +25,7 @@
  *   stack: fir_build           62912
  *   stack: fir_check            1216
  *   stack: fir_coefficients     1280
- *   stack: fir_run              7808
+ *   stack: fir_run              7744
  *   stack: fir_verilog           256 */
 #ifndef FIR_H
 #define FIR_H

@@ -1,13 +1,11 @@
 -- The masks of cells, from the front. Assumes nothing.
-use Rattle.std.proofs.Common.{◌≡◌, ℕ, zero, suc, ◌+◌, ◌-◌, ◌*◌, ◌/◌, ◌%◌, ◌<◌, ◌≤◌, List, [], ◌∷◌, ◌++◌, length, take, drop, sym, refl, ap, ap₂, ◌∙◌, arith, length-take, length-drop, get_or-take, append_assoc, append-nil, drop_of_length-le}
+use Rattle.std.proofs.Common.{◌≡◌, ℕ, zero, suc, ◌+◌, ◌-◌, ◌≤◌, List, [], ◌∷◌, ◌++◌, length, take, drop, sym, refl, ap, ap₂, ◌∙◌, arith, length-take, length-drop, append_assoc, append-nil, drop_of_length-le}
 use borrow.Rule.Slice.PartMut.{put_mid}
 use Rattle.std.proofs.lemmas.Slice.{take-put_mid}
-use Rattle.sequence.proofs.UpTo.{length_up_to, up_to_same}
+use Rattle.sequence.proofs.UpTo.{length_up_to}
 use Rattle.sequence.specs.UpTo.{up_to}
 use Rattle.sequence.specs.Inner.{front}
-use Rattle.plane_masks.specs.Binary.{bit_at}
-use Rattle.plane_masks.specs.Planes.{plane_bit, cell_mask, cell_masks}
-use Rattle.plane_masks.proofs.Binary.{binary_ext}
+use Rattle.plane_masks.specs.Planes.{cell_mask, cell_masks}
 
 pub all_masks : (table old : List ℕ) (cells : ℕ) → length old ≡ cells → front (cell_mask table) old cells ≡ cell_masks cells table
 unfolding front cell_masks
@@ -42,12 +40,3 @@ block_more table masks new from to h l first is =
     ∙ ap₂ (λ (x y : List ℕ). x ++ y) first e
     ∙ masks_more table from (to - from)
     ∙ ap (λ (k : ℕ). cell_masks k table) q
-
--- ---- the words of a mask table that is longer
-bit_same : (table : List ℕ) (p c : ℕ) → p < 32 → c < 256 → plane_bit (take 128 table) p c ≡ plane_bit table p c
-bit_same table p c h l = ap (λ (w : ℕ). bit_at w (c % 64)) (get_or-take 128 table (4 * p + c / 64) 0 (omega arith))
-
-pub masks_taken : (cells : ℕ) (table : List ℕ) → cells ≤ 256 → cell_masks cells (take 128 table) ≡ cell_masks cells table
-unfolding cell_masks cell_mask
-masks_taken cells table few =
-    up_to_same (cell_mask (take 128 table)) (cell_mask table) cells (λ c l. binary_ext 32 _ _ (λ p h. bit_same table p c h (omega arith)))

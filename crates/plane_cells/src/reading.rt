@@ -3,12 +3,11 @@ ghost use Rattle.std.specs.Prelude.{◌≡◌, ◌≤◌, length};
 ghost use Rattle.plane_masks.specs.Planes.{cell_masks};
 
 use plane_blocks::read_block;
-use plane_masks::MaskTable;
 use plane_words::read_cell;
 
 // Cell by cell.
-fn singly(table: &MaskTable, masks: &mut [u32])
-    requires { length masks.old ≤ 256 }
+fn singly(table: &[u64], masks: &mut [u32])
+    requires { (128 ≤ length table.now) × (length masks.old ≤ 256) }
     ensures { masks.new ≡ cell_masks (length masks.old) table.now }
 {
     for (c, mask) in masks.iter_mut().enumerate() {
@@ -35,11 +34,8 @@ pub fn read_masks(table: &[u64], masks: &mut [u32])
     ensures { masks.new ≡ cell_masks (length masks.old) table.now }
 {
     if masks.len() < 4 {
-        let Some(words) = table.first_chunk() else {
-            unreachable!()
-        };
-        singly(words, masks);
-        return;
+        singly(table, masks);
+    } else {
+        by_blocks(table, masks);
     }
-    by_blocks(table, masks);
 }

@@ -82,9 +82,6 @@ module _ (height width : ℕ) (coefficients : List ℤ) (choices plus minus : Li
     pub forms_there : nowhere ≡ searched → (c : ℕ) → c < length firsts → HasForm firsts chosens c
     forms_there e c h = has_form height width firsts chosens c (none_of (no_form firsts chosens) (length firsts) (sym e) c h)
 
-    pub room : (128 ≤ length plus) × (128 ≤ length minus)
-    room = (fits.plus_long, fits.minus_long)
-
     words_left : (mask : DigitString → ℕ) (table old : List ℕ) → table ≡ plane_words_of (map mask (chosen_forms (length firsts) firsts chosens)) ++ drop 128 old
         → table ≡ grid_words mask height width coefficients choices ++ drop (length (grid_words mask height width coefficients choices)) old
     words_left mask table old e =

@@ -19,8 +19,8 @@ fn some_place(x: u32) -> usize
 }
 
 // The mask that a table holds for cell c: from plane 31 down.
-pub fn read_cell(table: &MaskTable, c: usize) -> u32
-    requires { c < 256 }
+pub fn read_cell(table: &[u64], c: usize) -> u32
+    requires { (128 ≤ length table.now) × (c < 256) }
     ensures { result ≡ cell_mask table.now c }
 {
     let j = c / 64;

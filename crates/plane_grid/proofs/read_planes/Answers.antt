@@ -32,13 +32,13 @@ pub read_masks-requires : goal.read_masks-requires
 read_masks-requires c =
     let a = c.args in
     let ok = c.in_ok-cells.ensures in
-    (ok.1.plus_long, few_taken a.height a.width a.plus.now a.minus.now a.first.now a.second.now _ ok.0 ok.1 a.first.now)
+    (omega (arith, ok.1.plus_long, ok.1.minus_long), few_taken a.height a.width a.plus.now a.minus.now a.first.now a.second.now _ ok.0 ok.1 a.first.now)
 
 pub read_masks-requires-2 : goal.read_masks-requires-2
 read_masks-requires-2 c =
     let a = c.args in
     let ok = c.in_ok-cells.ensures in
-    (ok.1.minus_long, few_taken a.height a.width a.plus.now a.minus.now a.first.now a.second.now _ ok.0 ok.1 a.second.now)
+    (omega (arith, ok.1.plus_long, ok.1.minus_long), few_taken a.height a.width a.plus.now a.minus.now a.first.now a.second.now _ ok.0 ok.1 a.second.now)
 
 pub returns : goal.returns
 returns c =

@@ -1,7 +1,7 @@
 -- `plane_grid::write_planes` meets its contract. The sizes are checked first, then the choices; past both, `write_cells` writes all planes. A refusal leaves both tables as they were. Assumes nothing.
 use Rattle.std.proofs.Common.{arith}
 use Rattle.std.proofs.lemmas.Result.{err_from_is_err_and}
-use Rattle.plane_grid.proofs.Entries.{not_written, same_lengths, cell_below, no_form_there, forms_there, room, all_written}
+use Rattle.plane_grid.proofs.Entries.{not_written, same_lengths, cell_below, no_form_there, forms_there, all_written}
 use Rattle.plane_grid.proofs.write_planes.Goals as goal
 
 pub returns-in_err-cells : goal.returns-in_err-cells
@@ -36,9 +36,8 @@ write_cells-requires-clause-have_forms c =
 
 pub write_cells-requires-clause-room : goal.write_cells-requires-clause-room
 write_cells-requires-clause-room c =
-    let a = c.args in
-    let ok = c.in_ok-cells.ensures in
-    room a.height a.width a.coefficients.now a.choices.now a.plus.now a.minus.now _ ok.0 ok.1
+    let fits = c.in_ok-cells.ensures.1 in
+    (omega (arith, fits.plus_long, fits.minus_long), omega (arith, fits.plus_long, fits.minus_long))
 
 pub returns : goal.returns
 returns c =
