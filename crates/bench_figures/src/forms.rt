@@ -1,6 +1,7 @@
 // Figures on forms: how many minimal forms a coefficient has, by the count and by the listing, and
 // their weight.
-use crate::shown::Shown;
+use crate::shown::{Pieces, Shown, Whole};
+use std::fmt::Write;
 
 fn figure(rt: &impl Print, n: i32) {
     let count = form_listing::form_count(n);
@@ -9,8 +10,10 @@ fn figure(rt: &impl Print, n: i32) {
     let listed = form_listing::minimal_forms(n, &mut plus, &mut minus);
     let weight = form_masks::weight(form_masks::canonical(n));
     let second = bench_second::form::least(n.unsigned_abs());
-    let _ = println!(rt;
-        "forms of {n}: {count} listed {} weight {} | {} weight {}",
+    let _ = writeln!(
+        Pieces(rt),
+        "forms of {}: {count} listed {} weight {} | {} weight {}",
+        Whole(i64::from(n)),
         Shown(listed.map_err(|r| r.into())),
         Shown(weight.map_err(|r| r.into())),
         second.count,

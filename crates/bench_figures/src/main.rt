@@ -6,7 +6,6 @@ mod forms;
 mod shown;
 mod taps;
 
-// A line that cannot be written keeps none after it from being written.
 fn main(rt: HostRuntime) {
     taps::one_by_one(&rt);
     taps::sets(&rt);

@@ -1,9 +1,10 @@
 // Figures on taps.
 ghost use Rattle.std.specs.Prelude.{◌≤◌, ◌^◌, length};
 
-use crate::shown::{Digits, Shown, TurnedDown};
+use crate::shown::{Digits, Pieces, Shown, TurnedDown, Whole};
 use bench_second::tap::{SetRefusal, TapRefusal};
 use std::fmt;
+use std::fmt::Write;
 use tap::RoundedTap;
 
 // A coefficient, with the leftover of one that is not exact.
@@ -16,8 +17,8 @@ struct Coefficient {
 impl fmt::Display for Coefficient {
     fn fmt<W: fmt::Write>(&self, f: &mut fmt::Formatter<W>) -> fmt::Result {
         match self.leftover {
-            None => write!(f, "{} exact", self.n),
-            Some(leftover) => write!(f, "{} leftover {}", self.n, Digits(leftover)),
+            None => write!(f, "{} exact", Whole(self.n)),
+            Some(leftover) => write!(f, "{} leftover {}", Whole(self.n), Digits(leftover)),
         }
     }
 }
@@ -70,7 +71,8 @@ fn second_tap(tap: f64, f: u32) -> Result<Coefficient, TurnedDown> {
 }
 
 fn figure(rt: &impl Print, tap: f64, f: u32) {
-    let _ = println!(rt;
+    let _ = writeln!(
+        Pieces(rt),
         "tap {} at {f}: {} | {}",
         Digits(tap),
         Shown(core_tap(tap, f)),
@@ -112,7 +114,7 @@ struct Set<'a, T> {
     coefficients: &'a [T],
 }
 
-impl<'a, T: fmt::Display> fmt::Display for Set<'a, T> {
+impl<'a, T: Copy + Into<i64>> fmt::Display for Set<'a, T> {
     fn fmt<W: fmt::Write>(&self, f: &mut fmt::Formatter<W>) -> fmt::Result {
         write!(
             f,
@@ -121,7 +123,7 @@ impl<'a, T: fmt::Display> fmt::Display for Set<'a, T> {
             Digits(self.leftover)
         )?;
         for n in self.coefficients {
-            write!(f, " {n}")?;
+            write!(f, " {}", Whole((*n).into()))?;
         }
         Ok(())
     }
@@ -187,7 +189,8 @@ fn figure_of_set(rt: &impl Print, taps: &[f64], f: u32, normalised: bool)
     let n = taps.len();
     let mut table = [0i32; 4];
     let mut second = [0i64; 4];
-    let _ = println!(rt;
+    let _ = writeln!(
+        Pieces(rt),
         "set {}{}at {f}: {} | {}",
         if normalised { "normalised " } else { "" },
         Taps(taps),
