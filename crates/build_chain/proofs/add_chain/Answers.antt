@@ -10,7 +10,6 @@ use Rattle.network.specs.declared.Row.{Row}
 use Rattle.build_steps.specs.Chain.{chained}
 use Rattle.build_index.specs.Inner.{HasRoom}
 use Rattle.build_index.proofs.Growth.{grown_none, grown_on}
-use Rattle.build_index.proofs.Room.{same_room}
 use Rattle.build_chain.specs.Inner.{rows_in}
 use Rattle.build_chain.proofs.HighDigits.{chain_none}
 use Rattle.build_chain.proofs.Starts.{some_digit, started}

@@ -22,7 +22,7 @@ pub take_part-requires : goal.take_part-requires
 take_part-requires c =
     let loop = c.loop-part in
     let a = c.args in
-    let r = same_room a.rows.now loop.rows _ loop.invariant.round.grown.lent c.requires.room in
+    let r = same_room a.rows.now loop.rows _ loop.invariant.round.grown.lent.table_long loop.invariant.round.grown.lent.links_long c.requires.room in
     ready a.parts.now a.choices.now a.rows.now loop.rows loop.most loop.part-index _ c.loop-part-test.true loop.invariant.round (c.requires.parts loop.part-index _ c.loop-part-test.true) loop.sieve r loop.invariant.sieved (omega (arith, c.requires.sieve_room, loop.invariant.lent.values_long))
 
 pub loop-part-preserved : goal.loop-part-preserved
